@@ -47,5 +47,3 @@ only_memory i s p t (fault.Term f) both h = absurd h
 only_memory i s p t (fault.Complete f) both h = absurd h
 only_memory i s p t (fault.Proof f) both h = absurd h
 only_memory i s p t (fault.Sum f) both h = absurd h
-only_memory i s p t (fault.CannotRead n) both h = absurd h
-only_memory i s p t (fault.TooLong n) both h = absurd h

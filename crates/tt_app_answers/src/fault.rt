@@ -2,7 +2,6 @@
 
 use std::alloc::AllocError;
 use thiserror::Error;
-use tt_app_files::OutputFault;
 use tt_instance::InstanceFault;
 use tt_page::PageFault;
 use tt_page_text::LabelsFault;
@@ -13,17 +12,6 @@ use tt_report::ReportFault;
 use tt_report_export::TermFault;
 use tt_search_complete::CompleteFault;
 use tt_table::SolutionFault;
-
-/// A file that a command reads.
-#[derive(Clone, Copy, Debug, PartialEq, Eq, Error)]
-pub enum Input {
-    #[error("instance")]
-    Instance,
-    #[error("solution")]
-    Solution,
-    #[error("proof")]
-    Proof,
-}
 
 /// The reason why a call was refused.
 #[derive(Clone, Copy, Debug, PartialEq, Eq, Error)]
@@ -43,10 +31,6 @@ pub enum AppFault {
     PageTooLarge,
     #[error("out of memory")]
     OutOfMemory,
-    #[error("{0}: cannot read")]
-    CannotRead(Input),
-    #[error("{0}: too long")]
-    TooLong(Input),
     #[error("cannot write")]
     CannotWrite,
     /// No room, teacher or curriculum has the name.
@@ -113,15 +97,6 @@ impl From<LabelsFault> for AppFault {
             LabelsFault::Days => AppFault::DayNames,
             LabelsFault::Periods => AppFault::PeriodNames,
             LabelsFault::OutOfMemory => AppFault::OutOfMemory,
-        }
-    }
-}
-
-impl From<OutputFault> for AppFault {
-    fn from(fault: OutputFault) -> AppFault {
-        match fault {
-            OutputFault::CannotWrite => AppFault::CannotWrite,
-            OutputFault::OutOfMemory => AppFault::OutOfMemory,
         }
     }
 }

@@ -5,4 +5,4 @@ mod answer;
 mod fault;
 
 pub use answer::Answer;
-pub use fault::{AppFault, Input};
+pub use fault::AppFault;

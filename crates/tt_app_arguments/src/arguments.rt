@@ -1,105 +1,40 @@
 //! Parses the arguments of the command line.
 
-use crate::best::{BEST, BestSearch, best_request};
+use crate::best::{BEST, BestRequest, best_request};
 use crate::checks::{
-    BOUND, CHECK, UPGRADE, VALIDATE, bound_request, check_request, upgrade_request,
-    validate_request,
+    BOUND, BoundRequest, CHECK, CheckRequest, UPGRADE, UpgradeRequest, VALIDATE, bound_request,
+    check_request, upgrade_request, validate_request,
 };
 use crate::description::{Description, commands_of};
-use crate::inspect::{INSPECT, inspect_request};
-use crate::pages::{NamesWish, PAGE, page_request};
-use crate::parts::{PARTS, PartSearch, parts_request};
-use crate::reports::{CalendarWish, REPORT, report_request};
-use crate::searches::{IMPROVE, SOLVE, Search, TreeSearch, improve_request, solve_request};
-use crate::showing::Showing;
-use crate::sums::{SUM, sum_request};
+use crate::files::TimetableFiles;
+use crate::inspect::{INSPECT, InspectRequest, inspect_request};
+use crate::pages::{PAGE, PageRequest, page_request};
+use crate::parts::{PARTS, PartsRequest, parts_request};
+use crate::reports::{CalendarRequest, REPORT, ReportRequest, report_request};
+use crate::searches::{
+    IMPROVE, ImproveRequest, SOLVE, SolveRequest, improve_request, solve_request,
+};
+use crate::sums::{SUM, SumRequest, sum_request};
 use clap::{ArgMatches, Command, Error};
 use std::alloc::{AllocError, Global};
-use tt_report::By;
 
-/// The command and options of a command line; files are paths.
+/// The command of a command line, with its files and its options. Files are paths; a path that is `-` is a standard stream.
 #[derive(Drop)]
 pub enum Request<'a> {
-    Validate {
-        instance: &'a str,
-        solution: &'a str,
-    },
-    Inspect {
-        instance: &'a str,
-        solution: Option<&'a str>,
-    },
-    Page {
-        instance: &'a str,
-        solution: &'a str,
-        out: &'a str,
-        names: NamesWish<'a>,
-        proofs: Vec<&'a str>,
-        showing: Showing,
-    },
-    Check {
-        instance: &'a str,
-        solution: &'a str,
-        proof: &'a str,
-        showing: Showing,
-    },
-    Bound {
-        instance: &'a str,
-        proof: &'a str,
-        showing: Showing,
-    },
-    Sum {
-        instance: &'a str,
-        solution: Option<&'a str>,
-        proofs: Vec<&'a str>,
-        showing: Showing,
-    },
-    Improve {
-        instance: &'a str,
-        solution: &'a str,
-        out: &'a str,
-        search: Search,
-        showing: Showing,
-    },
-    Upgrade {
-        instance: &'a str,
-        proof: &'a str,
-        out: &'a str,
-        showing: Showing,
-    },
-    Solve {
-        instance: &'a str,
-        out: &'a str,
-        proof: &'a str,
-        tree: TreeSearch,
-        showing: Showing,
-    },
-    Parts {
-        instance: &'a str,
-        folder: &'a str,
-        solution: Option<&'a str>,
-        search: PartSearch,
-        showing: Showing,
-    },
-    Best {
-        instance: &'a str,
-        folder: &'a str,
-        search: BestSearch,
-        showing: Showing,
-    },
-    Report {
-        instance: &'a str,
-        solution: &'a str,
-        by: By,
-    },
-    Table {
-        instance: &'a str,
-        solution: &'a str,
-    },
-    Calendar {
-        instance: &'a str,
-        solution: &'a str,
-        calendar: CalendarWish<'a>,
-    },
+    Validate(TimetableFiles<'a>),
+    Inspect(InspectRequest<'a>),
+    Page(PageRequest<'a>),
+    Check(CheckRequest<'a>),
+    Bound(BoundRequest<'a>),
+    Sum(SumRequest<'a>),
+    Improve(ImproveRequest<'a>),
+    Upgrade(UpgradeRequest<'a>),
+    Solve(SolveRequest<'a>),
+    Parts(PartsRequest<'a>),
+    Best(BestRequest<'a>),
+    Report(ReportRequest<'a>),
+    Table(TimetableFiles<'a>),
+    Calendar(CalendarRequest<'a>),
 }
 
 /// The version, and the toolchain with which the program was proved, as `rt version` names it.

@@ -3,25 +3,39 @@
 use crate::arguments::Request;
 use crate::description::{Argument, Description, Form, Range};
 use crate::files::INSTANCE;
-use crate::searches::SEED;
-use crate::showing::{PROGRESS, QUIET, showing_of};
+use crate::searches::{SEED, TIME};
+use crate::showing::{PROGRESS, QUIET, Showing, showing_of};
 use clap::ArgMatches;
 
 /// The maximum number of rounds of a search.
 const MAX_ROUNDS: u64 = 1_000;
 
-/// A seed, the maximum number of rounds, and whether the best timetable is saved on the way.
+/// How `best` searches, and whether what it has is written on the way.
 #[derive(Clone, Copy, Debug)]
 pub struct BestSearch {
     pub seed: u64,
+    /// The maximum number of rounds.
     pub rounds: u64,
+    /// The maximum number of seconds.
+    pub seconds: Option<u64>,
     pub keeps: bool,
+}
+
+/// The files and options of `best`.
+#[derive(Clone, Copy, Debug)]
+pub struct BestRequest<'a> {
+    pub instance: &'a str,
+    pub folder: &'a str,
+    /// The timetable from which the search begins.
+    pub start: Option<&'a str>,
+    pub search: BestSearch,
+    pub showing: Showing,
 }
 
 const FOLDER: Argument<'static> = Argument {
     id: "OUTDIR",
     form: Form::Word,
-    help: "The folder of best.sol, page.html, groups.proof and tree.proof; it is made if it isn't there, and older files of these names are replaced",
+    help: "The folder of best.sol, page.html, groups.proof and tree.proof; it is made if it isn't there, and older files of these names are replaced, or get names that end in .old",
     condition: None,
 };
 
@@ -30,7 +44,7 @@ const ROUNDS: Argument<'static> = Argument {
     form: Form::Number(Range {
         least: 1,
         most: MAX_ROUNDS,
-        default: "10",
+        default: Some("10"),
     }),
     help: "How long to search at most, 1 to 1000 rounds, each for a better timetable, and the 1st, 2nd, 3rd, 5th, 9th and so on for a greater bound too",
     condition: None,
@@ -39,7 +53,14 @@ const ROUNDS: Argument<'static> = Argument {
 const KEEP: Argument<'static> = Argument {
     id: "keep",
     form: Form::Flag,
-    help: "Writes the best timetable so far to best.sol while the search goes on, once a second at most",
+    help: "Writes the best timetable, the proofs and the page so far to their files while the search goes on, once a second at most",
+    condition: None,
+};
+
+const START: Argument<'static> = Argument {
+    id: "from",
+    form: Form::Value("SOLUTION"),
+    help: "A timetable from which the search begins; it takes up the proofs in OUTDIR too, if they still hold",
     condition: None,
 };
 
@@ -48,7 +69,9 @@ pub const BEST: Description<'static> = Description {
     name: "best",
     about: "Searches for a best timetable and for proofs of a lower bound until they meet, and writes them with a page",
     example: "Example: tt best week.ctt week --rounds 20",
-    arguments: &[INSTANCE, FOLDER, SEED, ROUNDS, KEEP, PROGRESS, QUIET],
+    arguments: &[
+        INSTANCE, FOLDER, START, SEED, ROUNDS, TIME, KEEP, PROGRESS, QUIET,
+    ],
 };
 
 /// Returns the search given for `best`.
@@ -56,16 +79,18 @@ fn best_search(found: &ArgMatches<'_>) -> Option<BestSearch> {
     Some(BestSearch {
         seed: found.get_one("seed")?,
         rounds: found.get_one("rounds")?,
+        seconds: found.get_one("time"),
         keeps: found.get_flag("keep"),
     })
 }
 
 /// Returns the options given for `best`.
 pub fn best_request<'a>(found: &ArgMatches<'a>) -> Option<Request<'a>> {
-    Some(Request::Best {
+    Some(Request::Best(BestRequest {
         instance: found.get_str("INSTANCE")?,
         folder: found.get_str("OUTDIR")?,
+        start: found.get_str("from"),
         search: best_search(found)?,
         showing: showing_of(found),
-    })
+    }))
 }

@@ -2,9 +2,35 @@
 
 use crate::arguments::Request;
 use crate::description::Description;
-use crate::files::{INSTANCE, OUT, PROOF, SOLUTION};
-use crate::showing::{PROGRESS, QUIET, showing_of};
+use crate::files::{INSTANCE, OUT, PROOF, SOLUTION, TimetableFiles};
+use crate::showing::{PROGRESS, QUIET, Showing, showing_of};
 use clap::ArgMatches;
+
+/// The files and options of `check`.
+#[derive(Clone, Copy, Debug)]
+pub struct CheckRequest<'a> {
+    pub instance: &'a str,
+    pub solution: &'a str,
+    pub proof: &'a str,
+    pub showing: Showing,
+}
+
+/// The files and options of `bound`.
+#[derive(Clone, Copy, Debug)]
+pub struct BoundRequest<'a> {
+    pub instance: &'a str,
+    pub proof: &'a str,
+    pub showing: Showing,
+}
+
+/// The files and options of `upgrade`.
+#[derive(Clone, Copy, Debug)]
+pub struct UpgradeRequest<'a> {
+    pub instance: &'a str,
+    pub proof: &'a str,
+    pub out: &'a str,
+    pub showing: Showing,
+}
 
 /// The command `validate`.
 pub const VALIDATE: Description<'static> = Description {
@@ -40,37 +66,37 @@ pub const UPGRADE: Description<'static> = Description {
 
 /// Returns the options given for `validate`.
 pub fn validate_request<'a>(found: &ArgMatches<'a>) -> Option<Request<'a>> {
-    Some(Request::Validate {
+    Some(Request::Validate(TimetableFiles {
         instance: found.get_str("INSTANCE")?,
         solution: found.get_str("SOLUTION")?,
-    })
+    }))
 }
 
 /// Returns the options given for `check`.
 pub fn check_request<'a>(found: &ArgMatches<'a>) -> Option<Request<'a>> {
-    Some(Request::Check {
+    Some(Request::Check(CheckRequest {
         instance: found.get_str("INSTANCE")?,
         solution: found.get_str("SOLUTION")?,
         proof: found.get_str("PROOF")?,
         showing: showing_of(found),
-    })
+    }))
 }
 
 /// Returns the options given for `bound`.
 pub fn bound_request<'a>(found: &ArgMatches<'a>) -> Option<Request<'a>> {
-    Some(Request::Bound {
+    Some(Request::Bound(BoundRequest {
         instance: found.get_str("INSTANCE")?,
         proof: found.get_str("PROOF")?,
         showing: showing_of(found),
-    })
+    }))
 }
 
 /// Returns the options given for `upgrade`.
 pub fn upgrade_request<'a>(found: &ArgMatches<'a>) -> Option<Request<'a>> {
-    Some(Request::Upgrade {
+    Some(Request::Upgrade(UpgradeRequest {
         instance: found.get_str("INSTANCE")?,
         proof: found.get_str("PROOF")?,
         out: found.get_str("OUT")?,
         showing: showing_of(found),
-    })
+    }))
 }

@@ -25,12 +25,12 @@ pub enum Form<'a> {
     Number(Range<'a>),
 }
 
-/// The least and the greatest number that may be given, and the number that counts if none is.
+/// The least and the greatest number that may be given, and the number that counts if none is, if there is one.
 #[derive(Clone, Copy)]
 pub struct Range<'a> {
     pub least: u64,
     pub most: u64,
-    pub default: &'a str,
+    pub default: Option<&'a str>,
 }
 
 /// A condition on other arguments under which an argument may or must be given.
@@ -71,9 +71,14 @@ fn value_option<'a>(alloc: Global, id: &'a str, name: &'a str) -> Arg<'a> {
 }
 
 fn number_option<'a>(alloc: Global, id: &'a str, range: Range<'a>) -> Arg<'a> {
-    value_option(alloc, id, "N")
-        .value_parser(ValueParser::Unsigned(range.least, range.most))
-        .default_value(range.default)
+    let number = value_option(alloc, id, "N").value_parser(ValueParser::Unsigned(
+        range.least,
+        range.most,
+    ));
+    match range.default {
+        Some(default) => number.default_value(default),
+        None => number,
+    }
 }
 
 /// Returns an argument without its help and its condition.

@@ -2,11 +2,18 @@
 
 use crate::description::{Argument, Form};
 
+/// An instance and a solution.
+#[derive(Clone, Copy, Debug)]
+pub struct TimetableFiles<'a> {
+    pub instance: &'a str,
+    pub solution: &'a str,
+}
+
 /// The instance.
 pub const INSTANCE: Argument<'static> = Argument {
     id: "INSTANCE",
     form: Form::Word,
-    help: "What there is to plan: a .ctt file of the competition",
+    help: "What there is to plan: a .ctt file of the competition; - is standard input",
     condition: None,
 };
 
@@ -30,6 +37,6 @@ pub const PROOF: Argument<'static> = Argument {
 pub const OUT: Argument<'static> = Argument {
     id: "OUT",
     form: Form::Word,
-    help: "The file that is written; an older one is replaced",
+    help: "The file that is written; an older one is replaced, and - is standard output",
     condition: None,
 };

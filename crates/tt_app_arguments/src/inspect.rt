@@ -5,6 +5,13 @@ use crate::description::{Argument, Description, Form};
 use crate::files::INSTANCE;
 use clap::ArgMatches;
 
+/// The files of `inspect`.
+#[derive(Clone, Copy, Debug)]
+pub struct InspectRequest<'a> {
+    pub instance: &'a str,
+    pub solution: Option<&'a str>,
+}
+
 const SOLUTION: Argument<'static> = Argument {
     id: "SOLUTION",
     form: Form::OptionalWord,
@@ -22,8 +29,8 @@ pub const INSPECT: Description<'static> = Description {
 
 /// Returns the options given for `inspect`.
 pub fn inspect_request<'a>(found: &ArgMatches<'a>) -> Option<Request<'a>> {
-    Some(Request::Inspect {
+    Some(Request::Inspect(InspectRequest {
         instance: found.get_str("INSTANCE")?,
         solution: found.get_str("SOLUTION"),
-    })
+    }))
 }

@@ -15,9 +15,13 @@ mod showing;
 mod sums;
 
 pub use arguments::{Request, parse_arguments};
-pub use best::BestSearch;
-pub use pages::NamesWish;
-pub use parts::PartSearch;
-pub use reports::CalendarWish;
-pub use searches::{MAX_SOLVE_NODES, Search, TreeSearch};
+pub use best::{BestRequest, BestSearch};
+pub use checks::{BoundRequest, CheckRequest, UpgradeRequest};
+pub use files::TimetableFiles;
+pub use inspect::InspectRequest;
+pub use pages::{NamesWish, PageRequest};
+pub use parts::{PartSearch, PartsRequest};
+pub use reports::{CalendarRequest, CalendarWish, ReportRequest};
+pub use searches::{ImproveRequest, MAX_SOLVE_NODES, Search, SolveRequest, TreeSearch};
 pub use showing::Showing;
+pub use sums::SumRequest;

@@ -3,7 +3,7 @@
 use crate::arguments::Request;
 use crate::description::{Argument, Description, Form};
 use crate::files::{INSTANCE, OUT, SOLUTION};
-use crate::showing::{PROGRESS, QUIET, showing_of};
+use crate::showing::{PROGRESS, QUIET, Showing, showing_of};
 use crate::sums::words_of;
 use clap::ArgMatches;
 use std::alloc::{AllocError, Global};
@@ -13,6 +13,17 @@ use std::alloc::{AllocError, Global};
 pub struct NamesWish<'a> {
     pub days: Option<&'a str>,
     pub periods: Option<&'a str>,
+}
+
+/// The files and options of `page`.
+#[derive(Drop)]
+pub struct PageRequest<'a> {
+    pub instance: &'a str,
+    pub solution: &'a str,
+    pub out: &'a str,
+    pub names: NamesWish<'a>,
+    pub proofs: Vec<&'a str>,
+    pub showing: Showing,
 }
 
 const DAYS: Argument<'static> = Argument {
@@ -49,7 +60,7 @@ pub const PAGE: Description<'static> = Description {
 
 /// Returns the options given for `page`, with its proofs.
 fn page_with<'a>(found: &ArgMatches<'a>, proofs: Vec<&'a str>) -> Option<Request<'a>> {
-    Some(Request::Page {
+    Some(Request::Page(PageRequest {
         instance: found.get_str("INSTANCE")?,
         solution: found.get_str("SOLUTION")?,
         out: found.get_str("OUT")?,
@@ -59,7 +70,7 @@ fn page_with<'a>(found: &ArgMatches<'a>, proofs: Vec<&'a str>) -> Option<Request
         },
         proofs,
         showing: showing_of(found),
-    })
+    }))
 }
 
 /// Returns the options given for `page`.

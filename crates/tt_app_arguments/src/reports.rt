@@ -2,7 +2,7 @@
 
 use crate::arguments::Request;
 use crate::description::{Argument, Condition, Description, Form, Range};
-use crate::files::{INSTANCE, SOLUTION};
+use crate::files::{INSTANCE, SOLUTION, TimetableFiles};
 use clap::ArgMatches;
 use tt_report::By;
 
@@ -17,6 +17,20 @@ pub struct CalendarWish<'a> {
     pub first_day: &'a str,
     pub times: &'a str,
     pub minutes: u32,
+}
+
+/// The files of `report`, and whose weeks are shown.
+#[derive(Clone, Copy, Debug)]
+pub struct ReportRequest<'a> {
+    pub files: TimetableFiles<'a>,
+    pub by: By,
+}
+
+/// The files of `report --ics`, and the calendar.
+#[derive(Clone, Copy, Debug)]
+pub struct CalendarRequest<'a> {
+    pub files: TimetableFiles<'a>,
+    pub calendar: CalendarWish<'a>,
 }
 
 /// The option of the kind of blocks of a report.
@@ -62,7 +76,7 @@ const MINUTES: Argument<'static> = Argument {
     form: Form::Number(Range {
         least: 1,
         most: MAX_MINUTES,
-        default: "45",
+        default: Some("45"),
     }),
     help: "How long a period is in the calendar, 1 to 1440 minutes",
     condition: None,
@@ -101,21 +115,17 @@ fn calendar_wish<'a>(found: &ArgMatches<'a>, name: &'a str) -> Option<CalendarWi
 
 /// Returns the options given for the command `report`.
 pub fn report_request<'a>(found: &ArgMatches<'a>) -> Option<Request<'a>> {
-    let instance = found.get_str("INSTANCE")?;
-    let solution = found.get_str("SOLUTION")?;
+    let files = TimetableFiles {
+        instance: found.get_str("INSTANCE")?,
+        solution: found.get_str("SOLUTION")?,
+    };
     if found.get_flag("csv") {
-        return Some(Request::Table { instance, solution });
+        return Some(Request::Table(files));
     }
     if let Some(name) = found.get_str("ics") {
-        return Some(Request::Calendar {
-            instance,
-            solution,
-            calendar: calendar_wish(found, name)?,
-        });
+        let calendar = calendar_wish(found, name)?;
+        return Some(Request::Calendar(CalendarRequest { files, calendar }));
     }
-    Some(Request::Report {
-        instance,
-        solution,
-        by: by_of(found)?,
-    })
+    let by = by_of(found)?;
+    Some(Request::Report(ReportRequest { files, by }))
 }

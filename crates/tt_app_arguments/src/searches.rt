@@ -3,7 +3,7 @@
 use crate::arguments::Request;
 use crate::description::{Argument, Description, Form, Range};
 use crate::files::{INSTANCE, OUT, SOLUTION};
-use crate::showing::{PROGRESS, QUIET, showing_of};
+use crate::showing::{PROGRESS, QUIET, Showing, showing_of};
 use clap::ArgMatches;
 
 /// The maximum number of steps of a search.
@@ -12,26 +12,57 @@ const MAX_STEPS: u64 = 1_000_000;
 /// The maximum number of runs of a search.
 const MAX_RUNS: u64 = 1_000;
 
-/// A seed, the number of steps of each run of a search, the number of runs, whether the best timetable is saved on the way, and whether the
-/// lectures that the solution lacks are added first.
+/// The maximum number of seconds of a search.
+const MAX_SECONDS: u64 = 1_000_000;
+
+/// How `improve` searches.
 #[derive(Clone, Copy, Debug)]
 pub struct Search {
     pub seed: u64,
+    /// The number of steps of each run.
     pub steps: u64,
     pub runs: u64,
+    /// The maximum number of seconds.
+    pub seconds: Option<u64>,
+    /// Whether the best timetable is written on the way.
     pub keeps: bool,
+    /// Whether the lectures that the solution lacks are added first.
     pub completes: bool,
+}
+
+/// The files and options of `improve`.
+#[derive(Clone, Copy, Debug)]
+pub struct ImproveRequest<'a> {
+    pub instance: &'a str,
+    pub solution: &'a str,
+    pub out: &'a str,
+    pub search: Search,
+    pub showing: Showing,
 }
 
 /// The maximum number of nodes of a tree that a search opens.
 pub const MAX_SOLVE_NODES: u32 = 65_536;
 
-/// A seed, the maximum number of nodes of its tree that a search opens, 1 to MAX_SOLVE_NODES, and whether the best timetable is saved on the way.
+/// How `solve` searches.
 #[derive(Clone, Copy, Debug)]
 pub struct TreeSearch {
     pub seed: u64,
+    /// The maximum number of nodes that are opened, 1 to MAX_SOLVE_NODES.
     pub nodes: u32,
+    /// The maximum number of seconds.
+    pub seconds: Option<u64>,
+    /// Whether the best timetable and the proof are written on the way.
     pub keeps: bool,
+}
+
+/// The files and options of `solve`.
+#[derive(Clone, Copy, Debug)]
+pub struct SolveRequest<'a> {
+    pub instance: &'a str,
+    pub out: &'a str,
+    pub proof: &'a str,
+    pub search: TreeSearch,
+    pub showing: Showing,
 }
 
 /// The option of the seed for the drawn steps.
@@ -40,7 +71,7 @@ pub const SEED: Argument<'static> = Argument {
     form: Form::Number(Range {
         least: 0,
         most: u64::MAX,
-        default: "1",
+        default: Some("1"),
     }),
     help: "Begins the drawn steps: the same number gives the same answer, 0 to 2^64 - 1",
     condition: None,
@@ -51,7 +82,7 @@ const STEPS: Argument<'static> = Argument {
     form: Form::Number(Range {
         least: 0,
         most: MAX_STEPS,
-        default: "10000",
+        default: Some("10000"),
     }),
     help: "How long to search, 0 to 1000000 steps",
     condition: None,
@@ -62,7 +93,7 @@ const RUNS: Argument<'static> = Argument {
     form: Form::Number(Range {
         least: 1,
         most: MAX_RUNS,
-        default: "1",
+        default: Some("1"),
     }),
     help: "How many searches to make, 1 to 1000, each from the best timetable so far, with the seed counted up",
     condition: None,
@@ -73,9 +104,21 @@ const NODES: Argument<'static> = Argument {
     form: Form::Number(Range {
         least: 1,
         most: MAX_SOLVE_NODES as u64,
-        default: "1000",
+        default: Some("1000"),
     }),
     help: "How many nodes of the tree to open at most, 1 to 65536",
+    condition: None,
+};
+
+/// The option that limits the time of a search.
+pub const TIME: Argument<'static> = Argument {
+    id: "time",
+    form: Form::Number(Range {
+        least: 1,
+        most: MAX_SECONDS,
+        default: None,
+    }),
+    help: "How many seconds to search at most, 1 to 1000000; then what was found is written as ever",
     condition: None,
 };
 
@@ -84,6 +127,14 @@ const KEEP: Argument<'static> = Argument {
     id: "keep",
     form: Form::Flag,
     help: "Writes the best timetable so far to OUT while the search goes on, once a second at most",
+    condition: None,
+};
+
+/// The option that saves the best timetable and the proof while a tree is searched.
+const KEEP_BOTH: Argument<'static> = Argument {
+    id: "keep",
+    form: Form::Flag,
+    help: "Writes the best timetable and the proof so far to OUT and PROOF while the search goes on, once a second at most",
     condition: None,
 };
 
@@ -109,7 +160,7 @@ pub const IMPROVE: Description<'static> = Description {
     about: "Searches from a solution, and writes a timetable that is no worse",
     example: "Example: tt improve week.ctt week.sol better.sol --steps 100000",
     arguments: &[
-        INSTANCE, SOLUTION, OUT, SEED, STEPS, RUNS, KEEP, COMPLETE, PROGRESS, QUIET,
+        INSTANCE, SOLUTION, OUT, SEED, STEPS, RUNS, TIME, KEEP, COMPLETE, PROGRESS, QUIET,
     ],
 };
 
@@ -118,7 +169,9 @@ pub const SOLVE: Description<'static> = Description {
     name: "solve",
     about: "Searches for a best timetable, and writes it with a proof of a lower bound",
     example: "Example: tt solve week.ctt week.sol week.proof --nodes 5000",
-    arguments: &[INSTANCE, OUT, NEW_PROOF, SEED, NODES, KEEP, PROGRESS, QUIET],
+    arguments: &[
+        INSTANCE, OUT, NEW_PROOF, SEED, NODES, TIME, KEEP_BOTH, PROGRESS, QUIET,
+    ],
 };
 
 /// Returns the search given for `improve`.
@@ -127,6 +180,7 @@ fn search_of(found: &ArgMatches<'_>) -> Option<Search> {
         seed: found.get_one("seed")?,
         steps: found.get_one("steps")?,
         runs: found.get_one("runs")?,
+        seconds: found.get_one("time"),
         keeps: found.get_flag("keep"),
         completes: found.get_flag("complete"),
     })
@@ -134,13 +188,13 @@ fn search_of(found: &ArgMatches<'_>) -> Option<Search> {
 
 /// Returns the options given for `improve`.
 pub fn improve_request<'a>(found: &ArgMatches<'a>) -> Option<Request<'a>> {
-    Some(Request::Improve {
+    Some(Request::Improve(ImproveRequest {
         instance: found.get_str("INSTANCE")?,
         solution: found.get_str("SOLUTION")?,
         out: found.get_str("OUT")?,
         search: search_of(found)?,
         showing: showing_of(found),
-    })
+    }))
 }
 
 /// Returns the number of nodes that is given, or `None` if it does not fit in 32 bits.
@@ -154,17 +208,18 @@ fn tree_search(found: &ArgMatches<'_>) -> Option<TreeSearch> {
     Some(TreeSearch {
         seed: found.get_one("seed")?,
         nodes: nodes_of(found)?,
+        seconds: found.get_one("time"),
         keeps: found.get_flag("keep"),
     })
 }
 
 /// Returns the options given for `solve`.
 pub fn solve_request<'a>(found: &ArgMatches<'a>) -> Option<Request<'a>> {
-    Some(Request::Solve {
+    Some(Request::Solve(SolveRequest {
         instance: found.get_str("INSTANCE")?,
         out: found.get_str("OUT")?,
         proof: found.get_str("PROOF")?,
-        tree: tree_search(found)?,
+        search: tree_search(found)?,
         showing: showing_of(found),
-    })
+    }))
 }

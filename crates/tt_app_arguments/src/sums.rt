@@ -3,9 +3,18 @@
 use crate::arguments::Request;
 use crate::description::{Argument, Description, Form};
 use crate::files::INSTANCE;
-use crate::showing::{PROGRESS, QUIET, showing_of};
+use crate::showing::{PROGRESS, QUIET, Showing, showing_of};
 use clap::ArgMatches;
 use std::alloc::{AllocError, Global};
+
+/// The files and options of `sum`.
+#[derive(Drop)]
+pub struct SumRequest<'a> {
+    pub instance: &'a str,
+    pub solution: Option<&'a str>,
+    pub proofs: Vec<&'a str>,
+    pub showing: Showing,
+}
 
 const SOLUTION: Argument<'static> = Argument {
     id: "solution",
@@ -49,10 +58,10 @@ pub fn sum_request<'a>(
     let Some(instance) = found.get_str("INSTANCE") else {
         return Ok(None);
     };
-    Ok(Some(Request::Sum {
+    Ok(Some(Request::Sum(SumRequest {
         instance,
         solution: found.get_str("solution"),
         proofs: words_of(alloc, found, "PROOF")?,
         showing: showing_of(found),
-    }))
+    })))
 }

@@ -1,26 +1,43 @@
 //! A new file that isn't at its place yet.
 
 use crate::fault::OutputFault;
-use crate::place::Place;
+use crate::place::{Place, Rights};
 use std::alloc::AllocError;
 use std::fs;
 use std::fs::{OpenFile, OpenOptions, Permissions};
 use std::io::{ErrorKind, Write};
-use std::os::unix::fs::{OpenOptionsExt, PermissionsExt};
+use std::os::unix::fs::{MetadataExt, OpenOptionsExt, PermissionsExt, chown};
 use std::rt::{Clock, Files};
 use std::time::Duration;
 
 /// The permissions of a file that had none before; the system takes away those that its mask forbids.
 const NEW_MODE: u32 = 0o666;
 
+/// The permissions of the owner, which a file has until it has those of the older one.
+const OWNER_MODE: u32 = 0o700;
+
+/// The permissions of the group.
+const GROUP_MODE: u32 = 0o070;
+
 /// The maximum number of names that are tried for a new file.
 const MAX_NAMES: u64 = 1 << 20;
 
 /// A new file next to its place, to be renamed to it once it is whole.
-#[derive(Drop)]
+#[derive(Debug, Drop)]
 pub struct Draft {
     path: String,
     place: Place,
+}
+
+/// The older file at the place of a draft.
+#[derive(Debug, Drop)]
+pub enum Older {
+    /// There is none.
+    Absent,
+    /// The older file has this second name.
+    Linked(String),
+    /// The older file can't have a second name.
+    Unlinked,
 }
 
 /// Returns a number that differs from run to run: the clock's nanoseconds, 0 without a clock.
@@ -37,11 +54,26 @@ fn is_unsupported(kind: ErrorKind) -> bool {
     kind == ErrorKind::Unsupported || kind == ErrorKind::InvalidInput
 }
 
-/// Sets the permissions of a new file to those of the older one.
+/// Sets the permissions of a new file.
 fn set_mode<F: OpenFile>(file: &F, mode: u32) -> Result<(), OutputFault> {
     match file.set_permissions(Permissions::from_mode(mode)) {
         Ok(()) => Ok(()),
         Err(fault) if is_unsupported(fault.kind()) => Ok(()),
+        Err(fault) => Err(OutputFault::from(fault)),
+    }
+}
+
+/// Gives a new file a group, and returns whether it has it then.
+fn take_group<R: Files>(
+    rt: &R,
+    path: &str,
+    file: &R::File,
+    group: u32,
+) -> Result<bool, OutputFault> {
+    match file.metadata() {
+        Ok(found) if found.gid() == group => Ok(true),
+        Ok(_) => Ok(chown(rt, path, None, Some(group)).is_ok()),
+        Err(fault) if is_unsupported(fault.kind()) => Ok(true),
         Err(fault) => Err(OutputFault::from(fault)),
     }
 }
@@ -55,19 +87,19 @@ fn sync<F: OpenFile>(file: &F) -> Result<(), OutputFault> {
     }
 }
 
-/// Makes the system store the names in a folder, if the folder can be opened.
+/// Makes the system store the names in a folder. A folder that may be written but not read can't be opened for that, and isn't stored.
 pub fn sync_folder<R: Files>(rt: &R, folder: &str) -> Result<(), OutputFault> {
     match fs::open(rt, folder) {
         Ok(folder) => sync(&folder),
-        Err(_) => Ok(()),
+        Err(fault) => match fault.kind() {
+            ErrorKind::PermissionDenied | ErrorKind::Unsupported | ErrorKind::NotFound => Ok(()),
+            _ => Err(OutputFault::from(fault)),
+        },
     }
 }
 
 /// Writes all bytes, and has the system store them.
-pub fn write_whole<F: Write + OpenFile + Drop>(
-    mut file: F,
-    bytes: &[u8],
-) -> Result<(), OutputFault> {
+fn write_whole<F: Write + OpenFile + Drop>(mut file: F, bytes: &[u8]) -> Result<(), OutputFault> {
     file.write_all(bytes)?;
     finish(file)
 }
@@ -86,7 +118,10 @@ impl Draft {
     ) -> Result<(Draft, R::File), OutputFault> {
         let mut options = OpenOptions::new();
         options.write(true).create_new(true);
-        options.mode(place.mode().unwrap_or(NEW_MODE));
+        options.mode(match place.rights() {
+            Some(rights) => rights.mode & OWNER_MODE,
+            None => NEW_MODE,
+        });
         let drawn = draw_number(rt);
         for more in 0..MAX_NAMES {
             let number = drawn.wrapping_add(more);
@@ -96,17 +131,31 @@ impl Draft {
                 place: place.copy()?,
             };
             match options.open(rt, draft.path.as_str()) {
-                Ok(file) => return draft.with_mode(rt, file),
+                Ok(file) => return draft.with_rights(rt, file),
                 Err(fault) if fault.kind() == ErrorKind::AlreadyExists => {}
                 Err(fault) => return Err(OutputFault::from(fault)),
             }
         }
-        Err(OutputFault::CannotWrite)
+        Err(OutputFault::NoName)
     }
 
-    fn with_mode<R: Files>(self, rt: &R, file: R::File) -> Result<(Draft, R::File), OutputFault> {
-        if let Some(mode) = self.place.mode()
-            && let Err(fault) = set_mode(&file, mode)
+    /// Gives the new file the group and the permissions of the older one. If it can't have the group, the group gets no permissions.
+    fn take_rights<R: Files>(
+        &self,
+        rt: &R,
+        file: &R::File,
+        rights: Rights,
+    ) -> Result<(), OutputFault> {
+        if take_group(rt, self.path.as_str(), file, rights.group)? {
+            set_mode(file, rights.mode)
+        } else {
+            set_mode(file, rights.mode & !GROUP_MODE)
+        }
+    }
+
+    fn with_rights<R: Files>(self, rt: &R, file: R::File) -> Result<(Draft, R::File), OutputFault> {
+        if let Some(rights) = self.place.rights()
+            && let Err(fault) = self.take_rights(rt, &file, rights)
         {
             self.remove(rt);
             return Err(fault);
@@ -154,25 +203,48 @@ impl Draft {
         let _ = fs::remove_file(rt, self.path.as_str());
     }
 
-    /// Gives the older file at the place a second name and returns it; `None` if there is no older file, or it can't have a second name.
-    pub fn link_older<R: Files + Clock + AllocGlobal>(
-        &self,
-        rt: &R,
-    ) -> Result<Option<String>, AllocError> {
-        if self.place.mode().is_none() {
-            return Ok(None);
-        }
+    /// Returns the file's own path, as long as it isn't at its place.
+    pub fn into_path(self) -> String {
+        let Draft { path, place: _ } = self;
+        path
+    }
+
+    /// Gives the older file at the place a second name.
+    pub fn link_older<R: Files + Clock + AllocGlobal>(&self, rt: &R) -> Result<Older, AllocError> {
         let drawn = draw_number(rt);
         for more in 0..MAX_NAMES {
             let number = drawn.wrapping_add(more);
             let name = format!(in rt.alloc(); "tt-{number:016x}.old")?;
             let older = self.place.neighbor(rt.alloc(), name.as_str())?;
             match fs::hard_link(rt, self.place.path(), older.as_str()) {
-                Ok(()) => return Ok(Some(older)),
+                Ok(()) => return Ok(Older::Linked(older)),
                 Err(fault) if fault.kind() == ErrorKind::AlreadyExists => {}
-                Err(_) => return Ok(None),
+                Err(fault) if fault.kind() == ErrorKind::NotFound => return Ok(Older::Absent),
+                Err(_) => return Ok(Older::Unlinked),
             }
         }
-        Ok(None)
+        Ok(Older::Unlinked)
+    }
+
+    /// Restores the older file at the place, and gives the new file its own name again. Returns whether it has that name; if not, the new file
+    /// stays at the place.
+    pub fn take_back<R: Files>(&self, rt: &R, older: &Older) -> bool {
+        let (own, place) = (self.path.as_str(), self.place.path());
+        match older {
+            Older::Absent => fs::rename(rt, place, own).is_ok(),
+            Older::Linked(older) => {
+                // A second name first, so that a file is at the place all the time.
+                if fs::hard_link(rt, place, own).is_err() {
+                    let _ = fs::remove_file(rt, older.as_str());
+                    return false;
+                }
+                if fs::rename(rt, older.as_str(), place).is_err() {
+                    let _ = fs::remove_file(rt, own);
+                    return false;
+                }
+                true
+            }
+            Older::Unlinked => false,
+        }
     }
 }

@@ -2,163 +2,121 @@
 
 use clap::error::ErrorKind;
 use std::io::Write;
-use std::rt::{Clock, Files};
-use tt_app_answers::{Answer, AppFault};
 use tt_app_arguments::{Request, parse_arguments};
+use tt_app_files::{Printed, Rescued, StandardStream, Unwritten, Whereabouts, WriteFault};
 use tt_app_run_answers::{
-    PageFiles, answer_bound, answer_calendar, answer_check, answer_inspect, answer_stored,
-    answer_sum, answer_table, answer_upgrade, answer_validate, page_to, report_to,
+    answer_bound, answer_calendar, answer_check, answer_inspect, answer_page, answer_stored,
+    answer_sum, answer_table, answer_upgrade, answer_validate, report_to,
 };
-use tt_app_run_searches::{PartsPaths, answer_best, answer_improve, answer_parts, answer_solve};
+use tt_app_run_files::{CommandFault, Reply, World};
+use tt_app_run_searches::{answer_best, answer_improve, answer_parts, answer_solve};
 
-/// Prints a refusal, and returns its status.
-fn print_refusal<E: Write>(fault: AppFault, err: &mut E) -> u8 {
+/// The exit status of a refusal.
+const REFUSED: u8 = 2;
+
+/// Prints results that are in no file to standard output.
+fn print_rescued<O: Write>(rescued: &mut [Rescued], out: &mut O) {
+    for result in rescued {
+        if let Whereabouts::Text(text) = &result.whereabouts
+            && out.write_all(text).is_err()
+        {
+            result.whereabouts = Whereabouts::Lost;
+        }
+    }
+}
+
+/// Prints a refusal, after the results that are in no file, and returns its status.
+fn print_refusal<O: Write, E: Write>(mut fault: CommandFault, out: &mut O, err: &mut E) -> u8 {
+    if let CommandFault::Write(
+        WriteFault::Unwritten(
+            Unwritten {
+                rescued: Some(rescued),
+                ..
+            },
+        ),
+    ) = &mut fault
+    {
+        print_rescued(rescued, out);
+    }
     let _ = writeln!(err, "refused: {fault}");
-    2
+    REFUSED
 }
 
-/// Returns the status of what was written, or prints a refusal and returns its status.
-fn print_status<E: Write>(written: Result<u8, AppFault>, err: &mut E) -> u8 {
-    match written {
-        Ok(status) => status,
-        Err(fault) => print_refusal(fault, err),
+/// Prints the texts of a reply, and returns the status.
+fn print_reply<O: Write, E: Write>(reply: Reply, out: &mut O, err: &mut E) -> u8 {
+    let Reply { status, texts } = reply;
+    for Printed { stream, text } in texts {
+        let printed = match stream {
+            StandardStream::Output => out.write_all(&text),
+            StandardStream::Error => err.write_all(&text),
+        };
+        if let Err(reason) = printed {
+            let fault = CommandFault::Write(WriteFault::Unprinted(reason));
+            return print_refusal(fault, out, err);
+        }
     }
+    status
 }
 
-/// Prints an answer or a refusal, and returns the status.
-fn print_answer<O: Write, E: Write>(
-    answered: Result<Answer, AppFault>,
-    out: &mut O,
-    err: &mut E,
-) -> u8 {
-    match answered {
-        Ok(answer) => match out.write_all(&answer.out) {
-            Ok(()) => answer.status,
-            Err(_) => print_refusal(AppFault::CannotWrite, err),
-        },
-        Err(fault) => print_refusal(fault, err),
-    }
-}
-
-/// Does what the arguments ask for, and returns the exit status.
-fn run_request<R: Files + Clock + AllocGlobal, O: Write, E: Write>(
+/// Returns the reply of a command.
+fn reply_to<R: World, O: Write, E: Write>(
     rt: &R,
-    asked: &Request<'_>,
+    request: &Request<'_>,
+    out: &mut O,
+    err: &mut E,
+) -> Result<Reply, CommandFault> {
+    match request {
+        Request::Validate(files) => answer_validate(rt, *files),
+        Request::Inspect(request) => answer_inspect(rt, *request),
+        Request::Page(request) => answer_page(rt, out, err, request),
+        Request::Check(request) => answer_check(rt, err, *request),
+        Request::Bound(request) => answer_bound(rt, err, *request),
+        Request::Sum(request) => answer_sum(rt, err, request),
+        Request::Improve(request) => answer_improve(rt, err, *request),
+        Request::Upgrade(request) => answer_upgrade(rt, err, *request),
+        Request::Solve(request) => answer_solve(rt, err, *request),
+        Request::Parts(request) => answer_parts(rt, err, *request),
+        Request::Best(request) => answer_best(rt, err, *request),
+        Request::Report(request) => { Ok(Reply::silent(rt.alloc(), report_to(rt, *request, out)?)) }
+        Request::Table(files) => answer_table(rt, *files),
+        Request::Calendar(request) => answer_calendar(rt, *request),
+    }
+}
+
+/// Prints a reply or a refusal, and returns the status.
+fn print_answer<O: Write, E: Write>(
+    reply: Result<Reply, CommandFault>,
     out: &mut O,
     err: &mut E,
 ) -> u8 {
-    let answered = match asked {
-        Request::Page {
-            instance,
-            solution,
-            out,
-            names,
-            proofs,
-            showing,
-        } => {
-            let files = PageFiles {
-                instance,
-                solution,
-                out,
-                names: *names,
-                proofs,
-            };
-            let written = page_to(rt, err, files, *showing);
-            return print_status(written, err);
-        }
-        Request::Report {
-            instance,
-            solution,
-            by,
-        } => return print_status(report_to(rt, instance, solution, *by, out), err),
-        Request::Inspect { instance, solution } => answer_inspect(rt, err, instance, *solution),
-        Request::Validate { instance, solution } => answer_validate(rt, instance, solution),
-        Request::Table { instance, solution } => answer_table(rt, instance, solution),
-        Request::Calendar {
-            instance,
-            solution,
-            calendar,
-        } => answer_calendar(rt, instance, solution, *calendar),
-        Request::Check {
-            instance,
-            solution,
-            proof,
-            showing,
-        } => answer_check(rt, err, (instance, solution, proof), *showing),
-        Request::Bound {
-            instance,
-            proof,
-            showing,
-        } => answer_bound(rt, err, (instance, proof), *showing),
-        Request::Sum {
-            instance,
-            solution,
-            proofs,
-            showing,
-        } => answer_sum(rt, err, instance, *solution, proofs, *showing),
-        Request::Improve {
-            instance,
-            solution,
-            out,
-            search,
-            showing,
-        } => answer_improve(rt, err, (instance, solution, out), *search, *showing),
-        Request::Upgrade {
-            instance,
-            proof,
-            out,
-            showing,
-        } => answer_upgrade(rt, err, (instance, proof, out), *showing),
-        Request::Solve {
-            instance,
-            out,
-            proof,
-            tree,
-            showing,
-        } => answer_solve(rt, err, (instance, out, proof), *tree, *showing),
-        Request::Parts {
-            instance,
-            folder,
-            solution,
-            search,
-            showing,
-        } => {
-            let paths = PartsPaths {
-                instance,
-                solution: *solution,
-                folder,
-            };
-            answer_parts(rt, err, paths, *search, *showing)
-        }
-        Request::Best {
-            instance,
-            folder,
-            search,
-            showing,
-        } => answer_best(rt, err, (instance, folder), *search, *showing),
-    };
-    print_answer(answered, out, err)
+    match reply {
+        Ok(reply) => print_reply(reply, out, err),
+        Err(fault) => print_refusal(fault, out, err),
+    }
 }
 
 /// Prints clap's message about arguments that it refuses, or its help.
 fn print_clap_message<O: Write, E: Write>(fault: &clap::Error, out: &mut O, err: &mut E) -> u8 {
     if fault.kind() == ErrorKind::OutOfMemory {
-        return print_refusal(AppFault::OutOfMemory, err);
+        return print_refusal(CommandFault::OutOfMemory, out, err);
     }
     if fault.use_stderr() {
         let _ = write!(err, "{fault}");
-        return 2;
+        return REFUSED;
     }
     match write!(out, "{fault}") {
         Ok(()) => 0,
-        Err(_) => print_refusal(AppFault::CannotWrite, err),
+        Err(reason) => {
+            let fault = CommandFault::Write(WriteFault::Unprinted(reason));
+            print_refusal(fault, out, err)
+        }
     }
 }
 
 /// Runs the program on its arguments, without its own name, and returns its exit status: 0 means yes, or that the work is
 /// done; 1 means that a hard rule is broken, or that there is no timetable; 2 means that it refused (the reason is on `err`). Without
 /// arguments it checks a stored proof.
-pub fn run<R: Files + Clock + AllocGlobal, O: Write, E: Write>(
+pub fn run<R: World, O: Write, E: Write>(
     rt: &R,
     arguments: &[String],
     out: &mut O,
@@ -168,8 +126,8 @@ pub fn run<R: Files + Clock + AllocGlobal, O: Write, E: Write>(
         return print_answer(answer_stored(rt), out, err);
     }
     match parse_arguments(rt.alloc(), arguments) {
-        Ok(Some(asked)) => run_request(rt, &asked, out, err),
-        Ok(None) => 2,
+        Ok(Some(request)) => print_answer(reply_to(rt, &request, out, err), out, err),
+        Ok(None) => REFUSED,
         Err(fault) => print_clap_message(&fault, out, err),
     }
 }

@@ -3,12 +3,13 @@
 
 mod built_in;
 mod commands;
+mod timetable;
 
 pub use commands::bound::answer_bound;
 pub use commands::calendar::answer_calendar;
 pub use commands::check::{answer_check, answer_stored};
 pub use commands::inspect::answer_inspect;
-pub use commands::page::{PageFiles, page_to};
+pub use commands::page::answer_page;
 pub use commands::report::report_to;
 pub use commands::sum::answer_sum;
 pub use commands::table::answer_table;

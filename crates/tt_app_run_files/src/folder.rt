@@ -1,54 +1,133 @@
 //! Files that are written to a folder.
 
-use crate::apart::find_apart;
+use crate::fault::CommandFault;
+use crate::inputs::Inputs;
+use crate::targets::{Found, Prepared, Target};
+use crate::world::World;
 use std::alloc::AllocError;
 use std::fs;
-use std::rt::{Clock, Files};
-use tt_app_answers::{AppFault, Input};
-use tt_app_files::{Output, Ready, make_folder};
+use std::rt::Files;
+use tt_app_files::{Batch, Label, Output, OutputFault, Role, make_folder};
+
+/// A file of a folder by its name, and what it is for.
+#[derive(Clone, Copy, Debug, PartialEq, Eq)]
+pub struct FolderFile {
+    pub role: Role,
+    pub name: &'static str,
+}
 
 /// A folder that is written to, and the files that are read before writing.
 #[derive(Clone, Copy)]
 pub struct Folder<'a> {
     pub path: &'a str,
-    pub inputs: &'a [(Input, &'a str)],
+    pub inputs: &'a Inputs<'a>,
+}
+
+/// Adds a text for the file of a path to a batch.
+fn write_to<R: World>(
+    rt: &R,
+    batch: Batch,
+    role: Role,
+    path: String,
+    text: &[u8],
+) -> Result<Batch, AllocError> {
+    let ready = match Output::find(rt, path.as_str()) {
+        Ok(output) => output.open(rt),
+        Err(fault) => Err(fault),
+    };
+    let label = Label { role, path };
+    match ready {
+        Ok(mut ready) => batch.write(rt, label, &mut ready, text),
+        Err(OutputFault::OutOfMemory) => {
+            batch.abandon(rt);
+            Err(AllocError)
+        }
+        Err(fault) => batch.with_failed(rt, label, fault, text),
+    }
 }
 
 impl<'a> Folder<'a> {
+    /// Returns the path of a file.
+    pub fn path_of<R: AllocGlobal>(self, rt: &R, file: FolderFile) -> Result<String, AllocError> {
+        let (folder, name) = (self.path, file.name);
+        format!(in rt.alloc(); "{folder}/{name}")
+    }
+
     /// Finds the output for a file; refuses a file that is read.
-    pub fn find<R: Files + AllocGlobal>(self, rt: &R, name: &str) -> Result<Output, AppFault> {
-        let folder = self.path;
-        let path = format!(in rt.alloc(); "{folder}/{name}")?;
-        find_apart(rt, path.as_str(), self.inputs)
+    pub fn find<R: World>(self, rt: &R, file: FolderFile) -> Result<Found, CommandFault> {
+        let path = self.path_of(rt, file)?;
+        let target = Target {
+            role: file.role,
+            path: path.as_str(),
+        };
+        target.find(rt, self.inputs)
     }
 
     /// Finds the output for a file, and tries it.
-    pub fn prepare<R: Files + Clock + AllocGlobal>(
+    pub fn prepare<R: World>(
         self,
         rt: &R,
-        name: &str,
-    ) -> Result<Ready<R::File>, AppFault> {
-        Ok(self.find(rt, name)?.prepare(rt)?)
+        file: FolderFile,
+    ) -> Result<Prepared<R::File>, CommandFault> {
+        self.find(rt, file)?.prepare(rt)
     }
 
     /// Refuses files that are read, and two names of the same file.
-    pub fn check<R: Files + AllocGlobal>(self, rt: &R, names: &[&str]) -> Result<(), AppFault> {
-        let mut outputs: Vec<Output> = Vec::new(rt.alloc());
-        for name in names {
-            let output = self.find(rt, name)?;
-            for other in &outputs {
-                if output.is_same(rt, other)? {
-                    return Err(AppFault::CannotWrite);
-                }
+    pub fn check<R: World>(self, rt: &R, files: &[FolderFile]) -> Result<(), CommandFault> {
+        let mut found: Vec<Found> = Vec::new(rt.alloc());
+        for file in files {
+            let mut next = self.find(rt, *file)?;
+            for other in &found {
+                next = next.check_apart(rt, other)?;
             }
-            outputs.push(output).map_err(AllocError::from)?;
+            found.push(next).map_err(AllocError::from)?;
         }
         Ok(())
     }
 
+    /// Adds a text for a file to a batch. If the file can't be written now, the batch says so when it is put in its place.
+    pub fn write<R: World>(
+        self,
+        rt: &R,
+        batch: Batch,
+        file: FolderFile,
+        text: &[u8],
+    ) -> Result<Batch, AllocError> {
+        let Ok(path) = self.path_of(rt, file) else {
+            batch.abandon(rt);
+            return Err(AllocError);
+        };
+        write_to(rt, batch, file.role, path, text)
+    }
+
+    /// Adds a file that an earlier run left to a batch, so that it gets another name.
+    pub fn retire<R: World>(
+        self,
+        rt: &R,
+        batch: Batch,
+        file: FolderFile,
+    ) -> Result<Batch, AllocError> {
+        match self.path_of(rt, file) {
+            Ok(path) => batch.retire(rt, file.role, path),
+            Err(fault) => {
+                batch.abandon(rt);
+                Err(fault)
+            }
+        }
+    }
+
     /// Makes the folder if it doesn't exist, and returns whether it was made.
-    pub fn make<R: Files>(self, rt: &R) -> Result<bool, AppFault> {
-        Ok(make_folder(rt, self.path)?)
+    pub fn make<R: World>(self, rt: &R) -> Result<bool, CommandFault> {
+        match make_folder(rt, self.path) {
+            Ok(is_made) => Ok(is_made),
+            Err(fault) => {
+                let target = Target {
+                    role: Role::Folder,
+                    path: self.path,
+                };
+                Err(target.refused(rt, fault))
+            }
+        }
     }
 
     /// Removes the folder if it was made and is empty.

@@ -1,40 +1,36 @@
-//! Watches a search: shows its progress, and saves its best timetable.
+//! Watches a search: shows its progress, ends it in time, and keeps what it has found.
 
+use crate::fault::CommandFault;
+use crate::limit::TimeLimit;
+use crate::pace::Pace;
+use crate::shelf::Shelf;
+use crate::targets::Prepared;
 use crate::ticker::Ticker;
+use crate::world::World;
 use std::alloc::Global;
 use std::io::Write;
-use std::rt::{Clock, Files};
-use std::time::Duration;
-use tt_app_files::{Batch, OutputFault, Ready};
+use std::rt::Files;
+use tt_app_files::{Batch, Ready};
 use tt_instance_data::Instance;
 use tt_search_watch::{Pair, Progress, Watch};
 use tt_table::{Entry, Timetable, write_solution};
 
-/// The minimum number of seconds before the best timetable of a search is saved again.
-const SECONDS_BETWEEN: u64 = 1;
-
-/// Shows a search, and writes its best timetable to a file at most once a second, if there is an instance to write it with.
-pub struct Keeper<'k, 't, R: Files + Clock + AllocGlobal, E: Write> {
-    rt: &'k R,
-    ticker: &'k mut Ticker<'t, R, E>,
-    out: &'k mut Ready<R::File>,
-    instance: Option<Instance<'k>>,
-    /// Whether only a timetable that breaks no hard rule is saved.
+/// The file in which the best timetable of a search is kept.
+pub struct KeptTable<'k, F> {
+    out: &'k mut Prepared<F>,
+    instance: Instance<'k>,
+    /// Whether only a timetable that breaks no hard rule is kept.
     is_strict: bool,
-    saved: Option<Pair>,
-    last: Duration,
+    kept: Option<Pair>,
 }
 
-impl<'k, 't, R: Files + Clock + AllocGlobal, E: Write> Drop for Keeper<'k, 't, R, E> {
+impl<'k, F> Drop for KeptTable<'k, F> {
     fn drop(self) {
-        let Keeper {
-            rt: _,
-            ticker: _,
+        let KeptTable {
             out: _,
             instance: _,
             is_strict: _,
-            saved: _,
-            last: _,
+            kept: _,
         } = self;
     }
 }
@@ -51,71 +47,149 @@ fn text_of(alloc: Global, instance: &Instance<'_>, entries: &[Entry]) -> Option<
     write_solution(alloc, instance, &table).ok()
 }
 
-impl<'k, 't, R: Files + Clock + AllocGlobal, E: Write> Keeper<'k, 't, R, E> {
-    /// Watches a search that begins now.
+impl<'k, F> KeptTable<'k, F> {
+    /// Returns a file in which nothing is kept yet.
     pub fn new(
-        rt: &'k R,
-        ticker: &'k mut Ticker<'t, R, E>,
-        out: &'k mut Ready<R::File>,
-        instance: Option<Instance<'k>>,
+        out: &'k mut Prepared<F>,
+        instance: Instance<'k>,
         is_strict: bool,
-    ) -> Keeper<'k, 't, R, E> {
-        let last = rt.monotonic().unwrap_or(Duration::ZERO);
-        Keeper {
-            rt,
-            ticker,
+    ) -> KeptTable<'k, F> {
+        KeptTable {
             out,
             instance,
             is_strict,
-            saved: None,
-            last,
+            kept: None,
         }
     }
 
-    /// Checks whether a second has passed since the last file.
-    fn is_due(&mut self) -> bool {
-        let Ok(now) = self.rt.monotonic() else {
-            return false;
+    /// Checks whether a timetable is better than the one that is kept, and is to be kept.
+    fn is_wanted(&self, pair: Pair) -> bool {
+        let is_better = self.kept.is_none_or(|kept| pair.is_below(kept));
+        is_better && !(self.is_strict && pair.hard > 0) && matches!(self.out.ready, Ready::Place(_))
+    }
+
+    /// Writes a timetable to its file.
+    fn write<R: World<File = F>, S: Shelf>(
+        &mut self,
+        rt: &R,
+        shelf: &mut S,
+        entries: &[Entry],
+    ) -> Result<bool, CommandFault> {
+        let Some(text) = text_of(rt.alloc(), &self.instance, entries) else {
+            return Ok(false);
         };
-        let is_due = now
-            .checked_sub(self.last)
-            .is_some_and(|since| since.as_secs() >= SECONDS_BETWEEN);
-        if is_due {
-            self.last = now;
-        }
-        is_due
-    }
-
-    fn write(&mut self, text: &[u8]) -> Result<(), OutputFault> {
-        Batch::new(self.rt.alloc())
-            .write(self.rt, self.out, text)?
-            .put(self.rt)
-    }
-
-    /// Returns the text of a timetable that is to be saved now: one that is better than the saved one, a second after it.
-    fn text_to_save(&mut self, pair: Pair, entries: &[Entry]) -> Option<Vec<u8>> {
-        let is_better = self.saved.is_none_or(|saved| pair.is_below(saved));
-        if !is_better || (self.is_strict && pair.hard > 0) || matches!(self.out, Ready::Stream(_)) {
-            return None;
-        }
-        if self.instance.is_none() || !self.is_due() {
-            return None;
-        }
-        text_of(self.rt.alloc(), self.instance.as_ref()?, entries)
+        let batch = self.out.write(rt, Batch::new(rt.alloc()), &text)?;
+        shelf.clear(batch)?.put(rt)?;
+        Ok(true)
     }
 }
 
-impl<'k, 't, R: Files + Clock + AllocGlobal, E: Write> Watch for Keeper<'k, 't, R, E> {
-    /// A failure to save has no effect: the last timetable is written at the end.
-    fn see(&mut self, progress: Progress, best: &[Entry]) {
-        self.ticker.show(progress);
-        let Some(pair) = progress.best else {
+/// Shows a search, ends it in time, and keeps its best timetable and its proofs, if there are places for them.
+pub struct Keeper<'k, 't, R: World, E: Write, S: Shelf> {
+    rt: &'k R,
+    ticker: &'k mut Ticker<'t, R, E>,
+    limit: TimeLimit,
+    table: Option<KeptTable<'k, <R as Files>::File>>,
+    shelf: S,
+    /// Whether proofs are kept.
+    keeps_proofs: bool,
+    pace: Pace,
+    bound: Option<u64>,
+}
+
+impl<'k, 't, R: World, E: Write, S: Shelf + Drop> Drop for Keeper<'k, 't, R, E, S> {
+    fn drop(self) {
+        let Keeper {
+            rt: _,
+            ticker: _,
+            limit: _,
+            table: _,
+            shelf: _,
+            keeps_proofs: _,
+            pace: _,
+            bound: _,
+        } = self;
+    }
+}
+
+impl<'k, 't, R: World, E: Write, S: Shelf> Keeper<'k, 't, R, E, S> {
+    /// Watches a search that begins now, within this many seconds, if a number is given.
+    pub fn new(
+        rt: &'k R,
+        ticker: &'k mut Ticker<'t, R, E>,
+        seconds: Option<u64>,
+        table: Option<KeptTable<'k, <R as Files>::File>>,
+        shelf: S,
+        keeps_proofs: bool,
+    ) -> Keeper<'k, 't, R, E, S> {
+        Keeper {
+            rt,
+            ticker,
+            limit: TimeLimit::new(rt, seconds),
+            table,
+            shelf,
+            keeps_proofs,
+            pace: Pace::new(rt),
+            bound: None,
+        }
+    }
+
+    /// Shows rounds from now on.
+    pub fn show_round(&mut self, number: u64, most: u64) {
+        self.ticker.show_round(number, most);
+    }
+
+    /// Checks whether it is time to keep something.
+    pub fn is_due(&mut self) -> bool {
+        self.pace.is_due(self.rt)
+    }
+
+    /// Begins the pause after something was kept.
+    pub fn rest(&mut self) {
+        self.pace.rest(self.rt);
+    }
+
+    /// Keeps a timetable, if it is better than the one that is kept. A failure to write it has no effect: the last one is written at the end.
+    fn keep_table(&mut self, pair: Pair, entries: &[Entry]) {
+        let Some(table) = &mut self.table else {
             return;
         };
-        if let Some(text) = self.text_to_save(pair, best)
-            && self.write(&text).is_ok()
-        {
-            self.saved = Some(pair);
+        if !table.is_wanted(pair) || !self.pace.is_due(self.rt) {
+            return;
         }
+        if let Ok(true) = table.write(self.rt, &mut self.shelf, entries) {
+            table.kept = Some(pair);
+        }
+        self.pace.rest(self.rt);
+    }
+}
+
+impl<'k, 't, R: World, E: Write, S: Shelf> Watch for Keeper<'k, 't, R, E, S> {
+    ghost use Rattle.std.specs.Prelude.{◌≡◌, true};
+
+    ghost has_ended = { λ k. k.limit.is_over ≡ true };
+
+    fn see(&mut self, progress: Progress, best: &[Entry]) {
+        self.ticker.show(progress);
+        if let Some(pair) = progress.best {
+            self.keep_table(pair, best);
+        }
+    }
+
+    fn is_over(&mut self) -> bool {
+        self.limit.has_come(self.rt)
+    }
+
+    fn is_asking(&mut self, bound: u64) -> bool {
+        self.keeps_proofs
+            && self.bound.is_none_or(|known| known < bound)
+            && self.pace.is_due(self.rt)
+    }
+
+    fn take(&mut self, bound: u64, proofs: &[Vec<u8>]) {
+        if self.shelf.put_proofs(proofs).is_ok() {
+            self.bound = Some(bound);
+        }
+        self.pace.rest(self.rt);
     }
 }

@@ -1,26 +1,40 @@
-//! The files of the commands: how they are read and written, the line that shows how far a command is, and timetables that are saved on
-//! the way.
+//! The files of the commands: how they are read and written, the line that shows how far a command is, and what is kept of a search on the
+//! way.
 #![tactic(auto)]
 
-mod apart;
 mod counted;
-mod disk;
+mod fault;
 mod folder;
+mod inputs;
 mod keeper;
+mod limit;
 mod numbers;
-mod outputs;
+mod opened;
+mod pace;
+mod remembering;
+mod reply;
+mod shelf;
 mod showing;
 mod sources;
+mod targets;
 mod terminal;
 mod ticker;
+mod world;
 mod written;
 
-pub use apart::find_apart;
-pub use disk::{MAX_FILE_BYTES, read_file};
-pub use folder::Folder;
-pub use keeper::Keeper;
-pub use outputs::write_given;
-pub use showing::{Shown, clear, open_counted, ticker_of};
-pub use sources::{ProofFile, proof_files};
+pub use fault::CommandFault;
+pub use folder::{Folder, FolderFile};
+pub use inputs::{Input, InputFile, Inputs, MAX_FILE_BYTES, ReadFault};
+pub use keeper::{Keeper, KeptTable};
+pub use limit::TimeLimit;
+pub use opened::Opened;
+pub use pace::Pace;
+pub use remembering::Remembering;
+pub use reply::Reply;
+pub use shelf::{NoShelf, Shelf};
+pub use showing::{OpenProof, Shown, clear, open_counted, ticker_of};
+pub use sources::{LastUnread, ProofFile, fault_over, fault_over_proof, proof_files};
+pub use targets::{Found, Prepared, Target, reply_with};
 pub use ticker::Ticker;
+pub use world::World;
 pub use written::Written;

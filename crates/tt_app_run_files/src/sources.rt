@@ -1,31 +1,45 @@
 //! Files of proofs; at most one is open at a time.
 
-use crate::counted::Counted;
-use crate::showing::{Shown, open_counted};
-use std::alloc::AllocError;
-use std::io::{Read, Write};
-use std::rt::{Clock, Files};
+use crate::fault::CommandFault;
+use crate::showing::{OpenProof, Shown, open_counted};
+use crate::world::World;
+use std::alloc::{AllocError, Global};
+use std::cell::Cell;
+use std::io::{Error, Read, Write};
+use tt_app_answers::AppFault;
 use tt_text::{ReadFailed, Source};
 use tt_text_peek::Peeked;
 
+/// A file that couldn't be read, with the system's reason.
+#[derive(Clone, Copy)]
+pub struct Unread<'p> {
+    path: &'p str,
+    reason: Error,
+}
+
+/// The last file that couldn't be read, if there is one.
+pub type LastUnread<'p> = Cell<Option<Unread<'p>>>;
+
 /// A file that is opened by its first read, and closed at its end.
-pub struct ProofFile<'r, 't, R: Files + Clock, E: Write> {
+pub struct ProofFile<'r, 'p, 't, R: World, E: Write> {
     rt: &'r R,
-    path: &'r str,
+    path: &'p str,
     number: u64,
     shown: &'r Shown<'t, R, E>,
-    file: Option<Counted<'r, 't, R::File, R, E>>,
+    unread: &'r LastUnread<'p>,
+    file: Option<OpenProof<'r, 't, R, E>>,
     ended: bool,
     failed: bool,
 }
 
-impl<'r, 't, R: Files + Clock, E: Write> Drop for ProofFile<'r, 't, R, E> {
+impl<'r, 'p, 't, R: World, E: Write> Drop for ProofFile<'r, 'p, 't, R, E> {
     fn drop(self) {
         let ProofFile {
             rt: _,
             path: _,
             number: _,
             shown: _,
+            unread: _,
             file: _,
             ended: _,
             failed: _,
@@ -33,22 +47,19 @@ impl<'r, 't, R: Files + Clock, E: Write> Drop for ProofFile<'r, 't, R, E> {
     }
 }
 
-impl<'r, 't, R: Files + Clock, E: Write> ProofFile<'r, 't, R, E> {
-    /// Returns the file of this path, not opened yet, and its number, from 1 on.
-    pub fn new(rt: &'r R, path: &'r str, number: u64, shown: &'r Shown<'t, R, E>) -> Self {
-        ProofFile {
-            rt,
-            path,
-            number,
-            shown,
-            file: None,
-            ended: false,
-            failed: false,
-        }
+impl<'r, 'p, 't, R: World, E: Write> ProofFile<'r, 'p, 't, R, E> {
+    /// Notes why the file can't be read.
+    fn fail(&mut self, reason: Error) -> ReadFailed {
+        self.failed = true;
+        self.unread.set(Some(Unread {
+            path: self.path,
+            reason,
+        }));
+        ReadFailed
     }
 }
 
-impl<'r, 't, R: Files + Clock, E: Write> Source for ProofFile<'r, 't, R, E> {
+impl<'r, 'p, 't, R: World, E: Write> Source for ProofFile<'r, 'p, 't, R, E> {
     ghost use Rattle.std.specs.Prelude.{None};
 
     ghost remaining = { λ s. None };
@@ -61,11 +72,8 @@ impl<'r, 't, R: Files + Clock, E: Write> Source for ProofFile<'r, 't, R, E> {
         }
         if self.file.is_none() {
             match open_counted(self.rt, self.path, Some(self.number), self.shown) {
-                Some(file) => self.file = Some(file),
-                None => {
-                    self.failed = true;
-                    return Err(ReadFailed);
-                }
+                Ok(file) => self.file = Some(file),
+                Err(reason) => return Err(self.fail(reason)),
             }
         }
         let Some(file) = &mut self.file else {
@@ -79,10 +87,7 @@ impl<'r, 't, R: Files + Clock, E: Write> Source for ProofFile<'r, 't, R, E> {
                 }
                 Ok(count)
             }
-            Err(_) => {
-                self.failed = true;
-                Err(ReadFailed)
-            }
+            Err(reason) => Err(self.fail(reason)),
         }
     }
 
@@ -92,17 +97,55 @@ impl<'r, 't, R: Files + Clock, E: Write> Source for ProofFile<'r, 't, R, E> {
 }
 
 /// Returns the files of proofs, each opened by its first read.
-pub fn proof_files<'r, 't, R: Files + Clock + AllocGlobal, E: Write>(
+pub fn proof_files<'r, 'p, 't, R: World, E: Write>(
     rt: &'r R,
-    paths: &[&'r str],
+    paths: &[&'p str],
     shown: &'r Shown<'t, R, E>,
-) -> Result<Vec<Peeked<ProofFile<'r, 't, R, E>>>, AllocError> {
+    unread: &'r LastUnread<'p>,
+) -> Result<Vec<Peeked<ProofFile<'r, 'p, 't, R, E>>>, AllocError> {
     let mut files = Vec::new(rt.alloc());
     let mut number: u64 = 0;
     for path in paths {
         number = number.saturating_add(1);
-        let file = ProofFile::new(rt, path, number, shown);
+        let file = ProofFile {
+            rt,
+            path,
+            number,
+            shown,
+            unread,
+            file: None,
+            ended: false,
+            failed: false,
+        };
         files.push(Peeked::new(rt.alloc(), file))?;
     }
     Ok(files)
+}
+
+/// Returns the fault of a call over proofs, with the file that couldn't be read, if there is one.
+pub fn fault_over(alloc: Global, fault: AppFault, unread: Option<Unread<'_>>) -> CommandFault {
+    match unread {
+        None => CommandFault::Call(fault),
+        Some(Unread { path, reason }) => match String::from_str(alloc, path) {
+            Ok(path) => CommandFault::Unread {
+                fault,
+                path,
+                reason,
+            },
+            Err(_) => CommandFault::OutOfMemory,
+        },
+    }
+}
+
+/// Returns the fault of a call over one proof, which may be that the proof couldn't be read.
+pub fn fault_over_proof(
+    alloc: Global,
+    fault: AppFault,
+    path: &str,
+    reason: Option<Error>,
+) -> CommandFault {
+    match reason {
+        None => CommandFault::Call(fault),
+        Some(reason) => fault_over(alloc, fault, Some(Unread { path, reason })),
+    }
 }

@@ -1,10 +1,13 @@
 //! The files of the commands that search.
 #![tactic(auto)]
 
+mod best_files;
+mod best_keeper;
 mod commands;
+mod proof_files;
 mod saving;
 
 pub use commands::best::answer_best;
 pub use commands::improve::answer_improve;
-pub use commands::parts::{PartsPaths, answer_parts};
+pub use commands::parts::answer_parts;
 pub use commands::solve::answer_solve;

@@ -1,13 +1,20 @@
-//! Timetables that are saved during a search.
+//! Timetables that are kept during a search.
 
 use std::alloc::Global;
+use tt_app_run_files::{KeptTable, Prepared};
 use tt_instance::read_instance;
-use tt_instance_data::Instance;
 
-/// Returns the instance that is needed to save timetables on the way, if they are to be saved and the bytes spell an instance.
-pub fn saved_instance(alloc: Global, bytes: &[u8], keeps: bool) -> Option<Instance<'_>> {
+/// Returns the file in which timetables are kept on the way, if they are to be kept and the bytes spell an instance.
+pub fn kept_table<'k, F>(
+    alloc: Global,
+    instance: &'k [u8],
+    out: &'k mut Prepared<F>,
+    keeps: bool,
+    is_strict: bool,
+) -> Option<KeptTable<'k, F>> {
     if !keeps {
         return None;
     }
-    read_instance(alloc, bytes).ok()
+    let instance = read_instance(alloc, instance).ok()?;
+    Some(KeptTable::new(out, instance, is_strict))
 }

@@ -76,15 +76,36 @@ fn the_best_of_a_faulty_instance(rt: HostRuntime) -> Result<(), Fail> {
 
 #[test]
 fn files_that_cannot_be_written(rt: HostRuntime) -> Result<(), Fail> {
-    for refusal in [Refusal::NewFiles, Refusal::Writes, Refusal::Renames] {
+    for (refusal, why, lines, files) in [
+        (Refusal::NewFiles, "permission denied\n", false, 2),
+        (
+            Refusal::Writes,
+            "no storage space; output solution is on standard output; output proof is on standard output\n",
+            true,
+            2,
+        ),
+        (
+            Refusal::Renames,
+            "is a directory; output solution is kept as found/tt-0000000000000000.new; output proof is kept as found/tt-0000000000000002.new\n",
+            false,
+            4,
+        ),
+    ] {
         let memory = MemoryFiles::new(rt.alloc(), refusal);
         memory.put("a.ctt", GAP)?;
         memory.put("found/page.html", "older")?;
         let outcome = best_of(rt.alloc(), &memory)?;
-        assert_eq!(rt; outcome.answer(), (2, "", "refused: cannot write\n"));
+        let wanted = format!(in rt.alloc();
+            "refused: cannot write: output solution: found/best.sol: {why}"
+        )?;
+        assert_eq!(rt; outcome.err.as_str(), wanted.as_str());
+        assert_eq!(rt;
+            (outcome.status, outcome.out.contains("CTTP 2")),
+            (2, lines)
+        );
         let kept = memory.text("found/page.html")?;
         assert!(rt; kept.is_some_and(|text| text.as_str() == "older"));
-        assert_eq!(rt; memory.count(), 2);
+        assert_eq!(rt; memory.count(), files);
     }
     Ok(())
 }

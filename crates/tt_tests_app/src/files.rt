@@ -39,12 +39,42 @@ fn wide_files(fails_at: [u64; 3]) -> [StoredFile<'static>; 3] {
 fn failed_reads(rt: HostRuntime) -> Result<(), Fail> {
     for (fails_at, status, out, err) in [
         ([0, 0, 0], 0, "yes cost 5 bound 5 optimal\n", ""),
-        ([1, 1, 1], 2, "", "refused: instance: cannot read\n"),
-        ([2, 0, 0], 2, "", "refused: instance: cannot read\n"),
-        ([0, 1, 1], 2, "", "refused: solution: cannot read\n"),
-        ([0, 2, 0], 2, "", "refused: solution: cannot read\n"),
-        ([0, 0, 1], 2, "", "refused: proof: Read\n"),
-        ([0, 0, 2], 2, "", "refused: proof: Read\n"),
+        (
+            [1, 1, 1],
+            2,
+            "",
+            "refused: instance: cannot read: a.ctt: other error\n",
+        ),
+        (
+            [2, 0, 0],
+            2,
+            "",
+            "refused: instance: cannot read: a.ctt: other error\n",
+        ),
+        (
+            [0, 1, 1],
+            2,
+            "",
+            "refused: solution: cannot read: a.sol: other error\n",
+        ),
+        (
+            [0, 2, 0],
+            2,
+            "",
+            "refused: solution: cannot read: a.sol: other error\n",
+        ),
+        (
+            [0, 0, 1],
+            2,
+            "",
+            "refused: proof: Read: a.proof: other error\n",
+        ),
+        (
+            [0, 0, 2],
+            2,
+            "",
+            "refused: proof: Read: a.proof: other error\n",
+        ),
     ] {
         let outcome = run_with(rt.alloc(), &WORDS, &wide_files(fails_at))?;
         assert_eq!(rt; outcome.answer(), (status, out, err), "at {fails_at:?}");
@@ -60,15 +90,15 @@ fn missing_files(rt: HostRuntime) -> Result<(), Fail> {
     for (words, err) in [
         (
             ["check", "none", "none", "none"].as_slice(),
-            "refused: instance: cannot read\n",
+            "refused: instance: cannot read: none: entity not found\n",
         ),
         (
             ["check", "bad", "none", "none"].as_slice(),
-            "refused: solution: cannot read\n",
+            "refused: solution: cannot read: none: entity not found\n",
         ),
         (
             ["check", "bad", "bad", "none"].as_slice(),
-            "refused: proof: cannot read\n",
+            "refused: proof: cannot read: none: entity not found\n",
         ),
         (
             ["check", "a.ctt", "bad", "bad"].as_slice(),
@@ -76,15 +106,15 @@ fn missing_files(rt: HostRuntime) -> Result<(), Fail> {
         ),
         (
             ["check", "a.ctt", "a.sol", "none"].as_slice(),
-            "refused: proof: cannot read\n",
+            "refused: proof: cannot read: none: entity not found\n",
         ),
         (
             ["validate", "none", "a.sol"].as_slice(),
-            "refused: instance: cannot read\n",
+            "refused: instance: cannot read: none: entity not found\n",
         ),
         (
             ["validate", "a.ctt", "none"].as_slice(),
-            "refused: solution: cannot read\n",
+            "refused: solution: cannot read: none: entity not found\n",
         ),
     ] {
         let outcome = run_with(rt.alloc(), words, &files)?;
@@ -105,9 +135,21 @@ fn refusal_of(alloc: Global, words: &[&str]) -> Result<String, Fail> {
 #[test]
 fn missing_files_of_proofs(rt: HostRuntime) -> Result<(), Fail> {
     for (instance, proof, err) in [
-        ("none", "none", "refused: instance: cannot read\n"),
-        ("a.ctt", "none", "refused: proof: cannot read\n"),
-        ("bad", "none", "refused: proof: cannot read\n"),
+        (
+            "none",
+            "none",
+            "refused: instance: cannot read: none: entity not found\n",
+        ),
+        (
+            "a.ctt",
+            "none",
+            "refused: proof: cannot read: none: entity not found\n",
+        ),
+        (
+            "bad",
+            "none",
+            "refused: proof: cannot read: none: entity not found\n",
+        ),
         (
             "bad",
             "bad",
@@ -138,24 +180,113 @@ fn overlap(alloc: Global, words: &[&str]) -> Result<(String, bool), Fail> {
 
 #[test]
 fn outputs_are_apart(rt: HostRuntime) -> Result<(), Fail> {
-    for words in [
-        ["improve", "a.ctt", "a.sol", "a.ctt"].as_slice(),
-        ["improve", "a.ctt", "a.sol", "a.sol"].as_slice(),
-        ["page", "a.ctt", "a.sol", "a.ctt"].as_slice(),
-        ["page", "a.ctt", "a.sol", "a.sol"].as_slice(),
-        ["page", "a.ctt", "a.sol", "a.proof", "--proof", "a.proof"].as_slice(),
-        ["upgrade", "a.ctt", "a.proof", "a.ctt"].as_slice(),
-        ["upgrade", "a.ctt", "a.proof", "a.proof"].as_slice(),
-        ["solve", "a.ctt", "a.ctt", "b.proof"].as_slice(),
-        ["solve", "a.ctt", "b.sol", "a.ctt"].as_slice(),
-        ["solve", "a.ctt", "same", "same"].as_slice(),
-        ["improve", "a.ctt", "a.sol", "out/"].as_slice(),
-        ["improve", "a.ctt", "a.sol", ""].as_slice(),
+    for (words, why) in [
+        (
+            ["improve", "a.ctt", "a.sol", "a.ctt"].as_slice(),
+            "solution: a.ctt: is a file that the command reads",
+        ),
+        (
+            ["improve", "a.ctt", "a.sol", "a.sol"].as_slice(),
+            "solution: a.sol: is a file that the command reads",
+        ),
+        (
+            ["page", "a.ctt", "a.sol", "a.ctt"].as_slice(),
+            "page: a.ctt: is a file that the command reads",
+        ),
+        (
+            ["page", "a.ctt", "a.sol", "a.proof", "--proof", "a.proof"].as_slice(),
+            "page: a.proof: is a file that the command reads",
+        ),
+        (
+            ["upgrade", "a.ctt", "a.proof", "a.proof"].as_slice(),
+            "proof: a.proof: is a file that the command reads",
+        ),
+        (
+            ["solve", "a.ctt", "a.ctt", "b.proof"].as_slice(),
+            "solution: a.ctt: is a file that the command reads",
+        ),
+        (
+            ["solve", "a.ctt", "b.sol", "a.ctt"].as_slice(),
+            "proof: a.ctt: is a file that the command reads",
+        ),
+        (
+            ["solve", "a.ctt", "same", "same"].as_slice(),
+            "proof: same: is also output solution",
+        ),
+        (
+            ["solve", "a.ctt", "-", "-"].as_slice(),
+            "proof: -: is also output solution",
+        ),
+        (
+            ["improve", "a.ctt", "a.sol", "out/"].as_slice(),
+            "solution: out/: ends in /",
+        ),
+        (
+            ["improve", "a.ctt", "a.sol", "new/."].as_slice(),
+            "solution: new/.: ends in /",
+        ),
+        (
+            ["improve", "a.ctt", "a.sol", ""].as_slice(),
+            "solution: : is empty",
+        ),
+        (["best", "a.ctt", ""].as_slice(), "folder: : is empty"),
+        (["parts", "a.ctt", ""].as_slice(), "folder: : is empty"),
     ] {
         let (reported, is_same) = overlap(rt.alloc(), words)?;
-        assert_eq!(rt; reported.as_str(), "refused: cannot write\n", "{words:?}");
+        let wanted = format!(in rt.alloc(); "refused: cannot write: output {why}\n")?;
+        assert_eq!(rt; reported.as_str(), wanted.as_str(), "{words:?}");
         assert!(rt; is_same, "{words:?}");
     }
+    Ok(())
+}
+
+#[test]
+fn standard_input_is_read_once(rt: HostRuntime) -> Result<(), Fail> {
+    let memory = MemoryFiles::new(rt.alloc(), Refusal::Nothing);
+    memory.put("a.ctt", GAP)?;
+    memory.put("a.sol", MINI_SOLUTION)?;
+    memory.put("standard", GAP_PROOF)?;
+    for (words, status, out, err) in [
+        (["bound", "a.ctt", "-"].as_slice(), 0, "bound 5\n", ""),
+        (["sum", "a.ctt", "-"].as_slice(), 0, "bound 5\n", ""),
+        (
+            ["sum", "a.ctt", "-", "-"].as_slice(),
+            2,
+            "",
+            "refused: proof 2: cannot read: -: standard input is read already\n",
+        ),
+        (
+            ["validate", "-", "-"].as_slice(),
+            2,
+            "",
+            "refused: solution: cannot read: -: standard input is read already\n",
+        ),
+        (
+            ["validate", "-", "a.sol"].as_slice(),
+            2,
+            "",
+            "refused: instance: Expected Name: at byte 0\n",
+        ),
+    ] {
+        let outcome = run_on(rt.alloc(), words, &memory)?;
+        assert_eq!(rt; outcome.answer(), (status, out, err), "{words:?}");
+    }
+    Ok(())
+}
+
+#[test]
+fn standard_output_is_written_before_the_line(rt: HostRuntime) -> Result<(), Fail> {
+    let memory = MemoryFiles::new(rt.alloc(), Refusal::Nothing);
+    memory.put("a.ctt", GAP)?;
+    let outcome = run_on(rt.alloc(), &["solve", "a.ctt", "-", "a.proof"], &memory)?;
+    assert_eq!(rt; (outcome.status, outcome.err.as_str()), (0, ""));
+    assert_eq!(rt; outcome.out.lines().count(), 3);
+    assert!(rt;
+        outcome.out.ends_with("\ncost 5 bound 5 finished\n"),
+        "{}",
+        outcome.out
+    );
+    assert_eq!(rt; memory.count(), 2);
     Ok(())
 }
 
@@ -185,13 +316,19 @@ fn the_longest_files(rt: HostRuntime) -> Result<(), Fail> {
         StoredFile::new("a.sol", &long),
     ];
     let outcome = run_with(rt.alloc(), &words, &files)?;
-    assert_eq!(rt; outcome.answer(), (2, "", "refused: instance: too long\n"));
+    assert_eq!(rt;
+        outcome.answer(),
+        (2, "", "refused: instance: too long: a.ctt\n")
+    );
     let files = [
         StoredFile::new("a.ctt", WIDE.as_bytes()),
         StoredFile::new("a.sol", &long),
     ];
     let outcome = run_with(rt.alloc(), &words, &files)?;
-    assert_eq!(rt; outcome.answer(), (2, "", "refused: solution: too long\n"));
+    assert_eq!(rt;
+        outcome.answer(),
+        (2, "", "refused: solution: too long: a.sol\n")
+    );
     Ok(())
 }
 
@@ -258,7 +395,8 @@ fn closed_outputs(rt: HostRuntime) -> Result<(), Fail> {
     assert_eq!(rt; run(&runtime, &words, &mut Closed, &mut err), 2);
     words.push(String::from_str(rt.alloc(), "--help")?)?;
     assert_eq!(rt; run(&runtime, &words, &mut Closed, &mut err), 2);
-    let refused = b"refused: cannot write\nrefused: cannot write\n";
+    let refused =
+        b"refused: cannot write: standard output: broken pipe\nrefused: cannot write: standard output: broken pipe\n";
     assert_eq!(rt; err.as_slice(), refused.as_slice());
     assert_eq!(rt; run(&runtime, &words, &mut Closed, &mut Closed), 2);
     Ok(())

@@ -52,10 +52,15 @@ fn parts_that_cannot_be_written(rt: HostRuntime) -> Result<(), Fail> {
         memory.put("a.ctt", GAP)?;
         memory.put("found/groups.proof", "older")?;
         let outcome = parted(rt.alloc(), &memory)?;
-        assert_eq!(rt; outcome.answer(), (2, "", "refused: cannot write\n"));
+        let refused = "refused: cannot write: output proof: found/groups.proof: ";
+        assert!(rt; outcome.err.starts_with(refused), "{}", outcome.err);
+        assert_eq!(rt; outcome.status, 2);
+        assert_eq!(rt; outcome.out.contains("CTTG 1"), refusal == Refusal::Writes);
         let kept = memory.text("found/groups.proof")?;
         assert!(rt; kept.is_some_and(|text| text.as_str() == "older"));
-        assert_eq!(rt; memory.count(), 2);
+        // Proofs that can't be renamed stay beside their places.
+        let drafts = if refusal == Refusal::Renames { 2 } else { 0 };
+        assert_eq!(rt; memory.count(), 2 + drafts);
     }
     Ok(())
 }

@@ -109,7 +109,13 @@ fn searches_that_are_refused(rt: HostRuntime) -> Result<(), Fail> {
     for refusal in [Refusal::NewFiles, Refusal::Writes, Refusal::Renames] {
         let memory = filled(rt.alloc(), GAP, refusal)?;
         let outcome = solved(rt.alloc(), &memory, "100")?;
-        assert_eq!(rt; outcome.answer(), (2, "", "refused: cannot write\n"));
+        let refused = "refused: cannot write: output solution: a.sol: ";
+        assert!(rt; outcome.err.starts_with(refused), "{}", outcome.err);
+        assert_eq!(rt; outcome.status, 2);
+        assert_eq!(rt;
+            outcome.out.contains("CTTP 1 bound 5"),
+            refusal == Refusal::Writes
+        );
         assert_eq!(rt; memory.text("a.proof")?, None);
     }
     Ok(())

@@ -3,7 +3,7 @@
 use std::alloc::{AllocError, Global};
 use std::fmt::Display;
 use std::test::Fail;
-use tt_app::{AppFault, Input};
+use tt_app::AppFault;
 use tt_instance::{InstanceFault, Word};
 use tt_leaf_rules::RuleFault;
 use tt_proof_check::{CertifyFault, CheckFault, NodesFault};
@@ -197,18 +197,6 @@ fn of_the_program(rt: HostRuntime) -> Result<(), Fail> {
         (AppFault::ProofTooLarge, "proof too large"),
         (AppFault::PageTooLarge, "page: TooLarge"),
         (AppFault::OutOfMemory, "out of memory"),
-        (
-            AppFault::CannotRead(Input::Instance),
-            "instance: cannot read",
-        ),
-        (
-            AppFault::CannotRead(Input::Solution),
-            "solution: cannot read",
-        ),
-        (AppFault::CannotRead(Input::Proof), "proof: cannot read"),
-        (AppFault::TooLong(Input::Instance), "instance: too long"),
-        (AppFault::TooLong(Input::Solution), "solution: too long"),
-        (AppFault::TooLong(Input::Proof), "proof: too long"),
         (AppFault::CannotWrite, "cannot write"),
     ] {
         assert_eq!(rt; fault.to_string(rt.alloc())?.as_str(), text);

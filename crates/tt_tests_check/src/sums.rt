@@ -154,11 +154,18 @@ fn files_of_proofs_that_are_not_there(rt: HostRuntime) -> Result<(), Fail> {
         StoredFile::new("1.proof", SEATS.as_bytes()),
     ];
     let outcome = run_with(rt.alloc(), &["sum", "a.ctt", "1.proof", "none"], &files)?;
-    assert_eq!(rt; outcome.answer(), (2, "", "refused: proof 2: Read\n"));
+    assert_eq!(rt;
+        outcome.answer(),
+        (2, "", "refused: proof 2: Read: none: entity not found\n")
+    );
     let outcome = run_with(rt.alloc(), &["sum", "none", "1.proof"], &files)?;
     assert_eq!(rt;
         outcome.answer(),
-        (2, "", "refused: instance: cannot read\n")
+        (
+            2,
+            "",
+            "refused: instance: cannot read: none: entity not found\n"
+        )
     );
     Ok(())
 }
@@ -174,7 +181,10 @@ fn failed_reads_of_the_second_proof(rt: HostRuntime) -> Result<(), Fail> {
             second,
         ];
         let outcome = run_with(rt.alloc(), &["sum", "a.ctt", "1.proof", "2.proof"], &files)?;
-        assert_eq!(rt; outcome.answer(), (2, "", "refused: proof 2: Read\n"));
+        assert_eq!(rt;
+            outcome.answer(),
+            (2, "", "refused: proof 2: Read: 2.proof: other error\n")
+        );
     }
     Ok(())
 }

@@ -3,7 +3,7 @@
 use std::alloc::Allocator;
 use std::fs::{Metadata, OpenFile, OpenOptions};
 use std::io;
-use std::io::{Error, ErrorKind, Read, Seek, SeekFrom, Write};
+use std::io::{BufRead, Error, ErrorKind, Lines, Read, Seek, SeekFrom, Write};
 use std::rt::{Clock, Files};
 use std::time::Duration;
 
@@ -143,6 +143,23 @@ impl<'a> Files for Disk<'a> {
 
     fn remove_dir_all<B: Allocator>(&self, _alloc: B, _path: &str) -> io::Result<()> {
         Err(unsupported())
+    }
+}
+
+/// Standard input without bytes.
+impl<'a> Input for Disk<'a> {
+    type Reader = &'static [u8];
+
+    fn read_line<A: Allocator + Clone>(&self, buf: &mut String<A>) -> io::Result<usize> {
+        self.reader().read_line(buf)
+    }
+
+    fn lines<A: Allocator>(&self, alloc: A) -> Lines<&'static [u8], A> {
+        self.reader().lines(alloc)
+    }
+
+    fn reader(&self) -> &'static [u8] {
+        b""
     }
 }
 

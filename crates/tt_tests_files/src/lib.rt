@@ -5,4 +5,4 @@ mod disk;
 mod memory_files;
 
 pub use disk::{Disk, OpenedFile, StoredFile};
-pub use memory_files::{MemoryFiles, OpenMemoryFile, Refusal};
+pub use memory_files::{MemoryFiles, OpenMemoryFile, OpenMemoryInput, Refusal};

@@ -4,7 +4,7 @@ use std::alloc::{Allocator, Global};
 use std::cell::RefCell;
 use std::fs::{Metadata, OpenFile, OpenOptions};
 use std::io;
-use std::io::{Error, ErrorKind, Read, Seek, SeekFrom, Write};
+use std::io::{BufRead, Error, ErrorKind, Lines, Read, Seek, SeekFrom, Write};
 use std::rt::{Clock, Files};
 use std::test::Fail;
 use std::time::Duration;
@@ -39,6 +39,36 @@ pub struct OpenMemoryFile<'s> {
     memory: &'s MemoryFiles,
     path: String,
     rest: Vec<u8>,
+}
+
+/// The name of the file that standard input reads.
+const STANDARD_INPUT: &str = "standard";
+
+/// The rest of standard input.
+#[derive(Drop)]
+pub struct OpenMemoryInput {
+    rest: Vec<u8>,
+}
+
+impl Read for OpenMemoryInput {
+    fn read(&mut self, buffer: &mut [u8]) -> io::Result<usize> {
+        let count = buffer.len().min(self.rest.len());
+        let (piece, _) = self.rest.split_at(count);
+        buffer[..count].copy_from_slice(piece);
+        self.rest.drain(..count);
+        Ok(count)
+    }
+}
+
+impl BufRead for OpenMemoryInput {
+    fn fill_buf(&mut self) -> io::Result<&[u8]> {
+        Ok(self.rest.as_slice())
+    }
+
+    fn consume(&mut self, amount: usize) {
+        let count = amount.min(self.rest.len());
+        self.rest.drain(..count);
+    }
 }
 
 fn fault(kind: ErrorKind) -> Error {
@@ -259,6 +289,25 @@ impl<'s> Files for &'s MemoryFiles {
 
     fn remove_dir_all<B: Allocator>(&self, _alloc: B, _path: &str) -> io::Result<()> {
         Err(fault(ErrorKind::Unsupported))
+    }
+}
+
+/// Standard input with the text of the file named standard.
+impl<'s> Input for &'s MemoryFiles {
+    type Reader = OpenMemoryInput;
+
+    fn read_line<A: Allocator + Clone>(&self, buf: &mut String<A>) -> io::Result<usize> {
+        self.reader().read_line(buf)
+    }
+
+    fn lines<A: Allocator>(&self, alloc: A) -> Lines<OpenMemoryInput, A> {
+        self.reader().lines(alloc)
+    }
+
+    fn reader(&self) -> OpenMemoryInput {
+        OpenMemoryInput {
+            rest: self.copied(STANDARD_INPUT).unwrap_or(Vec::new(self.alloc)),
+        }
     }
 }
 

@@ -155,10 +155,12 @@ fn pages_that_are_not_written(rt: HostRuntime) -> Result<(), Fail> {
         let memory = filled(rt.alloc(), MINI, MINI_SOLUTION, refusal)?;
         let outcome = paged(rt.alloc(), &memory)?;
         assert_eq!(rt;
-            outcome.answer(),
-            (2, "", "refused: cannot write\n"),
+            (outcome.status, outcome.out.as_str()),
+            (2, ""),
             "{refusal:?}"
         );
+        let refused = "refused: cannot write: output page: ";
+        assert!(rt; outcome.err.starts_with(refused), "{refusal:?}");
         assert_eq!(rt; memory.count(), 2, "{refusal:?}");
     }
     Ok(())
@@ -274,7 +276,10 @@ fn options_that_are_refused(rt: HostRuntime) -> Result<(), Fail> {
             ["--proof", "a.proof", "--proof", "a.proof"].as_slice(),
             "refused: proof 2: ClaimedElsewhere at node 2, by proof 1\n",
         ),
-        (["--proof", "none"].as_slice(), "refused: proof 1: Read\n"),
+        (
+            ["--proof", "none"].as_slice(),
+            "refused: proof 1: Read: none: entity not found\n",
+        ),
         (
             // The names are refused before a proof is read.
             ["--days", "Mon", "--periods", "x", "--proof", "none"].as_slice(),

@@ -22,7 +22,7 @@ impl Outcome {
 }
 
 /// Runs the program on words, over a file system.
-pub fn run_on<F: Files + Clock + Drop>(
+pub fn run_on<F: Files + Clock + Input + Drop>(
     alloc: Global,
     words: &[&str],
     files: F,

@@ -2,27 +2,33 @@
 
 use std::cell::RefCell;
 use std::io::Write;
-use std::rt::{Clock, Files};
-use tt_app_answers::{Answer, AppFault, Input};
-use tt_app_arguments::Showing;
+use tt_app_arguments::BoundRequest;
 use tt_app_checks::bound;
-use tt_app_run_files::{clear, open_counted, read_file, ticker_of};
+use tt_app_run_files::{
+    CommandFault, Input, Inputs, Reply, World, clear, fault_over_proof, open_counted, ticker_of,
+};
 use tt_text::Reading;
 
 /// Returns the answer of `bound`.
-pub fn answer_bound<R: Files + Clock + AllocGlobal, E: Write>(
+pub fn answer_bound<R: World, E: Write>(
     rt: &R,
     err: &mut E,
-    paths: (&str, &str),
-    showing: Showing,
-) -> Result<Answer, AppFault> {
-    let (instance, proof) = paths;
-    let instance = read_file(rt, instance, Input::Instance)?;
-    let shown = RefCell::new(ticker_of(rt, err, "bound", showing));
-    let Some(proof) = open_counted(rt, proof, None, &shown) else {
-        return Err(AppFault::CannotRead(Input::Proof));
+    request: BoundRequest<'_>,
+) -> Result<Reply, CommandFault> {
+    let alloc = rt.alloc();
+    let mut inputs = Inputs::new(alloc);
+    let instance = inputs.add(Input::Instance, request.instance)?;
+    let proof = inputs.add(Input::Proof, request.proof)?;
+    let instance = instance.read(rt)?;
+    let shown = RefCell::new(ticker_of(rt, err, "bound", request.showing));
+    let mut file = match open_counted(rt, proof.path, None, &shown) {
+        Ok(file) => file,
+        Err(reason) => return Err(proof.unread(alloc, reason)),
     };
-    let answer = bound(rt.alloc(), &instance, &mut Reading::new(proof));
+    let answer = bound(alloc, &instance, &mut Reading::new(&mut file));
     clear(&shown);
-    answer
+    match answer {
+        Ok(answer) => Ok(Reply::to(alloc, answer)?),
+        Err(fault) => Err(fault_over_proof(alloc, fault, proof.path, file.reason())),
+    }
 }

@@ -1,31 +1,36 @@
 //! The files of `report --ics`.
 
-use std::rt::Files;
-use tt_app_answers::{Answer, AppFault, Input};
-use tt_app_arguments::CalendarWish;
-use tt_app_run_files::read_file;
+use crate::timetable::read_timetable;
+use tt_app_arguments::{CalendarRequest, CalendarWish};
+use tt_app_run_files::{CommandFault, Reply, World};
 use tt_app_texts::{WeekTimes, calendar};
 
 /// Returns a calendar of a solution.
-pub fn answer_calendar<R: Files + AllocGlobal>(
+pub fn answer_calendar<R: World>(
     rt: &R,
-    instance: &str,
-    solution: &str,
-    wish: CalendarWish<'_>,
-) -> Result<Answer, AppFault> {
-    let instance = read_file(rt, instance, Input::Instance)?;
-    let solution = read_file(rt, solution, Input::Solution)?;
+    request: CalendarRequest<'_>,
+) -> Result<Reply, CommandFault> {
+    let texts = read_timetable(rt, request.files)?;
     let CalendarWish {
         by,
         name,
         first_day,
         times,
         minutes,
-    } = wish;
+    } = request.calendar;
     let times = WeekTimes {
         first_day,
         times,
         minutes,
     };
-    calendar(rt.alloc(), &instance, &solution, by, name.as_bytes(), times)
+    let name = name.as_bytes();
+    let answer = calendar(
+        rt.alloc(),
+        &texts.instance,
+        &texts.solution,
+        by,
+        name,
+        times,
+    )?;
+    Ok(Reply::to(rt.alloc(), answer)?)
 }

@@ -3,39 +3,47 @@
 use crate::built_in;
 use std::cell::RefCell;
 use std::io::Write;
-use std::rt::{Clock, Files};
-use tt_app_answers::{Answer, AppFault, Input};
-use tt_app_arguments::Showing;
+use tt_app_arguments::CheckRequest;
 use tt_app_checks::check;
-use tt_app_run_files::{clear, open_counted, read_file, ticker_of};
+use tt_app_run_files::{
+    CommandFault, Input, Inputs, Reply, World, clear, fault_over_proof, open_counted, ticker_of,
+};
 use tt_text::{Pieces, Reading};
 
 /// Returns the answer of `check`.
-pub fn answer_check<R: Files + Clock + AllocGlobal, E: Write>(
+pub fn answer_check<R: World, E: Write>(
     rt: &R,
     err: &mut E,
-    paths: (&str, &str, &str),
-    showing: Showing,
-) -> Result<Answer, AppFault> {
-    let (instance, solution, proof) = paths;
-    let instance = read_file(rt, instance, Input::Instance)?;
-    let solution = read_file(rt, solution, Input::Solution)?;
-    let shown = RefCell::new(ticker_of(rt, err, "check", showing));
-    let Some(proof) = open_counted(rt, proof, None, &shown) else {
-        return Err(AppFault::CannotRead(Input::Proof));
+    request: CheckRequest<'_>,
+) -> Result<Reply, CommandFault> {
+    let alloc = rt.alloc();
+    let mut inputs = Inputs::new(alloc);
+    let instance = inputs.add(Input::Instance, request.instance)?;
+    let solution = inputs.add(Input::Solution, request.solution)?;
+    let proof = inputs.add(Input::Proof, request.proof)?;
+    let instance = instance.read(rt)?;
+    let solution = solution.read(rt)?;
+    let shown = RefCell::new(ticker_of(rt, err, "check", request.showing));
+    let mut file = match open_counted(rt, proof.path, None, &shown) {
+        Ok(file) => file,
+        Err(reason) => return Err(proof.unread(alloc, reason)),
     };
-    let answer = check(rt.alloc(), &instance, &solution, &mut Reading::new(proof));
+    let answer = check(alloc, &instance, &solution, &mut Reading::new(&mut file));
     clear(&shown);
-    answer
+    match answer {
+        Ok(answer) => Ok(Reply::to(alloc, answer)?),
+        Err(fault) => Err(fault_over_proof(alloc, fault, proof.path, file.reason())),
+    }
 }
 
 /// Checks the built-in instance, solution and proof.
-pub fn answer_stored<R: Files + AllocGlobal>(rt: &R) -> Result<Answer, AppFault> {
+pub fn answer_stored<R: World>(rt: &R) -> Result<Reply, CommandFault> {
     let mut proof = Pieces::new(built_in::PROOF, 64, 0);
-    check(
+    let answer = check(
         rt.alloc(),
         built_in::INSTANCE,
         built_in::SOLUTION,
         &mut proof,
-    )
+    )?;
+    Ok(Reply::to(rt.alloc(), answer)?)
 }

@@ -1,32 +1,22 @@
 //! The files of `page`.
 
+use crate::timetable::TimetableTexts;
 use std::alloc::Global;
-use std::cell::RefCell;
-use std::io::Write;
-use std::rt::{Clock, Files};
-use tt_app_answers::{AppFault, Input};
-use tt_app_arguments::{NamesWish, Showing};
-use tt_app_files::{Batch, Draft, Output, Place, Ready, finish};
-use tt_app_run_files::{Shown, Written, clear, find_apart, proof_files, read_file, ticker_of};
+use std::cell::{Cell, RefCell};
+use std::io::{Error, ErrorKind, Write};
+use tt_app_answers::AppFault;
+use tt_app_arguments::PageRequest;
+use tt_app_files::{Batch, Draft, Label, OutputFault, Place, Ready, Role, StandardStream, finish};
+use tt_app_run_files::{
+    CommandFault, Input, Inputs, LastUnread, Prepared, Reply, Shown, Target, World, Written, clear,
+    fault_over, proof_files, ticker_of,
+};
 use tt_app_texts::{PageNames, page, proved_page};
 use tt_page::STYLE;
-use tt_proof_check::CheckFault;
-use tt_proof_read::TextFault;
-use tt_proof_sum::SumFault;
-use tt_text::{FeedFault, Sink, Writing};
+use tt_text::{Sink, Writing};
 use tt_text_peek::Peek;
 
-/// The files of `page`, and the names of days and periods.
-#[derive(Clone, Copy)]
-pub struct PageFiles<'a> {
-    pub instance: &'a str,
-    pub solution: &'a str,
-    pub out: &'a str,
-    pub names: NamesWish<'a>,
-    pub proofs: &'a [&'a str],
-}
-
-/// The texts of the files of a page, and the names of days and periods.
+/// What a page shows.
 #[derive(Clone, Copy)]
 struct PageTexts<'a> {
     instance: &'a [u8],
@@ -53,33 +43,60 @@ fn fill_page<P: Peek, W: Sink>(
     }
 }
 
+/// The reason why a page isn't written.
+#[derive(Clone, Copy, Debug)]
+enum PageFault {
+    Call(AppFault),
+    Output(OutputFault),
+}
+
+impl PageFault {
+    /// Returns the fault of the command, for the output and the last proof that couldn't be read.
+    fn refused(self, alloc: Global, label: Label, unread: &LastUnread<'_>) -> CommandFault {
+        match self {
+            PageFault::Call(fault) => fault_over(alloc, fault, unread.get()),
+            PageFault::Output(fault) => CommandFault::Write(label.with_fault(fault)),
+        }
+    }
+}
+
 /// Writes a page, and shows how much of it is written.
-fn write_page<R: Clock + AllocGlobal, P: Peek, F: Write, E: Write>(
+fn write_page<R: World, P: Peek, F: Write, E: Write>(
     rt: &R,
     texts: PageTexts<'_>,
     proofs: &mut [P],
     file: &mut F,
     shown: &Shown<'_, R, E>,
-) -> Result<u8, AppFault> {
+) -> Result<u8, PageFault> {
     let mut written = Written::new(file, shown);
-    let status = fill_page(rt.alloc(), texts, proofs, &mut Writing::new(&mut written))?;
-    match written.flush() {
-        Ok(()) => Ok(status),
-        Err(_) => Err(AppFault::CannotWrite),
+    let filled = fill_page(rt.alloc(), texts, proofs, &mut Writing::new(&mut written));
+    match filled {
+        Ok(status) => match written.flush() {
+            Ok(()) => Ok(status),
+            Err(fault) => Err(PageFault::Output(OutputFault::from(fault))),
+        },
+        Err(AppFault::CannotWrite) => {
+            let fault = written.fault().unwrap_or(Error::from(ErrorKind::WriteZero));
+            Err(PageFault::Output(OutputFault::from(fault)))
+        }
+        Err(fault) => Err(PageFault::Call(fault)),
     }
 }
 
 /// Writes a page to a new file next to its place.
-fn draft_page<R: Files + Clock + AllocGlobal, P: Peek, E: Write>(
+fn draft_page<R: World, P: Peek, E: Write>(
     rt: &R,
     texts: PageTexts<'_>,
     proofs: &mut [P],
     place: &Place,
     shown: &Shown<'_, R, E>,
-) -> Result<(u8, Draft), AppFault> {
-    let (draft, mut file) = Draft::create(rt, place)?;
+) -> Result<(u8, Draft), PageFault> {
+    let (draft, mut file) = Draft::create(rt, place).map_err(PageFault::Output)?;
     let written = match write_page(rt, texts, proofs, &mut file, shown) {
-        Ok(status) => finish(file).map(|()| status).map_err(AppFault::from),
+        Ok(status) => match finish(file) {
+            Ok(()) => Ok(status),
+            Err(fault) => Err(PageFault::Output(fault)),
+        },
         Err(fault) => Err(fault),
     };
     match written {
@@ -91,87 +108,125 @@ fn draft_page<R: Files + Clock + AllocGlobal, P: Peek, E: Write>(
     }
 }
 
-/// Writes a page to its file, or to a device or a pipe.
-fn put_page<R: Files + Clock + AllocGlobal, P: Peek, E: Write>(
+/// Writes a page to standard error, after the line that shows its progress.
+fn page_to_error<R: World, P: Peek, E: Write>(
+    rt: &R,
+    texts: PageTexts<'_>,
+    proofs: &mut [P],
+    shown: &Shown<'_, R, E>,
+) -> Result<Reply, PageFault> {
+    let alloc = rt.alloc();
+    let mut text = Vec::new(alloc);
+    let status = write_page(rt, texts, proofs, &mut text, shown)?;
+    let mut reply = Reply::silent(alloc, status);
+    match reply.add(StandardStream::Error, text) {
+        Ok(()) => Ok(reply),
+        Err(_) => Err(PageFault::Output(OutputFault::OutOfMemory)),
+    }
+}
+
+/// Renames the new file of a page to its place.
+fn put_draft<R: World>(
+    rt: &R,
+    label: Label,
+    status: u8,
+    draft: Draft,
+) -> Result<Reply, CommandFault> {
+    let batch = Batch::new(rt.alloc()).with_draft(rt, label, draft)?;
+    Ok(Reply {
+        status,
+        texts: batch.put(rt)?,
+    })
+}
+
+/// A page that is written, or a new file that isn't at its place yet.
+#[derive(Debug, Drop)]
+enum Made {
+    Written(Reply),
+    Drafted(u8, Draft),
+}
+
+/// Writes a page to its output, as far as it can be without changing a file that is there.
+fn make_page<R: World, P: Peek, O: Write, E: Write>(
     rt: &R,
     ready: Ready<R::File>,
     texts: PageTexts<'_>,
     proofs: &mut [P],
+    out: &mut O,
     shown: &Shown<'_, R, E>,
-) -> Result<u8, AppFault> {
-    match ready {
+) -> Result<Made, PageFault> {
+    let status = match ready {
         Ready::Place(place) => {
             let (status, draft) = draft_page(rt, texts, proofs, &place, shown)?;
-            Batch::new(rt.alloc()).with(rt, draft)?.put(rt)?;
-            Ok(status)
+            return Ok(Made::Drafted(status, draft));
         }
-        Ready::Stream(mut file) => write_page(rt, texts, proofs, &mut file, shown),
-    }
+        Ready::Stream(mut file) => write_page(rt, texts, proofs, &mut file, shown)?,
+        Ready::Standard(StandardStream::Output) => write_page(rt, texts, proofs, out, shown)?,
+        Ready::Standard(StandardStream::Error) => {
+            return Ok(Made::Written(page_to_error(rt, texts, proofs, shown)?));
+        }
+    };
+    Ok(Made::Written(Reply::silent(rt.alloc(), status)))
 }
 
 /// Writes a page to its file, and shows the progress of reading the proofs and of writing the page.
-fn write_shown<R: Files + Clock + AllocGlobal, E: Write>(
+fn put_page<R: World, O: Write, E: Write>(
     rt: &R,
-    ready: Ready<R::File>,
+    output: Prepared<R::File>,
     texts: PageTexts<'_>,
     proofs: &[&str],
+    out: &mut O,
     shown: &Shown<'_, R, E>,
-) -> Result<u8, AppFault> {
-    let mut proofs = proof_files(rt, proofs, shown)?;
-    put_page(rt, ready, texts, &mut proofs, shown)
-}
-
-/// Returns the fault of a proof that can't be read, by its number.
-fn unread(number: u64) -> AppFault {
-    AppFault::Sum(SumFault::Proof(number, CheckFault::Text(TextFault::Feed(FeedFault::Read))))
-}
-
-/// Refuses a proof that the output would replace. A proof at which the system can't look is refused by its number, from 1 on.
-fn check_apart<R: Files>(rt: &R, out: &Output, proofs: &[&str]) -> Result<(), AppFault> {
-    let mut number: u64 = 0;
-    for proof in proofs {
-        number = number.saturating_add(1);
-        match out.replaces(rt, proof) {
-            Ok(false) => {}
-            Ok(true) => return Err(AppFault::CannotWrite),
-            Err(_) => return Err(unread(number)),
-        }
+) -> Result<Reply, CommandFault> {
+    let unread = Cell::new(None);
+    let mut proofs = proof_files(rt, proofs, shown, &unread)?;
+    let Prepared { label, ready } = output;
+    match make_page(rt, ready, texts, &mut proofs, out, shown) {
+        Ok(Made::Written(reply)) => Ok(reply),
+        Ok(Made::Drafted(status, draft)) => put_draft(rt, label, status, draft),
+        Err(fault) => Err(fault.refused(rt.alloc(), label, &unread)),
     }
-    Ok(())
 }
 
-/// Finds the output of a page; refuses a file that is read.
-fn find_output<R: Files + AllocGlobal>(rt: &R, files: PageFiles<'_>) -> Result<Output, AppFault> {
-    let inputs = [
-        (Input::Instance, files.instance),
-        (Input::Solution, files.solution),
-    ];
-    let out = find_apart(rt, files.out, &inputs)?;
-    check_apart(rt, &out, files.proofs)?;
-    Ok(out)
-}
-
-/// Writes a page to its file, and returns the status.
-pub fn page_to<R: Files + Clock + AllocGlobal, E: Write>(
+/// Reads the files of a page, and tries its output.
+fn open_page<R: World>(
     rt: &R,
+    request: &PageRequest<'_>,
+) -> Result<(TimetableTexts, Prepared<R::File>), CommandFault> {
+    let mut inputs = Inputs::new(rt.alloc());
+    let instance = inputs.add(Input::Instance, request.instance)?;
+    let solution = inputs.add(Input::Solution, request.solution)?;
+    inputs.add_proofs(&request.proofs)?;
+    let target = Target {
+        role: Role::Page,
+        path: request.out,
+    };
+    let out = target.find(rt, &inputs)?;
+    let texts = TimetableTexts {
+        instance: instance.read(rt)?,
+        solution: solution.read(rt)?,
+    };
+    Ok((texts, out.prepare(rt)?))
+}
+
+/// Writes a page to its file, and returns the reply.
+pub fn answer_page<R: World, O: Write, E: Write>(
+    rt: &R,
+    out: &mut O,
     err: &mut E,
-    files: PageFiles<'_>,
-    showing: Showing,
-) -> Result<u8, AppFault> {
-    let out = find_output(rt, files)?;
-    let instance = read_file(rt, files.instance, Input::Instance)?;
-    let solution = read_file(rt, files.solution, Input::Solution)?;
-    let ready = out.prepare(rt)?;
+    request: &PageRequest<'_>,
+) -> Result<Reply, CommandFault> {
+    let (texts, output) = open_page(rt, request)?;
     let texts = PageTexts {
-        instance: &instance,
-        solution: &solution,
+        instance: &texts.instance,
+        solution: &texts.solution,
         names: PageNames {
-            days: files.names.days,
-            periods: files.names.periods,
+            days: request.names.days,
+            periods: request.names.periods,
         },
     };
-    let shown = RefCell::new(ticker_of(rt, err, "page", showing));
-    let written = write_shown(rt, ready, texts, files.proofs, &shown);
+    let shown = RefCell::new(ticker_of(rt, err, "page", request.showing));
+    let reply = put_page(rt, output, texts, &request.proofs, out, &shown);
     clear(&shown);
-    written
+    reply
 }

@@ -1,22 +1,35 @@
 //! The files of `report`.
 
+use crate::timetable::read_timetable;
 use std::io::Write;
-use std::rt::Files;
-use tt_app_answers::{AppFault, Input};
-use tt_app_run_files::read_file;
+use tt_app_answers::AppFault;
+use tt_app_arguments::ReportRequest;
+use tt_app_files::WriteFault;
+use tt_app_run_files::{CommandFault, Remembering, World};
 use tt_app_texts::report;
-use tt_report::By;
 use tt_text::Writing;
 
-/// Writes a report, and returns the status.
-pub fn report_to<R: Files + AllocGlobal, O: Write>(
+/// Writes a report to standard output, and returns the status.
+pub fn report_to<R: World, O: Write>(
     rt: &R,
-    instance: &str,
-    solution: &str,
-    by: By,
+    request: ReportRequest<'_>,
     out: &mut O,
-) -> Result<u8, AppFault> {
-    let instance = read_file(rt, instance, Input::Instance)?;
-    let solution = read_file(rt, solution, Input::Solution)?;
-    report(rt.alloc(), &instance, &solution, by, &mut Writing::new(out))
+) -> Result<u8, CommandFault> {
+    let texts = read_timetable(rt, request.files)?;
+    let mut out = Remembering::new(out);
+    let mut sink = Writing::new(&mut out);
+    let written = report(
+        rt.alloc(),
+        &texts.instance,
+        &texts.solution,
+        request.by,
+        &mut sink,
+    );
+    match written {
+        Ok(status) => Ok(status),
+        Err(AppFault::CannotWrite) => {
+            Err(CommandFault::Write(WriteFault::Unprinted(out.reason())))
+        }
+        Err(fault) => Err(CommandFault::Call(fault)),
+    }
 }

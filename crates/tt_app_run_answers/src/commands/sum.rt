@@ -1,43 +1,51 @@
 //! The files of `sum`.
 
-use std::cell::RefCell;
+use std::cell::{Cell, RefCell};
 use std::io::Write;
-use std::rt::{Clock, Files};
-use tt_app_answers::{Answer, AppFault, Input};
-use tt_app_arguments::Showing;
+use tt_app_arguments::SumRequest;
 use tt_app_checks::{check_sum, sum};
-use tt_app_run_files::{Shown, clear, proof_files, read_file, ticker_of};
+use tt_app_run_files::{
+    CommandFault, Input, InputFile, Inputs, Reply, Shown, World, clear, fault_over, proof_files,
+    ticker_of,
+};
 
 /// Sums the bounds that proofs derive, and shows the progress of reading them.
-fn sum_files<R: Files + Clock + AllocGlobal, E: Write>(
+fn sum_files<R: World, E: Write>(
     rt: &R,
     instance: &[u8],
-    solution: Option<&str>,
+    solution: Option<InputFile<'_>>,
     proofs: &[&str],
     shown: &Shown<'_, R, E>,
-) -> Result<Answer, AppFault> {
-    let mut files = proof_files(rt, proofs, shown)?;
-    match solution {
-        None => sum(rt.alloc(), instance, &mut files),
+) -> Result<Reply, CommandFault> {
+    let alloc = rt.alloc();
+    let unread = Cell::new(None);
+    let mut files = proof_files(rt, proofs, shown, &unread)?;
+    let answer = match solution {
+        None => sum(alloc, instance, &mut files),
         Some(solution) => {
-            let solution = read_file(rt, solution, Input::Solution)?;
-            check_sum(rt.alloc(), instance, &solution, &mut files)
+            let solution = solution.read(rt)?;
+            check_sum(alloc, instance, &solution, &mut files)
         }
+    };
+    match answer {
+        Ok(answer) => Ok(Reply::to(alloc, answer)?),
+        Err(fault) => Err(fault_over(alloc, fault, unread.get())),
     }
 }
 
 /// Returns the answer of `sum`.
-pub fn answer_sum<R: Files + Clock + AllocGlobal, E: Write>(
+pub fn answer_sum<R: World, E: Write>(
     rt: &R,
     err: &mut E,
-    instance: &str,
-    solution: Option<&str>,
-    proofs: &[&str],
-    showing: Showing,
-) -> Result<Answer, AppFault> {
-    let instance = read_file(rt, instance, Input::Instance)?;
-    let shown = RefCell::new(ticker_of(rt, err, "sum", showing));
-    let answer = sum_files(rt, &instance, solution, proofs, &shown);
+    request: &SumRequest<'_>,
+) -> Result<Reply, CommandFault> {
+    let mut inputs = Inputs::new(rt.alloc());
+    let instance = inputs.add(Input::Instance, request.instance)?;
+    let solution = inputs.add_given(Input::Solution, request.solution)?;
+    inputs.add_proofs(&request.proofs)?;
+    let instance = instance.read(rt)?;
+    let shown = RefCell::new(ticker_of(rt, err, "sum", request.showing));
+    let reply = sum_files(rt, &instance, solution, &request.proofs, &shown);
     clear(&shown);
-    answer
+    reply
 }

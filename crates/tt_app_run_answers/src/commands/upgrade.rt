@@ -2,35 +2,44 @@
 
 use std::cell::RefCell;
 use std::io::Write;
-use std::rt::{Clock, Files};
-use tt_app_answers::{Answer, AppFault, Input};
-use tt_app_arguments::Showing;
+use tt_app_arguments::UpgradeRequest;
 use tt_app_checks::upgrade;
-use tt_app_run_files::{clear, find_apart, open_counted, read_file, ticker_of, write_given};
+use tt_app_files::{Batch, Role};
+use tt_app_run_files::{
+    CommandFault, Input, Inputs, Reply, Target, World, clear, fault_over_proof, open_counted,
+    reply_with, ticker_of,
+};
 use tt_text::Reading;
 
 /// Returns the answer of `upgrade`, once the proof is in its file.
-pub fn answer_upgrade<R: Files + Clock + AllocGlobal, E: Write>(
+pub fn answer_upgrade<R: World, E: Write>(
     rt: &R,
     err: &mut E,
-    paths: (&str, &str, &str),
-    showing: Showing,
-) -> Result<Answer, AppFault> {
-    let (instance, proof, out) = paths;
-    let out = find_apart(
-        rt,
-        out,
-        &[(Input::Instance, instance), (Input::Proof, proof)],
-    )?;
-    let instance = read_file(rt, instance, Input::Instance)?;
-    let shown = RefCell::new(ticker_of(rt, err, "upgrade", showing));
-    let Some(proof) = open_counted(rt, proof, None, &shown) else {
-        return Err(AppFault::CannotRead(Input::Proof));
+    request: UpgradeRequest<'_>,
+) -> Result<Reply, CommandFault> {
+    let alloc = rt.alloc();
+    let mut inputs = Inputs::new(alloc);
+    let instance = inputs.add(Input::Instance, request.instance)?;
+    let proof = inputs.add(Input::Proof, request.proof)?;
+    let target = Target {
+        role: Role::Proof,
+        path: request.out,
+    };
+    let out = target.find(rt, &inputs)?;
+    let instance = instance.read(rt)?;
+    let shown = RefCell::new(ticker_of(rt, err, "upgrade", request.showing));
+    let mut file = match open_counted(rt, proof.path, None, &shown) {
+        Ok(file) => file,
+        Err(reason) => return Err(proof.unread(alloc, reason)),
     };
     let mut out = out.prepare(rt)?;
-    let answer = upgrade(rt.alloc(), &instance, &mut Reading::new(proof));
+    let answer = upgrade(alloc, &instance, &mut Reading::new(&mut file));
     clear(&shown);
-    let answer = answer?;
-    write_given(rt, &mut out, &answer.proof)?;
-    Ok(answer)
+    match answer {
+        Ok(answer) => {
+            let batch = out.write_given(rt, Batch::new(alloc), &answer.proof)?;
+            reply_with(rt, batch, answer.status, answer.out)
+        }
+        Err(fault) => Err(fault_over_proof(alloc, fault, proof.path, file.reason())),
+    }
 }

@@ -1,17 +1,13 @@
 //! The files of `validate`.
 
-use std::rt::Files;
-use tt_app_answers::{Answer, AppFault, Input};
+use crate::timetable::read_timetable;
+use tt_app_arguments::TimetableFiles;
 use tt_app_checks::validate;
-use tt_app_run_files::read_file;
+use tt_app_run_files::{CommandFault, Reply, World};
 
 /// Returns the answer of `validate`.
-pub fn answer_validate<R: Files + AllocGlobal>(
-    rt: &R,
-    instance: &str,
-    solution: &str,
-) -> Result<Answer, AppFault> {
-    let instance = read_file(rt, instance, Input::Instance)?;
-    let solution = read_file(rt, solution, Input::Solution)?;
-    validate(rt.alloc(), &instance, &solution)
+pub fn answer_validate<R: World>(rt: &R, files: TimetableFiles<'_>) -> Result<Reply, CommandFault> {
+    let texts = read_timetable(rt, files)?;
+    let answer = validate(rt.alloc(), &texts.instance, &texts.solution)?;
+    Ok(Reply::to(rt.alloc(), answer)?)
 }

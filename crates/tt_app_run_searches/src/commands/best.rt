@@ -1,135 +1,131 @@
 //! The files of `best`.
 
-use crate::saving::saved_instance;
+use crate::best_files::{BestFiles, BestShelf, PAGE, TABLE, TREE};
+use crate::best_keeper::BestKeeper;
+use crate::proof_files::GROUPS;
+use crate::saving::kept_table;
+use std::alloc::AllocError;
+use std::cell::Cell;
 use std::io::Write;
-use std::rt::{Clock, Files};
-use tt_app_answers::{Answer, AppFault, Input};
-use tt_app_arguments::{BestSearch, Showing};
-use tt_app_files::{Batch, Ready};
-use tt_app_run_files::{Folder, Keeper, Ticker, read_file, ticker_of};
-use tt_app_searches::{BestAnswer, Rounds, best_watched};
+use tt_app_answers::AppFault;
+use tt_app_arguments::BestRequest;
+use tt_app_files::Batch;
+use tt_app_run_files::{
+    CommandFault, Folder, Input, InputFile, Inputs, Keeper, Prepared, Reply, Ticker, World,
+    reply_with, ticker_of,
+};
+use tt_app_searches::{BestAnswer, BestSearch, best};
 use tt_page::STYLE;
 
-/// The name of the best timetable's file.
-const TABLE: &str = "best.sol";
-
-/// The name of the page that shows it.
-const PAGE: &str = "page.html";
-
-/// The name of the file of groups.
-const GROUPS: &str = "groups.proof";
-
-/// The name of the tree proof.
-const TREE: &str = "tree.proof";
-
-/// Returns the name of a proof's file, by its first bytes.
-fn name_of(proof: &[u8]) -> &'static str {
-    if proof.starts_with(b"CTTG") {
-        GROUPS
-    } else {
-        TREE
-    }
+/// The texts with which the search begins.
+#[derive(Debug, Drop)]
+struct Start {
+    instance: Vec<u8>,
+    table: Option<Vec<u8>>,
+    /// The proofs of an earlier run.
+    proofs: Vec<Vec<u8>>,
 }
 
-/// Adds a file of this name to the new files.
-fn write_file<R: Files + Clock + AllocGlobal>(
-    rt: &R,
-    folder: Folder<'_>,
-    batch: Batch,
-    name: &str,
-    text: &[u8],
-) -> Result<Batch, AppFault> {
-    match folder.prepare(rt, name) {
-        Ok(mut ready) => Ok(batch.write(rt, &mut ready, text)?),
-        Err(fault) => {
-            batch.abandon(rt);
-            Err(fault)
+/// Searches, shows the progress on standard error, and keeps what was found on the way if the options ask for it.
+fn search_shown<'k, R: World, E: Write>(
+    files: &'k BestFiles<'_, R>,
+    ticker: &'k mut Ticker<'_, R, E>,
+    start: &'k Start,
+    table: &'k mut Prepared<R::File>,
+    request: BestRequest<'_>,
+) -> Result<BestAnswer, AppFault> {
+    let (rt, search) = (files.rt, request.search);
+    let alloc = rt.alloc();
+    let kept = kept_table(alloc, &start.instance, table, search.keeps, true);
+    let shelf = BestShelf { files };
+    let keeper = Keeper::new(rt, ticker, search.seconds, kept, shelf, search.keeps);
+    let mut keeper = BestKeeper::new(keeper, files, search.keeps);
+    let search = BestSearch {
+        rounds: search.rounds,
+        seed: search.seed,
+        start: start.table.as_ref().map(|text| text.as_slice()),
+        proofs: &start.proofs,
+    };
+    best(alloc, &start.instance, search, STYLE, &mut keeper)
+}
+
+/// Reads the proofs that an earlier run left in the folder; a file that can't be read is passed over.
+fn read_proofs<R: World>(rt: &R, folder: Folder<'_>) -> Result<Vec<Vec<u8>>, CommandFault> {
+    let mut proofs = Vec::new(rt.alloc());
+    for file in [GROUPS, TREE] {
+        let path = folder.path_of(rt, file)?;
+        let input = InputFile {
+            input: Input::Proof,
+            path: path.as_str(),
+        };
+        match input.read(rt) {
+            Ok(text) => proofs.push(text).map_err(AllocError::from)?,
+            Err(CommandFault::OutOfMemory) => return Err(CommandFault::OutOfMemory),
+            Err(_) => {}
         }
     }
-}
-
-/// Writes the timetable with its page, if there is one, and the proofs.
-fn write_files<R: Files + Clock + AllocGlobal>(
-    rt: &R,
-    folder: Folder<'_>,
-    table: &mut Ready<R::File>,
-    answer: &BestAnswer,
-) -> Result<(), AppFault> {
-    let batch = Batch::new(rt.alloc());
-    let batch = match &answer.page {
-        Some(text) => write_file(rt, folder, batch, PAGE, text)?,
-        None => batch,
-    };
-    let mut batch = match &answer.table {
-        Some(text) => batch.write(rt, table, text)?,
-        None => batch,
-    };
-    for proof in &answer.proofs {
-        batch = write_file(rt, folder, batch, name_of(proof), proof)?;
-    }
-    Ok(batch.put(rt)?)
-}
-
-/// Searches, shows the progress on standard error, and saves the best timetable on the way if the options ask for it.
-fn search_shown<'k, R: Files + Clock + AllocGlobal, E: Write>(
-    rt: &'k R,
-    ticker: &'k mut Ticker<'_, R, E>,
-    instance: &'k [u8],
-    table: &'k mut Ready<R::File>,
-    search: BestSearch,
-) -> Result<BestAnswer, AppFault> {
-    let saved = saved_instance(rt.alloc(), instance, search.keeps);
-    let mut keeper = Keeper::new(rt, ticker, table, saved, true);
-    let rounds = Rounds {
-        count: search.rounds,
-        seed: search.seed,
-    };
-    best_watched(rt.alloc(), instance, rounds, STYLE, &mut keeper)
+    Ok(proofs)
 }
 
 /// Searches, and writes the results.
-fn find_best<R: Files + Clock + AllocGlobal, E: Write>(
+fn find_best<R: World, E: Write>(
     rt: &R,
     err: &mut E,
     folder: Folder<'_>,
-    instance: &[u8],
-    search: BestSearch,
-    showing: Showing,
-) -> Result<Answer, AppFault> {
+    mut start: Start,
+    request: BestRequest<'_>,
+) -> Result<Reply, CommandFault> {
     folder.check(rt, &[TABLE, PAGE, GROUPS, TREE])?;
-    let mut table = folder.prepare(rt, TABLE)?;
-    let mut ticker = ticker_of(rt, err, "best", showing);
-    let found = search_shown(rt, &mut ticker, instance, &mut table, search);
+    let found = folder.find(rt, TABLE)?;
+    let is_own = match request.start {
+        Some(path) => found.is_read(rt, path)?,
+        None => false,
+    };
+    if start.table.is_some() {
+        start.proofs = read_proofs(rt, folder)?;
+    }
+    let files = BestFiles {
+        rt,
+        folder,
+        has_table: Cell::new(is_own),
+        has_proofs: Cell::new(!start.proofs.is_empty()),
+    };
+    let mut table = found.prepare(rt)?;
+    let mut ticker = ticker_of(rt, err, "best", request.showing);
+    let answer = search_shown(&files, &mut ticker, &start, &mut table, request);
     ticker.clear();
-    let found = found?;
-    write_files(rt, folder, &mut table, &found)?;
-    let BestAnswer { status, out, .. } = found;
-    Ok(Answer {
-        status,
-        out,
-        table: None,
-        proof: None,
-    })
+    let answer = answer?;
+    let batch = files.write(Batch::new(rt.alloc()), &answer)?;
+    reply_with(rt, batch, answer.status, answer.out)
 }
 
 /// Returns the answer, once the timetable, its page and the proofs are in their files.
-pub fn answer_best<R: Files + Clock + AllocGlobal, E: Write>(
+pub fn answer_best<R: World, E: Write>(
     rt: &R,
     err: &mut E,
-    paths: (&str, &str),
-    search: BestSearch,
-    showing: Showing,
-) -> Result<Answer, AppFault> {
-    let (path, folder) = paths;
-    let folder = Folder {
-        path: folder,
-        inputs: &[(Input::Instance, path)],
+    request: BestRequest<'_>,
+) -> Result<Reply, CommandFault> {
+    let mut inputs = Inputs::new(rt.alloc());
+    let instance = inputs.add(Input::Instance, request.instance)?;
+    // The timetable from which the search begins may be the one that it replaces, so it isn't among the inputs.
+    let mut starts = inputs.copy()?;
+    let start = starts.add_given(Input::Solution, request.start)?;
+    let start = Start {
+        instance: instance.read(rt)?,
+        table: match start {
+            Some(file) => Some(file.read(rt)?),
+            None => None,
+        },
+        proofs: Vec::new(rt.alloc()),
     };
-    let instance = read_file(rt, path, Input::Instance)?;
+    let folder = Folder {
+        path: request.folder,
+        inputs: &inputs,
+    };
     let is_made = folder.make(rt)?;
-    let answer = find_best(rt, err, folder, &instance, search, showing);
-    if answer.is_err() {
+    let reply = find_best(rt, err, folder, start, request);
+    if reply.is_err() {
         folder.remove_made(rt, is_made);
     }
-    answer
+    reply
 }

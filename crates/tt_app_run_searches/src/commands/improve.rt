@@ -1,71 +1,80 @@
 //! The files of `improve`.
 
-use crate::saving::saved_instance;
+use crate::saving::kept_table;
 use std::io::Write;
-use std::rt::{Clock, Files};
-use tt_app_answers::{Answer, AppFault, Input};
-use tt_app_arguments::{Search, Showing};
-use tt_app_files::Ready;
-use tt_app_run_files::{Keeper, Ticker, find_apart, read_file, ticker_of, write_given};
-use tt_app_searches::{complete_and_improve, improve_in_runs};
+use tt_app_answers::{Answer, AppFault};
+use tt_app_arguments::{ImproveRequest, Search};
+use tt_app_files::{Batch, Role};
+use tt_app_run_files::{
+    CommandFault, Input, Inputs, Keeper, NoShelf, Prepared, Reply, Target, Ticker, World,
+    reply_with, ticker_of,
+};
+use tt_app_searches::{ImproveSearch, improve};
 
-/// Improves a timetable, shows the progress on standard error, and saves timetables on the way if the options ask for it.
-fn improve_shown<'k, R: Files + Clock + AllocGlobal, E: Write>(
+/// The bytes of an instance and of the solution from which a search begins.
+#[derive(Clone, Copy)]
+struct Start<'a> {
+    instance: &'a [u8],
+    solution: &'a [u8],
+}
+
+/// Improves a timetable, shows the progress on standard error, and keeps timetables on the way if the options ask for it.
+fn improve_shown<'k, R: World, E: Write>(
     rt: &'k R,
     ticker: &'k mut Ticker<'_, R, E>,
-    instance: &'k [u8],
-    solution: &[u8],
-    out: &'k mut Ready<R::File>,
+    start: Start<'k>,
+    out: &'k mut Prepared<R::File>,
     search: Search,
 ) -> Result<Answer, AppFault> {
-    let saved = saved_instance(rt.alloc(), instance, search.keeps);
-    let mut keeper = Keeper::new(rt, ticker, out, saved, false);
+    let table = kept_table(rt.alloc(), start.instance, out, search.keeps, false);
+    let mut keeper = Keeper::new(rt, ticker, search.seconds, table, NoShelf, false);
     let Search {
         seed,
         steps,
         runs,
+        completes,
         ..
     } = search;
-    if search.completes {
-        return complete_and_improve(
-            rt.alloc(),
-            instance,
-            solution,
-            seed,
-            steps,
-            runs,
-            &mut keeper,
-        );
-    }
-    improve_in_runs(
-        rt.alloc(),
-        instance,
-        solution,
+    let search = ImproveSearch {
         seed,
         steps,
         runs,
+        completes,
+    };
+    improve(
+        rt.alloc(),
+        start.instance,
+        start.solution,
+        search,
         &mut keeper,
     )
 }
 
 /// Returns the answer of `improve`, once the timetable is in its file.
-pub fn answer_improve<R: Files + Clock + AllocGlobal, E: Write>(
+pub fn answer_improve<R: World, E: Write>(
     rt: &R,
     err: &mut E,
-    paths: (&str, &str, &str),
-    search: Search,
-    showing: Showing,
-) -> Result<Answer, AppFault> {
-    let (instance, solution, out) = paths;
-    let inputs = [(Input::Instance, instance), (Input::Solution, solution)];
-    let out = find_apart(rt, out, &inputs)?;
-    let instance = read_file(rt, instance, Input::Instance)?;
-    let solution = read_file(rt, solution, Input::Solution)?;
+    request: ImproveRequest<'_>,
+) -> Result<Reply, CommandFault> {
+    let mut inputs = Inputs::new(rt.alloc());
+    let instance = inputs.add(Input::Instance, request.instance)?;
+    let solution = inputs.add(Input::Solution, request.solution)?;
+    let target = Target {
+        role: Role::Solution,
+        path: request.out,
+    };
+    let out = target.find(rt, &inputs)?;
+    let instance = instance.read(rt)?;
+    let solution = solution.read(rt)?;
     let mut out = out.prepare(rt)?;
-    let mut ticker = ticker_of(rt, err, "improve", showing);
-    let answer = improve_shown(rt, &mut ticker, &instance, &solution, &mut out, search);
+    let start = Start {
+        instance: &instance,
+        solution: &solution,
+    };
+    let mut ticker = ticker_of(rt, err, "improve", request.showing);
+    let answer = improve_shown(rt, &mut ticker, start, &mut out, request.search);
     ticker.clear();
     let answer = answer?;
-    write_given(rt, &mut out, &answer.table)?;
-    Ok(answer)
+    let batch = out.write_given(rt, Batch::new(rt.alloc()), &answer.table)?;
+    reply_with(rt, batch, answer.status, answer.out)
 }

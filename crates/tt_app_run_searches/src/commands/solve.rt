@@ -1,69 +1,107 @@
 //! The files of `solve`.
 
-use crate::saving::saved_instance;
+use crate::saving::kept_table;
+use std::alloc::AllocError;
 use std::io::Write;
-use std::rt::{Clock, Files};
-use tt_app_answers::{Answer, AppFault, Input};
-use tt_app_arguments::{MAX_SOLVE_NODES, Showing, TreeSearch};
-use tt_app_files::{Batch, Ready};
-use tt_app_run_files::{Keeper, Ticker, find_apart, read_file, ticker_of};
-use tt_app_searches::solve_watched;
+use tt_app_answers::{Answer, AppFault};
+use tt_app_arguments::{MAX_SOLVE_NODES, SolveRequest, TreeSearch};
+use tt_app_files::{Batch, Ready, Role};
+use tt_app_run_files::{
+    CommandFault, Input, Inputs, Keeper, Prepared, Reply, Shelf, Target, Ticker, World, reply_with,
+    ticker_of,
+};
+use tt_app_searches::{TreeEffort, solve};
 
-/// Searches for a best timetable, shows the progress on standard error, and saves timetables on the way if the options ask for it.
-fn solve_shown<'k, R: Files + Clock + AllocGlobal, E: Write>(
+/// The file in which the proof of a tree is kept on the way.
+struct ProofShelf<'s, R: World> {
+    rt: &'s R,
+    proof: &'s mut Prepared<R::File>,
+}
+
+impl<'s, R: World> Drop for ProofShelf<'s, R> {
+    fn drop(self) {
+        let ProofShelf { rt: _, proof: _ } = self;
+    }
+}
+
+impl<'s, R: World> Shelf for ProofShelf<'s, R> {
+    fn put_proofs(&mut self, proofs: &[Vec<u8>]) -> Result<(), CommandFault> {
+        if !matches!(self.proof.ready, Ready::Place(_)) {
+            return Ok(());
+        }
+        let mut batch = Batch::new(self.rt.alloc());
+        for proof in proofs {
+            batch = self.proof.write(self.rt, batch, proof)?;
+        }
+        let _ = batch.put(self.rt)?;
+        Ok(())
+    }
+
+    fn clear(&mut self, batch: Batch) -> Result<Batch, AllocError> {
+        Ok(batch)
+    }
+}
+
+/// The outputs of `solve`.
+struct Outputs<F> {
+    table: Prepared<F>,
+    proof: Prepared<F>,
+}
+
+impl<F: Drop> Drop for Outputs<F> {
+    fn drop(self) {
+        let Outputs { table: _, proof: _ } = self;
+    }
+}
+
+/// Searches for a best timetable, shows the progress on standard error, and keeps timetables and proofs on the way if the options ask for it.
+fn solve_shown<'k, R: World, E: Write>(
     rt: &'k R,
     ticker: &'k mut Ticker<'_, R, E>,
     instance: &'k [u8],
-    out: &'k mut Ready<R::File>,
-    tree: TreeSearch,
+    outputs: &'k mut Outputs<R::File>,
+    search: TreeSearch,
 ) -> Result<Answer, AppFault> {
-    let saved = saved_instance(rt.alloc(), instance, tree.keeps);
-    let mut keeper = Keeper::new(rt, ticker, out, saved, true);
-    let nodes = tree.nodes.clamp(1, MAX_SOLVE_NODES);
-    solve_watched(rt.alloc(), instance, tree.seed, nodes, &mut keeper)
-}
-
-/// Writes the best timetable, if there is one, and the proof.
-fn write_both<R: Files + Clock + AllocGlobal>(
-    rt: &R,
-    out: &mut Ready<R::File>,
-    proof: &mut Ready<R::File>,
-    answer: &Answer,
-) -> Result<(), AppFault> {
-    let batch = Batch::new(rt.alloc());
-    let batch = match &answer.table {
-        Some(bytes) => batch.write(rt, out, bytes)?,
-        None => batch,
+    let Outputs { table, proof } = outputs;
+    let table = kept_table(rt.alloc(), instance, table, search.keeps, true);
+    let shelf = ProofShelf { rt, proof };
+    let mut keeper = Keeper::new(rt, ticker, search.seconds, table, shelf, search.keeps);
+    let effort = TreeEffort {
+        seed: search.seed,
+        nodes: search.nodes.clamp(1, MAX_SOLVE_NODES),
     };
-    let batch = match &answer.proof {
-        Some(bytes) => batch.write(rt, proof, bytes)?,
-        None => batch,
-    };
-    Ok(batch.put(rt)?)
+    solve(rt.alloc(), instance, effort, &mut keeper)
 }
 
 /// Returns the answer of `solve`, once the best timetable and the proof are in their files.
-pub fn answer_solve<R: Files + Clock + AllocGlobal, E: Write>(
+pub fn answer_solve<R: World, E: Write>(
     rt: &R,
     err: &mut E,
-    paths: (&str, &str, &str),
-    tree: TreeSearch,
-    showing: Showing,
-) -> Result<Answer, AppFault> {
-    let (instance, out, proof) = paths;
-    let inputs = [(Input::Instance, instance)];
-    let out = find_apart(rt, out, &inputs)?;
-    let proof = find_apart(rt, proof, &inputs)?;
-    if out.is_same(rt, &proof)? {
-        return Err(AppFault::CannotWrite);
-    }
-    let instance = read_file(rt, instance, Input::Instance)?;
-    let mut out = out.prepare(rt)?;
-    let mut proof = proof.prepare(rt)?;
-    let mut ticker = ticker_of(rt, err, "solve", showing);
-    let answer = solve_shown(rt, &mut ticker, &instance, &mut out, tree);
+    request: SolveRequest<'_>,
+) -> Result<Reply, CommandFault> {
+    let mut inputs = Inputs::new(rt.alloc());
+    let instance = inputs.add(Input::Instance, request.instance)?;
+    let table = Target {
+        role: Role::Solution,
+        path: request.out,
+    };
+    let proof = Target {
+        role: Role::Proof,
+        path: request.proof,
+    };
+    let table = table.find(rt, &inputs)?;
+    let proof = proof.find(rt, &inputs)?.check_apart(rt, &table)?;
+    let instance = instance.read(rt)?;
+    let mut outputs = Outputs {
+        table: table.prepare(rt)?,
+        proof: proof.prepare(rt)?,
+    };
+    let mut ticker = ticker_of(rt, err, "solve", request.showing);
+    let answer = solve_shown(rt, &mut ticker, &instance, &mut outputs, request.search);
     ticker.clear();
     let answer = answer?;
-    write_both(rt, &mut out, &mut proof, &answer)?;
-    Ok(answer)
+    let batch = Batch::new(rt.alloc());
+    let batch = outputs.table.write_given(rt, batch, &answer.table)?;
+    let batch = outputs.proof.write_given(rt, batch, &answer.proof)?;
+    reply_with(rt, batch, answer.status, answer.out)
 }

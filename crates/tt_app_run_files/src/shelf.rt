@@ -1,0 +1,28 @@
+//! Where the proofs of a search are kept on the way.
+
+use crate::fault::CommandFault;
+use std::alloc::AllocError;
+use tt_app_files::Batch;
+
+/// The files beside the timetable of a search.
+pub trait Shelf {
+    /// Writes the texts of proofs to their files.
+    fn put_proofs(&mut self, proofs: &[Vec<u8>]) -> Result<(), CommandFault>;
+
+    /// Adds the files that an earlier run left beside the timetable to a batch that writes it.
+    fn clear(&mut self, batch: Batch) -> Result<Batch, AllocError>;
+}
+
+/// No place for proofs.
+#[derive(Clone, Copy, Debug)]
+pub struct NoShelf;
+
+impl Shelf for NoShelf {
+    fn put_proofs(&mut self, _proofs: &[Vec<u8>]) -> Result<(), CommandFault> {
+        Ok(())
+    }
+
+    fn clear(&mut self, batch: Batch) -> Result<Batch, AllocError> {
+        Ok(batch)
+    }
+}
