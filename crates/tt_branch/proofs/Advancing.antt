@@ -4,13 +4,12 @@ use Rattle.std.proofs.Common.{not, get_or}
 use Rattle.std.specs.Prelude.{slice_get, slice_set, IfSome, IsNone}
 use Rattle.std.specs.Option.{is_some}
 use Rattle.tt_facts_path.specs.declared.facts.Fact.{Fact}
-use Rattle.std.specs.List.{AllZip, AllByRecursion, list_any}
+use Rattle.std.specs.List.{AllByRecursion, list_any}
 use Rattle.std.proofs.lemmas.List.Sums.{sum_by-append, count_by-le-length}
 use Rattle.std.proofs.lemmas.Bool.{or_parts, or_left, or_right}
 use Rattle.std.proofs.lemmas.Option.{get_or_from_slice_get}
 use Rattle.tt_lists.proofs.Sums.{one_if, count_by-cons}
 use Rattle.tt_lists.proofs.Zipped.{zip_and, zip_cut, zip_other}
-use Rattle.tt_lists.proofs.Tested.{each_at}
 use Rattle.tt_lists.proofs.Cuts.{cut_at, set_cut, get_next, get_after}
 use Rattle.tt_instance_data.specs.Problem.{Problem}
 use Rattle.tt_instance_data.specs.declared.cell.Cell.{Cell}
@@ -199,6 +198,10 @@ open_any : (q : TreeNode → Bool) (tree_nodes : List TreeNode) (k : ℕ) (e : T
 open_any q [] k e at o = cc
 open_any q (x ∷ xs) zero e at o = let same : x ≡ e = cc in or_left (q x) (list_any q xs) (ap q same ∙ o)
 open_any q (x ∷ xs) (suc k) e at o = or_right (q x) (list_any q xs) (open_any q xs k e at o)
+
+-- the end of the rounds at an open node, before the limit
+pub ends_early : (opened : ℕ) (tree_nodes : List TreeNode) (place : ℕ) → IsOpenAt tree_nodes place → opened_in tree_nodes ≡ opened → length tree_nodes + 1 ≤ 2 * opened → EndsAt opened tree_nodes false
+ends_early opened tree_nodes place some e h = ends_open opened tree_nodes (open_any (λ x. is_open x.mark) tree_nodes place some.0 some.1 some.2) e h
 
 -- the end of the rounds, by the next open node
 pub ends_by : (limit : ℕ) (tree_nodes : List TreeNode) (o : Option ℕ) (r : Bool) → is_some o ≡ not r → IfSome o (IsOpenAt tree_nodes) → (IsNone o → list_any (λ e. is_open e.mark) tree_nodes ≡ false) → opened_in tree_nodes ≡ limit → length tree_nodes + 1 ≤ 2 * limit → EndsAt limit tree_nodes r

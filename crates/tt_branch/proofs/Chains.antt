@@ -1,9 +1,9 @@
 -- Paths by links to the parent, one link at a time.
 use Rattle.std.proofs.Common.{◌≡◌, ℕ, zero, suc, ◌+◌, ◌-◌, ◌<◌, ◌≤◌, inl, inr, List, [], ◌∷◌, ◌++◌, Option, Some, None, refl, sym, ap, ◌∙◌, subst, arith, append_assoc, length, get_or}
-use Rattle.std.specs.Prelude.{slice_get, reverse, ◌⊎◌}
+use Rattle.std.specs.Prelude.{slice_get, reverse}
 use Rattle.std.proofs.lemmas.List.{reverse-append}
 use Rattle.std.proofs.lemmas.Option.{slice_get-get_or}
-use Rattle.tt_lists.proofs.Cuts.{at_cases, at_first, at_next}
+use Rattle.tt_lists.proofs.Cuts.{at_cases, at_first}
 use Rattle.tt_facts_path.specs.declared.facts.Fact.{Fact}
 use Rattle.tt_branch.specs.declared.links.Link.{Link}
 use Rattle.tt_branch.specs.Links.{chain, path_at, AreLinks}

@@ -14,7 +14,7 @@ use Rattle.tt_rules.specs.Score.{IsFeasible}
 use Rattle.tt_facts_path.specs.Live.{least, least_with}
 use Rattle.tt_facts_path.specs.declared.facts.Fact.{Fact}
 use Rattle.tt_facts_path.proofs.Least.{least_with-le}
-use Rattle.tt_leaf_rules.specs.Claims.{is_fair, total_of}
+use Rattle.tt_leaf_rules.specs.Claims.{total_of}
 use Rattle.tt_leaf_rules.specs.Leaves.{IsRight}
 use Rattle.tt_leaf_rules.specs.Outcomes.{IsClaimedOnce}
 use Rattle.tt_leaf_rules.proofs.Rightness.{targets_once}
@@ -23,17 +23,16 @@ use Rattle.tt_leaf_data.specs.declared.leaf.Bound.TheVariants.{AtLeast, Nothing}
 use Rattle.tt_leaf_data.specs.declared.leaf.Claim.TheVariants.{Days}
 use Rattle.tt_leaf_data.specs.declared.leaf.Leaf.{Leaf}
 use Rattle.tt_leaf_data.specs.declared.leaf.Leaf.TheVariants.{Empty, Many, Clique, Slots, Cost}
-use Rattle.std.specs.Prelude.{nat_le}
-use Rattle.std.specs.List.{list_all}
 use Rattle.tt_proof_read.specs.Spelling.{IsBound}
 use Rattle.tt_proof_read.specs.Trees.{preorder, OnPath, on_paths}
 use Rattle.tt_proof_read.specs.declared.node.Node.{Node}
 use Rattle.tt_proof_read.specs.declared.node.Node.TheVariants as node
 use Rattle.tt_proof_read.proofs.Depth.{leaves_low}
 use Rattle.tt_proof_text.specs.Within.{HasShortPrices}
-use Rattle.tt_proof_check.specs.Derives.{Derives, HoldsOfAll, Proves}
+use Rattle.tt_proof_check.specs.Derives.{Derives}
 use Rattle.tt_proof_check.specs.Nodes.{IsNodeOf}
 use Rattle.tt_proof_check.proofs.Reading.{whole_places}
+use Rattle.tt_proof_check.proofs.Soundness.{root_sound}
 use Rattle.tt_leaf.specs.Best.{best_claims}
 use Rattle.tt_leaf.proofs.Answering.{best_answer}
 use Rattle.tt_leaf.proofs.Claims.{once}
@@ -209,43 +208,30 @@ module _ (p : Problem) (ok : IsInstance p) where
       };
     }
 
-    -- the nodes prove the bound reported
-    pub proves : (finished : Bool) (lowest : Option ℕ) → EndsAt limit tree_nodes finished → (finished ≡ false → lowest ≡ least (worths_of p links tree_nodes)) → Proves p (shown_bound (final_bound p best) lowest finished) nodes
-    proves true lowest ends same = let d = finished_proves p best links tree_nodes u.grown (omega (arith, ends.1)) ends.0 in (u.grown.tree, spelled, d.0, d.1)
-    proves false lowest ends same =
-        let w = least_worth links tree_nodes ends.0 in
-        let reported : lowest ≡ Some w.0 = same refl ∙ w.1 in
-        let shown : shown_bound (final_bound p best) lowest false ≡ AtLeast w.0 = ap (λ o. shown_bound (final_bound p best) o false) reported in
-        let found : least (worths p (on_paths [] u.grown.tree)) ≡ Some w.0 = sym (ap least (worths_are best links tree_nodes u.grown)) ∙ w.1 in
-        let d = unfinished_proves p best links tree_nodes u.grown w.0 found (omega (arith, ends.2)) in
-        (u.grown.tree, spelled, d.0, subst (λ b. Derives p b [] u.grown.tree) (sym shown) d.1)
-
-    -- the end of a search whose proof was checked
-    pub concluded : (finished : Bool) (lowest : Option ℕ) → BeginsWell p best → EndsAt limit tree_nodes finished → (finished ≡ false → lowest ≡ least (worths_of p links tree_nodes)) → HoldsOfAll p (shown_bound (final_bound p best) lowest finished) → IsOutcome p limit best (shown_bound (final_bound p best) lowest finished) (Some nodes) finished
-    concluded true lowest begun ends same holds = record {
-      feasible = best_feasible s.best u.kept;
-      begun = begun;
-      nodes = nodes;
-      answered = refl;
-      tree = u.grown.tree;
-      searched = searched (final_bound p best) (omega (arith, ends.1)) (bound_final s.best u.kept) (finished_proves p best links tree_nodes u.grown (omega (arith, ends.1)) ends.0).1;
-      ends = record { at_most = omega (arith, as_long, ends.1); bound = refl };
-      holds = holds;
-    }
-    concluded false lowest begun ends same holds =
+    -- the end of a search
+    pub concluded : (finished : Bool) (lowest : Option ℕ) → BeginsWell p best → EndsAt limit tree_nodes finished → (finished ≡ false → lowest ≡ least (worths_of p links tree_nodes)) → IsOutcome p limit best (shown_bound (final_bound p best) lowest finished) nodes finished
+    concluded true lowest begun ends same =
+        let derives = (finished_proves p best links tree_nodes u.grown (omega (arith, ends.1)) ends.0).1 in
+        record {
+          feasible = best_feasible s.best u.kept;
+          begun = begun;
+          tree = u.grown.tree;
+          searched = searched (final_bound p best) (omega (arith, ends.1)) (bound_final s.best u.kept) derives;
+          ends = record { at_most = omega (arith, as_long, ends.1); bound = refl };
+          holds = root_sound p (final_bound p best) u.grown.tree derives;
+        }
+    concluded false lowest begun ends same =
         let w = least_worth links tree_nodes ends.0 in
         let reported : lowest ≡ Some w.0 = same refl ∙ w.1 in
         let shown : shown_bound (final_bound p best) lowest false ≡ AtLeast w.0 = ap (λ o. shown_bound (final_bound p best) o false) reported in
         let found : least (worths p (on_paths [] u.grown.tree)) ≡ Some w.0 = sym (ap least (worths_are best links tree_nodes u.grown)) ∙ w.1 in
         let bound : IsBound (shown_bound (final_bound p best) lowest false) = subst IsBound (sym shown) w.2 in
-        let derives = (unfinished_proves p best links tree_nodes u.grown w.0 found (omega (arith, ends.2))).1 in
+        let derives = subst (λ (b : Bound). Derives p b [] u.grown.tree) (sym shown) (unfinished_proves p best links tree_nodes u.grown w.0 found (omega (arith, ends.2))).1 in
         record {
           feasible = best_feasible s.best u.kept;
           begun = begun;
-          nodes = nodes;
-          answered = refl;
           tree = u.grown.tree;
-          searched = searched (shown_bound (final_bound p best) lowest false) (omega (arith, ends.2)) bound (subst (λ b. Derives p b [] u.grown.tree) (sym shown) derives);
+          searched = searched (shown_bound (final_bound p best) lowest false) (omega (arith, ends.2)) bound derives;
           ends = record {
             enough = omega (arith, as_long, ends.1);
             at_most = omega (arith, as_long, ends.2);
@@ -254,7 +240,7 @@ module _ (p : Problem) (ok : IsInstance p) where
             bound = shown;
             greedy = greedy p best links tree_nodes u.grown;
           };
-          holds = holds;
+          holds = root_sound p (shown_bound (final_bound p best) lowest false) u.grown.tree derives;
         }
 
 -- a search that has ended has at most 131,073 nodes

@@ -1,8 +1,7 @@
 -- The nodes and links of a node that is split, in the order in which the code inserts them.
-use Rattle.std.proofs.Common.{◌≡◌, ℕ, suc, ◌+◌, List, [], ◌∷◌, ◌++◌, length, length-append, Some, sym, ap, ◌∙◌, arith, get_or}
-use Rattle.std.specs.Prelude.{slice_get, slice_set, true, false}
+use Rattle.std.proofs.Common.{◌≡◌, ℕ, suc, ◌+◌, List, [], ◌∷◌, ◌++◌, length, length-append, sym, ap, ◌∙◌, arith, get_or}
+use Rattle.std.specs.Prelude.{slice_set, true, false}
 use Rattle.std.specs.List.{insert}
-use Rattle.std.proofs.Common.{zero, ◌<◌}
 use Rattle.std.proofs.lemmas.Option.{get_or_from_slice_get}
 use Rattle.tt_lists.proofs.Cuts.{IsCut, cut_at, set_cut, insert_cut}
 use Rattle.tt_facts_path.specs.declared.facts.Pattern.{Pattern}

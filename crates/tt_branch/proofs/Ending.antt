@@ -1,12 +1,12 @@
 -- What the tree of a search proves at its end.
-use Rattle.std.proofs.Common.{◌≡◌, ℕ, suc, ◌+◌, ◌*◌, ◌≤◌, Bool, true, false, List, [], ◌∷◌, ◌++◌, map, Option, Some, None, length, length-append, refl, sym, ap, ◌∙◌, subst, arith, inl, inr, min}
+use Rattle.std.proofs.Common.{◌≡◌, ℕ, ◌+◌, ◌*◌, ◌≤◌, Bool, true, false, List, [], ◌∷◌, ◌++◌, map, Option, Some, None, length, length-append, refl, sym, ap, ◌∙◌, subst, arith}
 use Rattle.std.specs.Prelude.{All, Contains}
-use Rattle.std.specs.List.{AllZip, list_any, filter_map, cons_option, AllByRecursion}
+use Rattle.std.specs.List.{AllZip, list_any, AllByRecursion}
 use Rattle.std.proofs.lemmas.Bool.{or_parts}
 use Rattle.std.proofs.lemmas.List.{map-append}
 use Rattle.std.proofs.lemmas.List.Elements.{All-from_recursion}
 use Rattle.tt_lists.proofs.Sums.{each_weaker, each_both}
-use Rattle.tt_lists.proofs.Members.{member_cases, each_member, at_member}
+use Rattle.tt_lists.proofs.Members.{each_member, at_member}
 use Rattle.tt_lists.proofs.Tested.{each_append}
 use Rattle.tt_lists.proofs.Given.{given_member}
 use Rattle.tt_lists.proofs.Zipped.{zip_each, zip_length}
@@ -14,7 +14,7 @@ use Rattle.tt_instance_data.specs.Problem.{Problem}
 use Rattle.tt_instance_data.specs.declared.cell.Cell.{Cell}
 use Rattle.tt_rules.specs.Score.{cost}
 use Rattle.tt_facts_path.specs.declared.facts.Fact.{Fact}
-use Rattle.tt_facts_path.specs.Live.{least, least_with}
+use Rattle.tt_facts_path.specs.Live.{least}
 use Rattle.tt_facts_path.proofs.Least.{least-le}
 use Rattle.tt_leaf_rules.specs.Claims.{total_of}
 use Rattle.tt_leaf_data.specs.declared.leaf.Bound.{Bound}

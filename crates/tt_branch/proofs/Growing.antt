@@ -1,8 +1,6 @@
 -- A tree grows at a leaf, and the properties of its other nodes are preserved.
-use Rattle.std.proofs.Common.{◌≡◌, ℕ, zero, suc, true, false, List, [], ◌∷◌, ◌++◌, length, Some, refl, sym, ap, ◌∙◌, arith, inl, inr, append_assoc}
+use Rattle.std.proofs.Common.{◌≡◌, true, false, List, [], ◌∷◌, ◌++◌, sym, ap, ◌∙◌, inl, inr, append_assoc}
 use Rattle.std.proofs.lemmas.List.{append-nil}
-use Rattle.std.specs.Prelude.{◌⊎◌, slice_get, slice_set}
-use Rattle.std.specs.List.{AllZip, AllByRecursion, insert}
 use Rattle.tt_lists.proofs.Cuts.{cut_cases}
 use Rattle.tt_facts_path.specs.declared.facts.Fact.{Fact}
 use Rattle.tt_leaf_data.specs.declared.leaf.Leaf.{Leaf}

@@ -14,4 +14,5 @@ pub mod Concluding
 pub mod Improving
 pub mod Moving
 pub mod OneTimetable
+pub mod Until
 mod Numbers

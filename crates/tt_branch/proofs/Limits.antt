@@ -13,7 +13,7 @@ use Rattle.tt_lists.proofs.Counting.{sum_by-ones}
 use Rattle.tt_instance_data.specs.Problem.{Problem}
 use Rattle.tt_instance_data.specs.Limits.{IsInstance}
 use Rattle.tt_instance_data.specs.Cells.{all_courses, all_curricula, all_rooms, all_slots, is_of, is_in}
-use Rattle.tt_instance_data.specs.Courses.{lectures, min_days, students, excess, no_course, in_curriculum}
+use Rattle.tt_instance_data.specs.Courses.{lectures, min_days, excess, no_course, in_curriculum}
 use Rattle.tt_instance_data.specs.declared.cell.Cell.{Cell}
 use Rattle.tt_instance_data.proofs.Slots.{length-all_slots}
 use Rattle.tt_instance_data.proofs.CourseLimits.{few_students, few_lectures}

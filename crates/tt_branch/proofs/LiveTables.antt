@@ -1,25 +1,19 @@
 -- The live cells of a path, one number at a time, and their number.
-use Rattle.std.proofs.Common.{◌≡◌, ℕ, zero, suc, ◌+◌, ◌≤◌, Bool, List, [], ◌∷◌, ◌++◌, map, length, refl, sym, ap, ◌∙◌, subst, arith, get_or}
-use Rattle.std.specs.Prelude.{sum_by, flat_map, filter, Contains}
-use Rattle.std.proofs.Common.{true, eq-eqb, take}
-use Rattle.std.proofs.lemmas.List.{take_all}
-use Rattle.std.proofs.lemmas.List.{map-append, append-nil}
-use Rattle.std.proofs.lemmas.List.Elements.{filter-append}
-use Rattle.std.proofs.lemmas.List.Sums.{sum_by-append, sum_by-cons, sum_by_more}
-use Rattle.std.proofs.lemmas.Grind.{flat_map-append}
+use Rattle.std.proofs.Common.{◌≡◌, ℕ, ◌≤◌, List, map, length, refl, sym, ◌∙◌, arith}
+use Rattle.std.specs.Prelude.{sum_by, flat_map, Contains}
+use Rattle.std.proofs.Common.{true, eq-eqb}
 use Rattle.std.proofs.lemmas.Simd.{map-map}
 use Rattle.tt_lists.specs.Words.{range_below}
-use Rattle.tt_lists.proofs.Below.{range_below_more}
 use Rattle.tt_lists.proofs.Sums.{spread_up, once_at_least, one_if}
 use Rattle.tt_lists.proofs.Members.{each_member}
-use Rattle.tt_lists.proofs.Numbers.{any_below, sum_more}
+use Rattle.tt_lists.proofs.Numbers.{any_below}
 use Rattle.tt_lists.proofs.Tests.{sum_by-same_below}
 use Rattle.tt_lists.proofs.Growing.{map-of_flat_map}
 use Rattle.tt_lists.proofs.Counting.{sum_by-ones}
-use Rattle.tt_instance_data.specs.Problem.{Problem, Course}
+use Rattle.tt_instance_data.specs.Problem.{Problem}
 use Rattle.tt_instance_data.specs.Limits.{IsInstance}
 use Rattle.tt_instance_data.specs.Cells.{slot, cell, is_of, all_days, all_rooms, all_courses, all_slots, all_cells, InRange}
-use Rattle.tt_instance_data.specs.Courses.{lectures, no_course}
+use Rattle.tt_instance_data.specs.Courses.{lectures}
 use Rattle.tt_instance_data.specs.declared.cell.Cell.{Cell}
 use Rattle.tt_instance_data.proofs.CourseLimits.{few_lectures}
 use Rattle.tt_rules.specs.Hard.{entries_of}

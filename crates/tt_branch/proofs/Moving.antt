@@ -1,15 +1,9 @@
 -- The facts that two paths begin with.
-use Rattle.std.proofs.Common.{◌≡◌, ℕ, ◌+◌, ◌-◌, ◌<◌, ◌≤◌, List, [], ◌∷◌, ◌++◌, length, take, drop, get_or, append_assoc, length-append, Some, refl, sym, ap, ◌∙◌, arith}
-use Rattle.std.proofs.Common.{Bool, true, false, ◌&&◌, Option, None, eqb-true}
-use Rattle.std.proofs.lemmas.Bool.{and_parts}
+use Rattle.std.proofs.Common.{◌≡◌, ℕ, ◌+◌, ◌-◌, ◌<◌, ◌≤◌, List, [], ◌∷◌, ◌++◌, length, take, drop, get_or, append_assoc, length-append, Some, sym, ap, ◌∙◌, arith}
 use Rattle.std.specs.Prelude.{reverse, slice_get}
 use Rattle.std.proofs.lemmas.List.{reverse-append, take-append-drop, take_more, drop_more}
 use Rattle.std.proofs.Math.Seq.{take-append_seam}
 use Rattle.std.proofs.lemmas.Option.{get_or_from_slice_get}
-use Rattle.tt_facts_path.specs.Facts.{same_answer, same_option, same_who, same_pattern}
-use Rattle.tt_facts_path.specs.declared.facts.Who.{Who}
-use Rattle.tt_facts_path.specs.declared.facts.Who.TheVariants.{Course, Curriculum}
-use Rattle.tt_facts_path.specs.declared.facts.Fact.{Fact}
 
 -- with one fact fewer
 pub one_fewer : {X : Type 0} (all xs ys : List X) (x : X) → xs ≡ take (length xs) all → xs ≡ ys ++ x ∷ [] → ys ≡ take (length ys) all

@@ -1,11 +1,10 @@
 -- If the path has each live cell's own pattern as a yes-fact and no leaf without claims is right, the live cells are the one timetable that fits.
-use Rattle.std.proofs.Common.{◌≡◌, ℕ, ◌+◌, ◌≤◌, Bool, true, ◌&&◌, List, [], ◌∷◌, length, get_or, refl, sym, ap, ◌∙◌, subst, arith, inl, inr, eqb-true, eq-eqb}
+use Rattle.std.proofs.Common.{◌≡◌, ℕ, ◌≤◌, Bool, true, ◌&&◌, List, [], ◌∷◌, refl, sym, ap, ◌∙◌, subst, arith, inl, inr, eqb-true, eq-eqb}
 use Rattle.std.specs.Prelude.{Contains, ◌==◌, count_by}
-use Rattle.std.specs.List.{list_any, remove}
+use Rattle.std.specs.List.{remove}
 use Rattle.std.specs.List.Sorted.{IsPermutation}
 use Rattle.std.proofs.lemmas.Bool.{and_parts, and_from, cases_lt}
 use Rattle.std.proofs.lemmas.List.Sorted.{IsPermutation-refl, IsPermutation-sym, IsPermutation-trans, IsPermutation-cons, IsPermutation-remove, sum_by-IsPermutation}
-use Rattle.std.proofs.lemmas.List.Elements.{All-contains}
 use Rattle.tt_lists.proofs.Sums.{one_if, one_if_true, count_by-cons, count_if_any, any_if_count, sum_by-le, cond-le, each}
 use Rattle.tt_lists.proofs.Members.{any_member, member_from_any}
 use Rattle.tt_instance_data.specs.Problem.{Problem}

@@ -1,15 +1,15 @@
 -- The result of opening a node.
-use Rattle.std.proofs.Common.{◌≡◌, true, false, not, ◌&&◌, List, Option, Some, None, refl, sym, subst, arith}
+use Rattle.std.proofs.Common.{◌≡◌, true, false, not, ◌&&◌, List, Option, Some, None, sym, subst, arith}
 use Rattle.std.specs.List.{list_any}
-use Rattle.std.proofs.Common.{Bool, inl, inr}
-use Rattle.std.proofs.lemmas.Bool.{and_parts, and_from, or_right, not_from_false, false_from_ne_true, cases_lt}
-use Rattle.tt_lists.proofs.Members.{member_from_any, any_member}
+use Rattle.std.proofs.Common.{inl, inr}
+use Rattle.std.proofs.lemmas.Bool.{and_from, or_right, not_from_false, false_from_ne_true, cases_lt}
+use Rattle.tt_lists.proofs.Members.{any_member}
 use Rattle.tt_instance_data.specs.Problem.{Problem}
 use Rattle.tt_instance_data.specs.Limits.{IsInstance}
 use Rattle.tt_instance_data.specs.Courses.{unavailable}
 use Rattle.tt_instance_data.specs.declared.cell.Cell.{Cell}
 use Rattle.tt_rules.specs.Score.{IsFeasible, cost}
-use Rattle.tt_facts_path.specs.Facts.{matches, same_answer, same_pattern, has_fact}
+use Rattle.tt_facts_path.specs.Facts.{matches, has_fact}
 use Rattle.tt_facts_path.specs.Live.{is_live}
 use Rattle.tt_facts_path.specs.declared.facts.Pattern.{Pattern}
 use Rattle.tt_facts_path.specs.declared.facts.Fact.{Fact}

@@ -1,8 +1,8 @@
 -- The steps of a search preserve the properties of its tree, and its end proves its bound.
-use Rattle.std.proofs.Common.{◌≡◌, ℕ, suc, ◌≤◌, Bool, true, false, List, [], ◌∷◌, ◌++◌, length, length-append, Option, Some, None, refl, sym, ap, ◌∙◌, subst, arith, leb-true, le-leb}
-use Rattle.std.specs.Prelude.{nat_le, slice_get, ⊤}
+use Rattle.std.proofs.Common.{◌≡◌, ℕ, suc, ◌≤◌, Bool, true, false, List, [], ◌∷◌, ◌++◌, length, length-append, Option, Some, None, refl, sym, ap, ◌∙◌, subst, arith}
+use Rattle.std.specs.Prelude.{slice_get, ⊤}
 use Rattle.std.proofs.lemmas.List.Elements.{All-nil, All-push}
-use Rattle.std.specs.List.{AllZip, list_all}
+use Rattle.std.specs.List.{AllZip}
 use Rattle.tt_lists.proofs.Zipped.{zip_cut, zip_append, zip_weaker}
 use Rattle.tt_lists.proofs.Cuts.{at_first, at_next}
 use Rattle.tt_instance_data.specs.Problem.{Problem}
@@ -11,7 +11,7 @@ use Rattle.tt_rules.specs.Score.{cost}
 use Rattle.tt_facts_path.specs.Facts.{IsPattern}
 use Rattle.tt_facts_path.specs.declared.facts.Pattern.{Pattern}
 use Rattle.tt_facts_path.specs.declared.facts.Fact.{Fact}
-use Rattle.tt_leaf_rules.specs.Claims.{is_fair, total_of}
+use Rattle.tt_leaf_rules.specs.Claims.{total_of}
 use Rattle.tt_leaf_rules.specs.Leaves.{IsRight}
 use Rattle.tt_leaf_data.specs.declared.leaf.Bound.{Bound}
 use Rattle.tt_leaf_data.specs.declared.leaf.Bound.TheVariants.{AtLeast, Nothing}

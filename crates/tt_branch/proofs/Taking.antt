@@ -1,14 +1,32 @@
--- Nodes that are removed from the end of a list.
-use Rattle.std.proofs.Common.{◌≡◌, List, [], ◌∷◌, ◌++◌, sym, subst}
-use Rattle.std.specs.Prelude.{All, Contains}
-use Rattle.std.proofs.lemmas.List.Elements.{All-contains, Contains-append_left, Contains-push}
+-- Nodes of a tree that are written, the last one first.
+use Rattle.std.proofs.Common.{◌≡◌, ℕ, ◌+◌, ◌<◌, Bool, true, List, [], ◌∷◌, ◌++◌, take, get_or, length, Option, Some, None, refl, sym, ap, ◌∙◌, subst, append_assoc}
+use Rattle.std.specs.Prelude.{All}
+use Rattle.std.specs.List.{cons_option}
+use Rattle.std.proofs.lemmas.List.{take_more, reverse-append}
+use Rattle.std.proofs.lemmas.List.Elements.{All-get_or}
 use Rattle.tt_instance_data.specs.Problem.{Problem}
+use Rattle.tt_facts_path.specs.Live.{least}
+use Rattle.tt_proof_read.specs.declared.node.Node.{Node}
 use Rattle.tt_branch.specs.declared.tree_node.TreeNode.{TreeNode}
 use Rattle.tt_branch.specs.declared.links.Link.{Link}
-use Rattle.tt_branch.specs.Written.{IsWritable}
+use Rattle.tt_branch.specs.Growing.{node_at, worth_at, nodes_of, worths_of}
+use Rattle.tt_branch.specs.Steps.{lower}
+use Rattle.tt_branch.specs.Written.{IsWritable, IsTaken}
 
--- the last of the nodes left is one of all nodes
-pub writable_last : (p : Problem) (links : List Link) (all left rest done : List TreeNode) (e : TreeNode) → All (IsWritable p links) all → all ≡ left ++ done → left ≡ rest ++ e ∷ [] → IsWritable p links e
-writable_last p links all left rest done e each split is =
-    let inside : Contains left e = subst (λ l. Contains l e) (sym is) (Contains-push rest e) in
-    All-contains (IsWritable p links) all e each (subst (λ l. Contains l e) (sym split) (Contains-append_left left done e inside))
+-- the node at a place is one of all nodes
+pub writable_here : (p : Problem) (links : List Link) (all : List TreeNode) (k : ℕ) (e : TreeNode) → All (IsWritable p links) all → k < length all → e ≡ get_or all k e → IsWritable p links e
+writable_here p links all k e each h is = subst (IsWritable p links) (sym is) (All-get_or (IsWritable p links) all k e h each)
+
+lower-least : (o : Option ℕ) (ns : List ℕ) → lower o (least ns) ≡ least (cons_option o ns)
+lower-least None ns = refl
+lower-least (Some n) ns = refl
+
+-- the last of the nodes left is written
+pub taken_more : (p : Problem) (links : List Link) (valued : Bool) (all : List TreeNode) (k : ℕ) (e : TreeNode) (nodes more : List Node) (lowest next : Option ℕ) → IsTaken p links valued all (take (k + 1) all) nodes lowest → k < length all → e ≡ get_or all k e → more ≡ nodes ++ node_at p links e ∷ []
+    → (valued ≡ true → next ≡ lower (worth_at p links e) lowest) → IsTaken p links valued all (take k all) more next
+taken_more p links valued all k e nodes more lowest next t h is written low = record {
+  done = e ∷ t.done;
+  split = t.split ∙ ap (λ l. l ++ t.done) (take_more all k e h ∙ ap (λ x. take k all ++ x ∷ []) (sym is)) ∙ append_assoc (take k all) (e ∷ []) t.done;
+  written = written ∙ ap (λ l. l ++ node_at p links e ∷ []) t.written ∙ sym (reverse-append (node_at p links e ∷ []) (nodes_of p links t.done));
+  lowest_is = λ v. low v ∙ ap (lower (worth_at p links e)) (t.lowest_is v) ∙ lower-least (worth_at p links e) (worths_of p links t.done);
+}

@@ -38,14 +38,14 @@ fn copy_claim(alloc: Global, claim: &Claim) -> Result<Claim, AllocError>
     }
 }
 
-fn copy_claims(alloc: Global, claims: &ClaimList) -> Result<ClaimList, AllocError>
-    ensures { IfOk result (λ copy. copy ≡ claims.now) }
+fn copy_claims(alloc: Global, claims: &[Claim]) -> Result<Vec<Claim>, AllocError>
+    ensures { IfOk result (λ copy. copy.items ≡ claims.now) }
 {
-    let mut items = Vec::new(alloc);
-    for claim in claims.as_slice() {
-        items.push(copy_claim(alloc, claim)?)?;
+    let mut copy = Vec::new(alloc);
+    for claim in claims {
+        copy.push(copy_claim(alloc, claim)?)?;
     }
-    Ok(ClaimList::new(items))
+    Ok(copy)
 }
 
 /// Returns a copy of a leaf.
@@ -57,6 +57,9 @@ pub fn copy_leaf(alloc: Global, leaf: &Leaf) -> Result<Leaf, AllocError>
         Leaf::Many(course) => Ok(Leaf::Many(*course)),
         Leaf::Clique(courses) => Ok(Leaf::Clique(copy_courses(alloc, courses)?)),
         Leaf::Slots(courses) => Ok(Leaf::Slots(copy_courses(alloc, courses)?)),
-        Leaf::Cost(claims) => Ok(Leaf::Cost(copy_claims(alloc, claims)?)),
+        Leaf::Cost(claims) => {
+            let copy = copy_claims(alloc, claims.as_slice())?;
+            Ok(Leaf::Cost(ClaimList::new(copy)))
+        }
     }
 }

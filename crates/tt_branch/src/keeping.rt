@@ -17,7 +17,12 @@ use tt_search_watch::Watch;
 const VERSION: u8 = 2;
 
 /// Gives a watch the text of a proof of a bound, if it is not too long.
-fn give<W: Watch>(alloc: Global, watch: &mut W, least: u64, nodes: &[Node]) -> Result<(), AllocError> {
+fn give<W: Watch>(
+    alloc: Global,
+    watch: &mut W,
+    least: u64,
+    nodes: &[Node],
+) -> Result<(), AllocError> {
     match write_proof(alloc, VERSION, Bound::AtLeast(least), nodes) {
         Ok(text) => watch.take(least, &[text]),
         Err(WriteFault::OutOfMemory) => return Err(AllocError),

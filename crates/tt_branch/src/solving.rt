@@ -18,7 +18,6 @@ use tt_facts::TrailPath;
 use tt_facts_path::Path;
 use tt_instance_data::Instance;
 use tt_leaf_data::Bound;
-use tt_proof_check::derived_bounds_hold;
 use tt_proof_read::Node;
 use tt_search_watch::Watch;
 use tt_table::Timetable;
@@ -60,9 +59,8 @@ fn conclude<'i, P: Path<'i>>(
     requires at_most { ending.opened ≤ MAX_OPENED }
     ensures { IfOk result (λ o. IsOutcome (P.problem path.old) ending.opened o.best o.bound o.proof.items o.finished) }
 {
-    // Brings the instance's limits, and what a proof means, into the proof.
+    // Brings the instance's limits into the proof.
     prove!(path.instance().days() <= 64);
-    derived_bounds_hold();
     let Search {
         tree_nodes,
         links,
@@ -75,9 +73,10 @@ fn conclude<'i, P: Path<'i>>(
         tree_nodes.as_slice(),
         !ending.finished,
     )?;
+    let bound = shown(&best, least, ending.finished);
     Ok(Outcome {
-        bound: shown(&best, least, ending.finished),
         best: table_in(best),
+        bound,
         proof: nodes,
         finished: ending.finished,
     })

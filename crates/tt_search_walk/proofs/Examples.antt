@@ -1,5 +1,5 @@
 -- Comparisons of timetables of a small instance, whether they are no worse than others: two courses of a curriculum, and one room.
-use Rattle.std.proofs.Common.{◌≡◌, ℕ, ◌<◌, List, [], ◌∷◌, refl, inl, inr, ap, arith, get_or, lit<}
+use Rattle.std.proofs.Common.{◌≡◌, ℕ, ◌<◌, List, [], ◌∷◌, refl, inr, ap, arith, get_or, lit<}
 use Rattle.std.proofs.lemmas.List.Elements.{All-cons, All-nil}
 use Rattle.tt_instance_data.specs.Cells.{InRange}
 use Rattle.tt_instance_data.specs.declared.cell.Cell.{Cell}

@@ -1,5 +1,5 @@
 -- Comparisons of pairs.
-use Rattle.std.proofs.Common.{◌≡◌, ◌<◌, refl, inl, inr, lit<}
+use Rattle.std.proofs.Common.{refl, inl, inr, lit<}
 use Rattle.tt_search_watch.specs.Pairs.{IsLowerPair}
 
 -- a hard rule weighs more than any cost

@@ -1,19 +1,26 @@
-use Rattle.std.proofs.Common.{refl, sym, ap, ◌∙◌, subst}
+use Rattle.std.proofs.Common.{◌-◌, refl, sym, ap, ◌∙◌, subst, arith}
 use Rattle.tt_instance_data.specs.Problem.{Problem}
 use Rattle.tt_proof_check.specs.Nodes.{IsNodeOf}
 use Rattle.tt_branch.specs.Growing.{node_at}
 use Rattle.tt_branch.specs.Written.{IsOnceNode}
-use Rattle.tt_branch.proofs.Taking.{writable_last}
+use Rattle.tt_branch.proofs.Taking.{writable_here}
 use Rattle.tt_branch.proofs.nodes.write_nodes.Goals as goal
+
+pub node_for-requires : goal.node_for-requires
+node_for-requires g c = λ κs.
+    let p = g.P.Path.problem c.args.path.now in
+    let e = c.index-tree_nodes-left.result in
+    let w = writable_here p c.args.links.now c.args.tree_nodes.now (c.loop-left.left - 1) e c.requires.each (omega arith) c.index-tree_nodes-left.is in
+    ((refl, tt), (c.requires.links, w.reached))
 
 pub worth_of-requires : goal.worth_of-requires
 worth_of-requires g c = λ κs.
     let p = g.P.Path.problem c.args.path.now in
     let links = c.args.links.now in
-    let e = c.in-Some.tree_node in
-    let same = c.in_ok-node.ensures.unchanged ∙ c.loop-tree_node.invariant.same in
-    let w = writable_last p links c.args.tree_nodes.items c.loop-tree_node.tree_nodes.items c.pop.new.self.items c.loop-tree_node.invariant.taken.done e c.requires.each c.loop-tree_node.invariant.taken.split c.in-Some.ensures.items in
-    let node = c.in_ok-node.ensures.node ∙ ap (λ (q : Problem). node_at q links e) c.loop-tree_node.invariant.same in (
+    let e = c.index-tree_nodes-left.result in
+    let same = c.in_ok-node.ensures.unchanged ∙ c.loop-left.invariant.same in
+    let w = writable_here p links c.args.tree_nodes.now (c.loop-left.left - 1) e c.requires.each (omega arith) c.index-tree_nodes-left.is in
+    let node = c.in_ok-node.ensures.node ∙ ap (λ (q : Problem). node_at q links e) c.loop-left.invariant.same in (
       (refl, tt),
       (
         c.requires.links,

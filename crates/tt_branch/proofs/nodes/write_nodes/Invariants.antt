@@ -1,12 +1,13 @@
-use Rattle.std.proofs.Common.{◌≡◌, vec_len}
+use Rattle.std.proofs.Common.{◌≡◌, ◌≤◌, take, length}
 use Rattle.tt_branch.specs.Written.{IsTaken}
 use Rattle.tt_branch.proofs.nodes.write_nodes.Given as goal
 
-abbrev pub invariant-loop-tree_node : goal.invariant-loop-tree_node
-invariant-loop-tree_node g l = record {
+abbrev pub invariant-loop-left : goal.invariant-loop-left
+invariant-loop-left g l = record {
   same : g.P.Path.problem l.path ≡ g.P.Path.problem l.fn.path;
-  taken : IsTaken (g.P.Path.problem l.fn.path) l.links l.valued l.fn.tree_nodes.items l.tree_nodes.items l.nodes.items l.least;
+  within : l.left ≤ length l.tree_nodes;
+  taken : IsTaken (g.P.Path.problem l.fn.path) l.links l.valued l.tree_nodes (take l.left l.tree_nodes) l.nodes.items l.least;
 }
 
-abbrev pub decreases-loop-tree_node : goal.decreases-loop-tree_node
-decreases-loop-tree_node g l = vec_len l.tree_nodes
+abbrev pub decreases-loop-left : goal.decreases-loop-left
+decreases-loop-left g l = l.left

@@ -1,4 +1,4 @@
-use Rattle.std.proofs.Common.{◌≡◌, false, List, rules, subst, ◌∙◌, arith}
+use Rattle.std.proofs.Common.{◌≡◌, false, List, refl, rules, sym, subst, ◌∙◌, arith}
 use Rattle.std.specs.Prelude.{IfSome, IsNone}
 use Rattle.std.specs.List.{list_any}
 use Rattle.tt_instance_data.specs.Problem.{Problem}
@@ -6,7 +6,7 @@ use Rattle.tt_branch.specs.declared.tree_node.TreeNode.{TreeNode}
 use Rattle.tt_branch.specs.Growing.{is_open, IsOpenAt}
 use Rattle.tt_branch.specs.BestSoFar.{Advances}
 use Rattle.tt_branch.specs.State.{IsUnderWay}
-use Rattle.tt_branch.proofs.Advancing.{advance_twice, ends_closed, ends_by}
+use Rattle.tt_branch.proofs.Advancing.{advance_twice, ends_closed, ends_by, ends_early}
 use Rattle.tt_branch.proofs.rounds.grow.Goals as goal
 
 pub returns-in_default-clause-ends : goal.returns-in_default-clause-ends
@@ -14,18 +14,30 @@ returns-in_default-clause-ends g c =
     let tree_nodes = c.loop-opened.search.tree_nodes.items in
     let none : IsNone c.next_open.result = search rules in
     let closed = subst (λ (l : List TreeNode). list_any (λ e. is_open e.mark) l ≡ false) c.as_slice.ensures.value (c.next_open.ensures.none none) in
-    ends_closed c.args.limit c.loop-opened._opened tree_nodes c.loop-opened.invariant.opened (omega arith) closed
+    ends_closed c.args.limit c.loop-opened.opened tree_nodes c.loop-opened.invariant.opened (omega arith) closed
+
+pub returns-then-is_over-clause-ends : goal.returns-then-is_over-clause-ends
+returns-then-is_over-clause-ends g c =
+    let tree_nodes = c.loop-opened.search.tree_nodes.items in
+    let i = c.loop-opened.invariant in
+    ends_early c.loop-opened.opened tree_nodes c.in-Some.place (subst (λ (l : List TreeNode). IsOpenAt l c.in-Some.place) c.as_slice.ensures.value c.in-Some.ensures.open) i.opened i.at_most
+
+pub give_if_asked-requires : goal.give_if_asked-requires
+give_if_asked-requires g c = λ κs.
+    let i = c.loop-opened.invariant in
+    ((refl, tt), (subst (λ (q : Problem). IsUnderWay q c.loop-opened.search) (sym i.same) i.under_way, omega (arith, i.at_most)))
 
 pub loop-opened-preserved : goal.loop-opened-preserved
 loop-opened-preserved g c =
     let p = g.P.Path.problem c.args.path.now in
     let i = c.loop-opened.invariant in
     let e = c.in_ok-open_next.ensures in
+    let same = c.in_ok-give_if_asked.ensures.unchanged ∙ i.same in
     let new = c.open_next.new.search in
     record {
-      same = e.unchanged ∙ i.same;
-      under_way = subst (λ (q : Problem). IsUnderWay q new) i.same e.under_way;
-      better = advance_twice p c.args.search.now.best c.loop-opened.search.best new.best i.better (subst (λ (q : Problem). Advances q c.loop-opened.search.best new.best) i.same e.better);
+      same = e.unchanged ∙ same;
+      under_way = subst (λ (q : Problem). IsUnderWay q new) same e.under_way;
+      better = advance_twice p c.args.search.now.best c.loop-opened.search.best new.best i.better (subst (λ (q : Problem). Advances q c.loop-opened.search.best new.best) same e.better);
       opened = omega (arith, e.opened, i.opened);
       at_most = omega (arith, e.many, i.at_most);
     }

@@ -11,6 +11,6 @@ invariant-loop-opened g l =
       same : g.P.Path.problem l.path ≡ p;
       under_way : IsUnderWay p l.search;
       better : Advances p l.fn.search.best l.search.best;
-      opened : opened_in l.search.tree_nodes.items ≡ l._opened;
-      at_most : length l.search.tree_nodes.items + 1 ≤ 2 * l._opened;
+      opened : opened_in l.search.tree_nodes.items ≡ l.opened;
+      at_most : length l.search.tree_nodes.items + 1 ≤ 2 * l.opened;
     }

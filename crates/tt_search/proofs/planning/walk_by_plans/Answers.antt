@@ -1,4 +1,4 @@
-use Rattle.std.proofs.Common.{◌≡◌, ◌+◌, ◌-◌, List, refl, sym, subst, ◌∙◌, inl, inr, arith}
+use Rattle.std.proofs.Common.{◌≡◌, ◌+◌, List, refl, sym, subst, ◌∙◌, inl, inr, arith}
 use Rattle.tt_instance_data.specs.Problem.{Problem}
 use Rattle.tt_instance_data.specs.declared.cell.Cell.{Cell}
 use Rattle.tt_search_walk.specs.Improved.{courses_of, LeadsWithin}
@@ -43,5 +43,8 @@ loop-plan-preserved g c =
           (c.keep.ensures.best t (courses ∙ begun) (subst (λ (q : Problem). IsBest q t l.best) (sym same) (l.invariant.best t begun good)));
     }
 
-pub returns-clause-reached : goal.returns-clause-reached
-returns-clause-reached g c = λ start. leads_more c.args.schedule.draws (c.loop-plan.invariant.reached start) c.loop-plan.invariant.within
+pub returns-then-is_over-clause-reached : goal.returns-then-is_over-clause-reached
+returns-then-is_over-clause-reached g c = λ start. leads_more c.args.schedule.draws (c.loop-plan.invariant.reached start) c.loop-plan.invariant.within
+
+pub returns-after-loop-plan-clause-reached : goal.returns-after-loop-plan-clause-reached
+returns-after-loop-plan-clause-reached g c = λ start. leads_more c.args.schedule.draws (c.loop-plan.invariant.reached start) c.loop-plan.invariant.within

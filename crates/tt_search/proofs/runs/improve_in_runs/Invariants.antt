@@ -6,5 +6,5 @@ use Rattle.tt_search.proofs.runs.improve_in_runs.Given as goal
 abbrev pub invariant-loop-run : goal.invariant-loop-run
 invariant-loop-run g l = record {
   kept : IsNoWorse l.instance l.initial.table l.table;
-  runs : Runs l.instance l.initial.table (l.steps / 2) (l.steps - l.steps / 2) l.run l.table;
+  in_runs : Runs l.instance l.initial.table (l.steps / 2) (l.steps - l.steps / 2) l.run l.table;
 }

@@ -1,10 +1,10 @@
-use Rattle.std.proofs.Common.{◌≡◌, ◌+◌, List, refl, sym, subst, ◌∙◌, inl, inr}
+use Rattle.std.proofs.Common.{◌≡◌, ◌+◌, List, refl, sym, subst, ◌∙◌, inl, inr, arith}
 use Rattle.tt_instance_data.specs.Problem.{Problem}
 use Rattle.tt_instance_data.specs.declared.cell.Cell.{Cell}
 use Rattle.tt_search_walk.specs.Improved.{courses_of, LeadsWithin}
 use Rattle.tt_search_walk.specs.Pairs.{IsBest}
 use Rattle.tt_search_walk.specs.declared.best.Best.{Best}
-use Rattle.tt_search_walk.proofs.Improvements.{leads_here, leads_longer}
+use Rattle.tt_search_walk.proofs.Improvements.{leads_here, leads_longer, leads_more}
 use Rattle.tt_search_walk.proofs.walking.walk.Goals as goal
 
 pub loop-made-init : goal.loop-made-init
@@ -39,3 +39,6 @@ loop-made-preserved g c =
       best = λ t begun good. subst (λ (q : Problem). IsBest q t best) same
           (c.keep.ensures.best t (courses ∙ begun) (subst (λ (q : Problem). IsBest q t l.best) (sym same) (l.invariant.best t begun good)));
     }
+
+pub returns-then-is_over-clause-reached : goal.returns-then-is_over-clause-reached
+returns-then-is_over-clause-reached g c = λ start. leads_more c.args.draws (c.loop-made.invariant.reached start) (omega arith)
