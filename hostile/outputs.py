@@ -6,6 +6,7 @@ import shutil
 import signal
 import stat
 import subprocess
+import tempfile
 import threading
 import time
 from contextlib import contextmanager
@@ -193,6 +194,17 @@ def closed_streams(desk):
         for name in ("parts", "best"):
             shutil.rmtree(desk.folder / name, ignore_errors=True)
         assert texts(desk) == before, f"{words} changes an input"
+    # What is shown doesn't go into a page that has the number of standard error.
+    put_large_page(desk)
+    assert desk.told("page instance solution out")[0] == 0
+    wanted = (desk.folder / "out").read_bytes()
+    done = subprocess.run(["sh", "-c", 'exec "$0" page instance solution out --progress 2>&-', PROGRAM], cwd=desk.folder, timeout=60)
+    assert done.returncode in (0, 2) and (desk.folder / "out").read_bytes() == wanted, f"{done}: the page has {len((desk.folder / 'out').read_bytes()) - len(wanted)} bytes more"
+
+
+def put_large_page(desk):
+    """Puts an instance and a timetable whose page has some 20 MB, and is written in pieces."""
+    desk.put(instance=ONE_PERIOD % b"".join(b"q%d 1 c0\n" % it for it in range(256)), solution=b"c0 R0 0 0\n" * 256)
 
 
 # ---- names, links and folders
@@ -395,7 +407,7 @@ def older_folders(desk):
 def as_nobody(desk, words):
     """Runs a command as a user without rights."""
     words = words.split() if isinstance(words, str) else words
-    program = Path("/tmp") / f"tt-{os.getpid()}"
+    program = Path(tempfile.gettempdir()) / f"tt-{os.getpid()}"
     try:
         if not program.exists():
             shutil.copy(PROGRAM, program)
@@ -409,9 +421,10 @@ def as_nobody(desk, words):
 
 def reach(folder):
     """Lets other users go to a folder of this test."""
-    for at in [folder, *folder.parents]:
-        if at.stat().st_uid == os.getuid() and at != Path("/") and not at.stat().st_mode & 0o001:
-            at.chmod(at.stat().st_mode | 0o055)
+    top = Path(tempfile.gettempdir())
+    while top in folder.parents:
+        folder.chmod(folder.stat().st_mode | 0o055)
+        folder = folder.parent
 
 
 def check_kept(desk, told, path, reason, before, role="solution"):
@@ -489,13 +502,23 @@ def mounted_files(desk):
 
 
 def kept_ways_that_fail(desk):
-    """A search with --keep whose output can't be replaced leaves no more than one new file."""
-    filled(desk)
-    (desk.folder / "out").write_bytes(OLDER)
-    with immutable(desk.folder / "out"):
-        told = desk.told(f"improve {LIKE05}.ctt {LIKE05}.sol out --steps 1000000 --time 8 --keep")
-        left = [it for it in os.listdir(desk.folder) if it.startswith("tt-")]
-        assert told[0] == 2 and len(left) == 1 and left[0].encode() in told[2], f"{told}, left {left}"
+    """A search with --keep whose output can't be replaced leaves no new files but those that its refusal names."""
+    for words, name in [
+        (f"improve {LIKE05}.ctt {LIKE05}.sol room/out --steps 1000000", "out"),
+        (f"solve {LIKE05}.ctt room/out room/out.proof --nodes 65536", "out"),
+        (f"parts {LIKE05}.ctt room --nodes 1000000", "groups.proof"),
+        (f"best {LIKE05}.ctt room --rounds 1000", "best.sol"),
+    ]:
+        room = desk.folder / "room"
+        room.mkdir()
+        (room / name).write_bytes(OLDER)
+        with immutable(room / name):
+            told = desk.told(f"{words} --time 7 --keep")
+            left = [it for it in os.listdir(room) if it.startswith("tt-")]
+            unnamed = [it for it in left if it.encode() not in told[2]]
+            assert told[0] == 2 and left and not unnamed, f"{words}: {told}, left {left}"
+            assert (room / name).read_bytes() == OLDER
+        shutil.rmtree(room)
 
 
 def links_that_may_not_be_followed(desk):
@@ -767,8 +790,7 @@ def progress(desk):
     assert desk.told(words)[2] == b"" and desk.told(f"{words} --progress --quiet")[2] == b""
     shown = desk.told(f"{words} --progress")[2]
     assert re.fullmatch(rb"(" + LINE % rb"improve: [\d,]+ of 100,000 steps, cost \d+, \d+ s" + rb")+" + re.escape(NO_LINE), shown), f"{shown[:300]}"
-    # A page of some 20 MB, in pieces.
-    desk.put(instance=ONE_PERIOD % b"".join(b"q%d 1 c0\n" % it for it in range(256)), solution=b"c0 R0 0 0\n" * 256)
+    put_large_page(desk)
     shown = desk.told("page instance solution out --progress")[2]
     assert re.fullmatch(rb"(" + LINE % rb"page: [\d,]+ bytes written, \d+ s" + rb")+" + re.escape(NO_LINE), shown), f"{shown[:300]}"
     # The rounds of a search show the best cost and bound so far.
