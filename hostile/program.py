@@ -432,11 +432,13 @@ class Runs:
             return
         kept = self.check_whereabouts(written, outcome, files, where)
         if self.command.searches() and refusal.call > tried > 0:
-            assert written[4] or not self.has_written(), f"what was found is lost {where}"
+            told = sorted(it[0] for it in IS_AT.findall(written[4].decode()))
+            assert told == sorted(self.own_results()), f"what was found is lost {where}"
         self.check_files(outcome, files, [self.shelf.files, self.own_files], kept, where)
 
-    def has_written(self):
-        return bool(self.command.written) or self.command.written is None
+    def own_results(self):
+        """The roles of what the search found. A page is none, since it can be made again."""
+        return [role for role, texts in self.own_texts().items() for _ in texts if role != "output page"]
 
     def check_role(self, outcome, said, where):
         """A refusal after one failed call names the file of that call by its role and its path."""
@@ -468,7 +470,7 @@ class Runs:
                 assert files[name] in of_role or (self.command.keeps() and self.holds(role, files[name])), f"{path} isn't whole {where}"
             elif is_printed:
                 rest = outcome.out[len(printed) :]
-                fitting = [it for it in of_role if rest.startswith(it)]
+                fitting = [it for it in of_role if rest.startswith(it) and it]
                 assert fitting, f"{role} isn't on standard output {where}"
                 printed += max(fitting, key=len)
             elif is_in_place:
@@ -482,8 +484,9 @@ class Runs:
         """The results of the command, by role."""
         texts = {}
         for path, role in self.command.outputs():
-            if str(Path(path)) in self.own_files:
-                texts.setdefault(role, []).append(self.own_files[str(Path(path))])
+            name = str(Path(path))
+            if name in self.own_files and self.own_files[name] != self.shelf.files.get(name):
+                texts.setdefault(role, []).append(self.own_files[name])
             elif path == "-":
                 line = self.own.out.rstrip(b"\n").rfind(b"\n") + 1
                 texts.setdefault(role, []).append(self.own.out[:line])
