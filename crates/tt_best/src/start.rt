@@ -135,7 +135,10 @@ fn search_tree<W: Watch>(
     ensures no_worse { IfOk result (λ w. IsNoWorseThan instance.now given w.table) }
 {
     let Outcome {
-        best, bound, proof, ..
+        best,
+        bound,
+        proof,
+        ..
     } = solve(alloc, instance, TREE_NODES, seed, watch)?;
     Ok(Week {
         parts: parts_of_tree(alloc, instance, bound, &proof)?,

@@ -74,9 +74,8 @@ fn find_texts<W: Watch>(
         effort: u64::from(effort.nodes).saturating_mul(RELAXATIONS_OF_NODE),
         seed: effort.seed,
         guide,
-        known,
     };
-    let claims = find_groups(alloc, instance, search, watch)?;
+    let claims = find_groups(alloc, instance, search, known, watch)?;
     write_all(alloc, &claims, known)
 }
 

@@ -44,10 +44,7 @@ fn leave_curricula<W: Watch>(
 }
 
 /// Updates the data of a draft after some of its targets were removed.
-fn recount<W: Watch>(
-    values: &GroupValues<'_, '_, W>,
-    draft: &mut Draft,
-) -> Result<(), AllocError> {
+fn recount<W: Watch>(values: &GroupValues<'_, '_, W>, draft: &mut Draft) -> Result<(), AllocError> {
     let (alloc, instance) = (values.alloc, values.instance);
     draft.concerned = courses_of(alloc, instance, &draft.curricula, &draft.courses)?;
     if let Some(states) = values.states_of(&draft.curricula, &draft.courses)? {

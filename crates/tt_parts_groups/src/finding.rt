@@ -38,8 +38,6 @@ pub struct GroupSearch<'a> {
     pub seed: u64,
     /// The entries of a known timetable, which bounds the cost of each group, or none.
     pub guide: &'a [Entry],
-    /// A proof whose bound adds up with the values of the groups.
-    pub known: Option<KnownProof<'a>>,
 }
 
 /// The search: the groups so far, and the targets that none of them has.
@@ -141,19 +139,16 @@ impl<'s, 'i, W: Watch> Finder<'s, 'i, W> {
     /// Shows the progress to the watch, and gives it the proofs if it asks for them.
     fn show(&mut self) -> Result<(), AllocError> {
         let bound = self.value().saturating_add(self.known_points());
-        let work = &mut self.values.work;
-        work.watch.see(
-            Progress {
-                unit: Unit::Steps,
-                done: self.effort.saturating_sub(work.left()),
-                limit: self.effort,
-                best: None,
-                bound: Some(bound),
-                tried: None,
-            },
-            &[],
-        );
-        if work.watch.is_asking(bound) {
+        let progress = Progress {
+            unit: Unit::Steps,
+            done: self.effort.saturating_sub(self.values.work.left()),
+            limit: self.effort,
+            best: None,
+            bound: Some(bound),
+            tried: None,
+        };
+        self.values.work.watch.see(progress, &[]);
+        if self.values.work.watch.is_asking(bound) {
             self.give()?;
         }
         Ok(())
@@ -235,11 +230,12 @@ impl<'s, 'i, W: Watch> Finder<'s, 'i, W> {
 }
 
 /// Searches for groups, no two of which have a curriculum or a course in common. The same seed gives the same groups, unless the watch ends the
-/// search.
+/// search. The bound of a proof that is known adds up with the values of the groups; the watch may take this proof with those of the groups.
 pub fn find_groups<W: Watch>(
     alloc: Global,
     instance: &Instance<'_>,
     search: GroupSearch<'_>,
+    known: Option<KnownProof<'_>>,
     watch: &mut W,
 ) -> Result<Vec<GroupClaim>, AllocError> {
     let guide = Guide::new(alloc, instance, search.guide)?;
@@ -250,7 +246,7 @@ pub fn find_groups<W: Watch>(
         drafts: Vec::new(alloc),
         rng: Pcg32::seed_from_u64(search.seed),
         effort: search.effort,
-        known: search.known,
+        known,
     };
     finder.go()?;
     claims_of(alloc, instance, &finder.drafts)

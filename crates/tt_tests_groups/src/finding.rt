@@ -34,9 +34,8 @@ fn found(
         effort,
         seed: 1,
         guide,
-        known: None,
     };
-    let claims = find_groups(alloc, instance, search, &mut Unwatched)?;
+    let claims = find_groups(alloc, instance, search, None, &mut Unwatched)?;
     Ok(write_groups(alloc, claims.as_slice())?)
 }
 
