@@ -1,0 +1,5 @@
+//! Tests of the tree search under a watch.
+#![tactic(auto)]
+
+#[cfg(test)]
+mod watched;
