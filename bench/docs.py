@@ -1,5 +1,5 @@
 #!/usr/bin/env python3
-"""Checks the documents: README.md, CHANGELOG.md, docs/*.md and each README.md below examples/.
+"""Checks the documents: README.md, CHANGELOG.md, CONTRIBUTING.md, docs/*.md and each README.md below examples/.
 
     python3 bench/docs.py               # links, contents lists, and names (bench/names.py)
     python3 bench/docs.py --commands    # and commands (bench/readme.py, bench/examples.py), which need the built program
@@ -21,7 +21,7 @@ LINK = re.compile(r"!?\[(?:[^\[\]]|\[[^\]]*\])*\]\(([^()\s]+)\)")
 
 
 def pages():
-    yield from (TOP / name for name in ("README.md", "CHANGELOG.md") if (TOP / name).exists())
+    yield from (TOP / name for name in ("README.md", "CHANGELOG.md", "CONTRIBUTING.md") if (TOP / name).exists())
     yield from sorted((TOP / "docs").glob("*.md"))
     yield from sorted((TOP / "examples").rglob("README.md"))
 

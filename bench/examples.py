@@ -6,7 +6,7 @@ looks whether docs/CALLING.md quotes the sources as they are.
 
 Each check prints a line; the last line says how many passed and failed. TT names the program; if it isn't set, it is ./tt. What a search
 finds isn't fixed, so a timetable is compared with tt validate; all that the scripts make of it is fixed. examples/many needs GNU parallel;
-without it, its checks are left out, and a line says so.
+without it, those of its checks that need it are left out, and a line says so.
 """
 import csv
 import datetime
@@ -192,10 +192,72 @@ def hard_name_checks(folder):
     check("a control in a name becomes U+FFFD", events and events[0]["DESCRIPTION"] == "t\ufffd\nq", text)
 
 
+def without_parallel(folder):
+    """A path of the system's commands on which there is no GNU parallel."""
+    made = folder + "/commands"
+    os.mkdir(made)
+    for at in os.environ["PATH"].split(":"):
+        for name in os.listdir(at) if os.path.isdir(at) else []:
+            if name != "parallel" and not os.path.lexists(f"{made}/{name}"):
+                os.symlink(f"{at}/{name}", f"{made}/{name}")
+    return {"PATH": made}
+
+
+def no_parallel_checks(folder):
+    """What examples/many says and does where GNU parallel isn't there."""
+    path = without_parallel(folder)
+    sum_of = [TOP + "/examples/like04.ctt", "--solution", TOP + "/examples/like04.best.sol", TOP + "/examples/like04.groups"]
+    done = run([MANY + "/check.sh", *sum_of], folder, **path)
+    check("without parallel, check.sh says so and adds up",
+          (done.stdout, done.returncode) == ("yes cost 28 bound 28 optimal\n", 0) and done.stderr.startswith("check.sh: there is no GNU parallel ")
+          and "right" not in done.stderr, done.stdout + done.stderr)
+    done = run([MANY + "/check.sh", *sum_of, TOP + "/examples/gap.proof"], folder, **path)
+    check("without parallel, check.sh ends with the sum's status", done.returncode == 2 and "refused: proof 2: " in done.stderr, done.stderr)
+    done = run([MANY + "/many.sh", "improve", "runs", TOP + "/examples/mini.ctt"], folder, **path)
+    check("without parallel, many.sh says so before it begins", done.returncode == 2 and done.stderr.startswith("many.sh: there is no GNU parallel")
+          and not os.path.exists(folder + "/runs"), done.stderr)
+
+
+def failed_run_checks(folder):
+    """What examples/many says and how it ends where something is missing or refused, with GNU parallel."""
+    for name, text in [("alone.ctt", "none"), ("wrong.ctt", "none"), ("wrong.sol", "")]:
+        with open(f"{folder}/{name}", "w", encoding="utf-8") as file:
+            file.write(text)
+    for words, said in [
+        (["improve", "runs", "alone.ctt"], "many.sh: there is no solution alone.sol, from which the runs of alone.ctt begin\n"),
+        (["parts", "runs", "nothere.ctt"], "many.sh: there is no instance nothere.ctt\n"),
+        (["parts", "runs", "alone.ctt", "./alone.ctt"], "many.sh: two instances are named alone\n"),
+        (["keep", "parts", "runs", "alone.ctt"], "many.sh: there are no runs of alone.ctt: no folder runs/alone\n"),
+        (["parts", "--seed", "runs", "alone.ctt"], "many.sh: what is --seed?\n"),
+    ]:
+        done = run([MANY + "/many.sh", *words], folder)
+        check(f"many.sh says: {said.strip()}", (done.stderr, done.stdout, done.returncode) == (said, "", 2) and not os.path.exists(folder + "/runs"), done.stderr)
+    for kind, left in [("improve", "a timetable"), ("parts", "proofs")]:
+        done = run([MANY + "/many.sh", kind, "--seeds", "2", "runs", "wrong.ctt", TOP + "/examples/mini.ctt"], folder)
+        check(f"many.sh {kind} ends with status 1 if a run failed, and keeps the others",
+              done.returncode == 1 and done.stdout.startswith("mini: ") and f"wrong: no run left {left}\n" in done.stderr
+              and f"some runs failed; runs/{kind}.log has" in done.stderr, done.stdout + done.stderr)
+        with open(f"{folder}/runs/{kind}.log", encoding="utf-8") as file:
+            statuses = sorted(line.split("\t")[6] for line in file.read().splitlines()[1:])
+        check(f"runs/{kind}.log has the statuses", statuses == ["0", "0", "2", "2"], statuses)
+    shutil.copy(TOP + "/examples/gap.ctt", folder)
+    for command, status in [(["one.sh", "improve", "wrong", "1", "10"], 2), (["one.sh", "cost", "mini", "1"], 0), (["one.sh", "cost", "mini", "9"], 2),
+                            (["one.sh", "bound", "wrong", "1"], 2), (["one.sh", "improve", "mini", "1"], 2), (["slurm.sh", "improve", "10", "wrong", "mini"], 1),
+                            (["slurm.sh", "parts", "10", "mini"], 0)]:
+        done = run([f"{MANY}/{command[0]}", *command[1:]], folder + "/runs", HERE=MANY, SLURM_ARRAY_TASK_ID="7")
+        check(f"{' '.join(command)} ends with status {status}", done.returncode == status, f"{done.returncode}, {done.stdout}{done.stderr}")
+    check("a task makes the other runs after one that failed", os.path.exists(folder + "/runs/mini/7.sol"))
+    done = run([MANY + "/check.sh", TOP + "/examples/gap.ctt", TOP + "/examples/gap.proof", "wrong.sol"], folder)
+    check("check.sh says that a proof is wrong, with status 2", done.returncode == 2 and "not every proof is right" in done.stderr, done.stderr)
+
+
 def many_checks(folder):
     if shutil.which("parallel") is None:
         print("left out: examples/many, since GNU parallel isn't here")
         return
+    failed_run_checks(folder)
+    folder += "/good"
+    os.mkdir(folder)
     instances = [TOP + "/examples/mini.ctt", TOP + "/examples/tiny01.ctt"]
     done = run([MANY + "/many.sh", "improve", "--seeds", "3", "--steps", "200", "runs", *instances], folder)
     lines = re.findall(r"^(\w+): hard 0 cost (\d+), made by seed [123], the best of 3$", done.stdout, re.M)
@@ -250,7 +312,7 @@ def calling_checks(_folder):
         check(f"CALLING's imports are those of {re.search(r'crates/[^]]*', line)[0]}", not missing, missing)
 
 
-GROUPS = [instance_checks, mistake_checks, solution_mistake_checks, hard_name_checks, calling_checks, week_checks, many_checks]
+GROUPS = [instance_checks, mistake_checks, solution_mistake_checks, hard_name_checks, calling_checks, week_checks, no_parallel_checks, many_checks]
 
 
 def main():

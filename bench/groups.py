@@ -116,6 +116,8 @@ def main():
         start = time.perf_counter()
         done = subprocess.run([PROGRAM, "sum", groups.with_suffix(".ctt"), groups], capture_output=True, text=True)
         print(f"{groups.name}: {done.stdout.strip()}{done.stderr.strip()}, {time.perf_counter() - start:.2f} s")
+        if done.returncode:
+            sys.exit(f"{groups.name} is refused")
 
 
 if __name__ == "__main__":

@@ -1,5 +1,5 @@
 #!/usr/bin/env python3
-"""Looks for names in backquotes in README.md and docs/ that nothing in the repository defines.
+"""Looks for names in backquotes in README.md, CONTRIBUTING.md and docs/ that nothing in the repository defines.
 
     python3 bench/names.py
 
@@ -116,7 +116,7 @@ def versions():
 
 def main():
     words, modules = defined()
-    docs = [os.path.join(ROOT, "README.md")]
+    docs = [os.path.join(ROOT, it) for it in ("README.md", "CONTRIBUTING.md")]
     docs += sorted(os.path.join(ROOT, "docs", it) for it in os.listdir(os.path.join(ROOT, "docs")) if it.endswith(".md") and it != "STATEMENT.md")
     missing = 0
     for path in docs:

@@ -7,8 +7,8 @@ writes the page of some timetables (good, broken, with names that are markup or 
 periods) and says of each whether it is, byte for byte, what this second program derives from the two files; its tags are
 balanced, its ids are unique, each link lands, nothing comes from outside, the marks and the items of the lists add up to the
 counts, the colours of bars are no paler than WCAG asks, and it is below 2 MB where the instance is of realistic size. The last
-line counts what passed and failed. Where Chromium is there, pictures at three widths and on paper are put into FOLDER (pages, if
-none is given), beside the pages themselves.
+line counts what passed and failed. Where Chromium is there, pictures at three widths and on paper are put into FOLDER, beside the
+pages themselves; a picture that isn't made counts as failed. If no FOLDER is given, it is out/pages, which git ignores.
 """
 import html.parser
 import os
@@ -545,29 +545,32 @@ def look(name, instance, solution, folder, days=(), periods=()):
 
 
 def take_pictures(browser, name, folder):
+    """Takes the pictures of a page; returns the names of those that weren't made."""
     page = "file://" + os.path.abspath(os.path.join(folder, name + ".html"))
     common = [browser, "--headless", "--no-sandbox", "--disable-gpu", "--hide-scrollbars"]
-    for width in (1280, 768, 390):
-        picture = os.path.join(folder, f"{name}-{width}.png")
-        subprocess.run([*common, f"--screenshot={picture}", f"--window-size={width},1700", page], capture_output=True)
-    paper = os.path.join(folder, f"{name}.pdf")
-    subprocess.run([*common, "--no-pdf-header-footer", f"--print-to-pdf={paper}", page], capture_output=True)
+    wanted = {f"{name}-{width}.png": [f"--window-size={width},1700", "--screenshot"] for width in (1280, 768, 390)}
+    wanted[f"{name}.pdf"] = ["--no-pdf-header-footer", "--print-to-pdf"]
+    for file, (option, kind) in wanted.items():
+        path = os.path.join(folder, file)
+        if os.path.exists(path):
+            os.remove(path)
+        subprocess.run([*common, f"{kind}={path}", option, page], capture_output=True)
+    return [file for file in wanted if not os.path.exists(os.path.join(folder, file))]
 
 
 def main():
-    folder = sys.argv[1] if len(sys.argv) > 1 else "pages"
+    folder = sys.argv[1] if len(sys.argv) > 1 else TOP + "/out/pages"
     os.makedirs(folder, exist_ok=True)
     failed = 0
+    browser = shutil.which("chromium") or shutil.which("chromium-browser") or shutil.which("google-chrome")
     for name, instance, solution, *named in CASES:
         faults = look(name, instance, solution, folder, *named)
+        if browser and os.path.exists(os.path.join(folder, name + ".html")):
+            faults += [f"no picture {it}" for it in take_pictures(browser, name, folder)]
         failed += bool(faults)
         for fault in faults:
             print(f"  {name}: {fault}")
-    browser = shutil.which("chromium") or shutil.which("chromium-browser") or shutil.which("google-chrome")
-    if browser:
-        for name, *_ in CASES:
-            take_pictures(browser, name, folder)
-    else:
+    if not browser:
         print("no Chromium: no pictures were taken")
     print(f"{len(CASES) - failed} passed, {failed} failed")
     return 1 if failed else 0

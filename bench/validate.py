@@ -65,8 +65,8 @@ def least(name, words):
             _, status, usage = os.wait4(child.pid, 0)
             best = min(best, time.perf_counter() - start)
             peak = max(peak, usage.ru_maxrss)
-            if os.waitstatus_to_exitcode(status) > 1:
-                sys.exit(f"{name}: refused")
+            if os.waitstatus_to_exitcode(status) not in (0, 1):
+                sys.exit(f"{name}: refused, or stopped")
             out.seek(0)
             text = out.read()
     return best * 1000, peak, text
@@ -82,6 +82,8 @@ def measure(folder, plain, name, texts):
     if plain:
         taken, peak, other = least(name, [plain, *paths])
         print(f"; plain {taken:.1f} ms, peak {peak} KiB; {'same' if text == other else 'OTHER'} counts", end="")
+        if text != other:
+            sys.exit(f"\n{name}: the counts differ: {text}, {other}")
     print()
 
 

@@ -1,12 +1,7 @@
 """Cut files, numbers at their limits, and files that aren't there or are something else, through the program."""
 
-import os
 import re
-import signal
-import stat
 import subprocess
-import threading
-import time
 from dataclasses import dataclass
 
 from program import PROGRAM
@@ -34,9 +29,10 @@ class Desk:
         for name, text in texts.items():
             (self.folder / name).write_bytes(text)
 
-    def told(self, words, given=b""):
-        """The status and the two outputs of a run."""
-        done = subprocess.run([PROGRAM, *words.split()], cwd=self.folder, input=given, capture_output=True, timeout=600)
+    def told(self, words, given=b"", seconds=600):
+        """The status and the two outputs of a run; words are a list where one of them is empty."""
+        words = words.split() if isinstance(words, str) else words
+        done = subprocess.run([PROGRAM, *words], cwd=self.folder, input=given, capture_output=True, timeout=seconds)
         return done.returncode, done.stdout, done.stderr
 
     def told_of_proof(self, instance, proof):
@@ -59,8 +55,20 @@ class Desk:
         return program.returncode, out, err
 
 
+NOT_THERE = b"No such file or directory (os error 2)"
+IS_FOLDER = b"Is a directory (os error 21)"
+
+
 def refused(why):
     return 2, b"", b"refused: " + why + b"\n"
+
+
+def not_read(role, path, reason):
+    return refused(f"{role}: cannot read: {path}: ".encode() + reason)
+
+
+def not_written(role, path, reason):
+    return refused(f"cannot write: output {role}: {path}: ".encode() + reason)
 
 
 def in_second_place(told):
@@ -150,14 +158,15 @@ def failed_reads_of_a_proof(desk):
     proof that can't be opened in the same words."""
     desk.put(instance=GAP, solution=APART, proof=GAP_PROOF, nothing=NOTHING)
     for words, reads in [
-        ("check instance solution proof", {b"proof: Read": 125}),
-        ("sum instance nothing proof", {b"proof 1: Read": len(NOTHING) + 2, b"proof 2: Read": 126}),
+        ("check instance solution proof", {b"proof: Read: proof": 125}),
+        ("sum instance nothing proof", {b"proof 1: Read: nothing": len(NOTHING) + 2, b"proof 2: Read: proof": 126}),
     ]:
         run = [PROGRAM, *words.split()]
         calls = desk.refuser.run(run, Refusal(narrow=1), desk.folder).counted.calls
         told = [desk.refuser.run(run, Refusal(narrow=1, call=it + 1, fault=READ_ERROR), desk.folder).told() for it in range(calls)]
         for what, wanted in reads.items():
-            assert told.count(refused(what)) == wanted, f"{words}: {what} after {told.count(refused(what))} reads"
+            count = told.count(refused(what + b": Input/output error (os error 5)"))
+            assert count == wanted, f"{words}: {what} after {count} reads"
 
 
 def endless_spaces(desk):
@@ -166,8 +175,8 @@ def endless_spaces(desk):
             yield SPACES
 
     desk.put(instance=MINI, solution=APART)
-    same(desk.told_of_stream("validate /dev/stdin solution", spaces()), refused(b"instance: too long"))
-    same(desk.told_of_stream("validate instance /dev/stdin", spaces()), refused(b"solution: too long"))
+    same(desk.told_of_stream("validate /dev/stdin solution", spaces()), refused(b"instance: too long: /dev/stdin"))
+    same(desk.told_of_stream("validate instance /dev/stdin", spaces()), refused(b"solution: too long: /dev/stdin"))
     same(desk.told_of_stream("bound instance /dev/stdin", spaces()), refused(b"proof: TooManyBytes"))
     desk.put(nothing=NOTHING)
     same(desk.told_of_stream("sum instance nothing /dev/stdin", spaces()), refused(b"proof 2: TooManyBytes"))
@@ -199,26 +208,29 @@ def many_dear_lectures(desk):
 
 def missing_files(desk):
     desk.put(instance=GAP, solution=APART, proof=GAP_PROOF)
-    for words, what in [
-        ("validate none solution", b"instance"),
-        ("validate instance none", b"solution"),
-        ("check instance none proof", b"solution"),
-        ("check instance solution none", b"proof"),
-        ("bound instance none", b"proof"),
-        ("upgrade instance none out", b"proof"),
-        ("improve instance none out", b"solution"),
-        ("solve none out proof", b"instance"),
-        ("report instance none --by room", b"solution"),
-        ("page instance none out", b"solution"),
-        ("sum none proof", b"instance"),
-        ("sum instance --solution none proof", b"solution"),
-        ("parts none out", b"instance"),
-        ("best none out", b"instance"),
+    for words, role in [
+        ("validate none solution", "instance"),
+        ("validate instance none", "solution"),
+        ("check instance none proof", "solution"),
+        ("check instance solution none", "proof"),
+        ("bound instance none", "proof"),
+        ("upgrade instance none out", "proof"),
+        ("improve instance none out", "solution"),
+        ("solve none out proof", "instance"),
+        ("report instance none --by room", "solution"),
+        ("page instance none out", "solution"),
+        ("sum none proof", "instance"),
+        ("sum instance --solution none proof", "solution"),
+        ("parts none out", "instance"),
+        ("parts instance out --solution none", "solution"),
+        ("best none out", "instance"),
+        ("best instance out --from none", "solution"),
+        ("inspect none", "instance"),
+        ("inspect instance none", "solution"),
     ]:
-        same(desk.told(words), refused(what + b": cannot read"))
-    for words, what in [("inspect none", b"instance"), ("inspect instance none", b"solution")]:
-        status, out, err = refused(what + b": cannot read")
-        same(desk.told(words), (status, out, b"none: No such file or directory (os error 2)\n" + err))
+        same(desk.told(words), not_read(role, "none", NOT_THERE))
+    same(desk.told("sum instance proof none"), refused(b"proof 2: Read: none: " + NOT_THERE))
+    same(desk.told("page instance solution out --proof none"), refused(b"proof 1: Read: none: " + NOT_THERE))
     assert not (desk.folder / "out").exists()
 
 
@@ -226,165 +238,61 @@ def folders_in_the_place_of_files(desk):
     desk.put(instance=GAP, solution=APART, proof=GAP_PROOF)
     (desk.folder / "folder").mkdir()
     before = {it.name for it in desk.folder.iterdir()}
-    same(desk.told("validate folder solution"), refused(b"instance: cannot read"))
-    same(desk.told("bound instance folder"), refused(b"proof: Read"))
-    same(desk.told("sum instance proof folder"), refused(b"proof 2: Read"))
-    for words in ["page instance solution folder", "upgrade instance proof folder", "improve instance solution folder", "solve instance folder other"]:
-        same(desk.told(words), refused(b"cannot write"))
+    same(desk.told("validate folder solution"), not_read("instance", "folder", IS_FOLDER))
+    same(desk.told("validate instance folder"), not_read("solution", "folder", IS_FOLDER))
+    same(desk.told("bound instance folder"), refused(b"proof: Read: folder: " + IS_FOLDER))
+    same(desk.told("sum instance proof folder"), refused(b"proof 2: Read: folder: " + IS_FOLDER))
+    for words, role in [
+        ("page instance solution folder", "page"),
+        ("upgrade instance proof folder", "proof"),
+        ("improve instance solution folder", "solution"),
+        ("solve instance folder other", "solution"),
+        ("solve instance other folder", "proof"),
+    ]:
+        same(desk.told(words), not_written(role, "folder", b"is a folder"))
         assert {it.name for it in desk.folder.iterdir()} == before, f"{words} leaves something"
 
 
-CANNOT_WRITE = refused(b"cannot write")
-
-
-def filled(desk):
-    """Puts the files of most commands on the desk, and returns what is there."""
-    desk.put(instance=GAP, solution=APART, proof=GAP_PROOF)
-    return texts(desk)
-
-
-def texts(desk):
-    return {it.name: it.read_bytes() for it in desk.folder.iterdir() if it.is_file()}
-
-
-def outputs_that_are_inputs(desk):
-    """An output that is an input under any name is refused, and so are two outputs that are one; no file changes."""
-    filled(desk)
-    os.symlink("instance", desk.folder / "link")
-    os.link(desk.folder / "solution", desk.folder / "hard")
-    (desk.folder / "room").mkdir()
-    os.link(desk.folder / "instance", desk.folder / "room" / "groups.proof")
-    os.symlink("nowhere", desk.folder / "loose")
-    for name in ("hall", "corner"):
-        (desk.folder / name).mkdir()
-    os.symlink("rooms.proof", desk.folder / "hall" / "groups.proof")
-    os.symlink("../page.html", desk.folder / "corner" / "best.sol")
-    os.symlink("../page.html", desk.folder / "corner" / "page.html")
-    before = texts(desk)
-    for words in [
-        "improve instance solution instance",
-        "improve instance solution ./solution",
-        "improve instance solution room/../instance",
-        "improve instance solution link",
-        "improve instance solution hard",
-        "page instance solution link",
-        "upgrade instance proof ./proof",
-        "upgrade instance proof instance",
-        "solve instance link other",
-        "solve instance other instance",
-        "solve instance same same",
-        "solve instance same ./same",
-        "solve instance loose nowhere",
-        "parts instance room",
-        "parts instance hall",
-        "best instance room",
-        "best instance corner",
-        "improve instance solution room",
-        "improve instance solution other/",
+def standard_input(desk):
+    """`-` is standard input, at most once; a file of that name has a longer path."""
+    desk.put(instance=GAP, solution=APART, proof=GAP_PROOF, nothing=NOTHING)
+    desk.put(**{"-": GAP})
+    told = desk.told("validate instance solution")
+    for words, given, wanted in [
+        ("validate - solution", GAP, told),
+        ("validate instance -", APART, told),
+        ("validate ./- solution", b"", told),
+        ("check instance solution -", GAP_PROOF, (0, b"yes cost 5 bound 5 optimal\n", b"")),
+        ("bound instance -", GAP_PROOF, (0, b"bound 5\n", b"")),
+        ("sum instance nothing -", GAP_PROOF, (0, b"bound 5\n", b"")),
+        ("sum instance --solution - nothing proof", APART, (0, b"yes cost 5 bound 5 optimal\n", b"")),
+        ("sum instance - nothing", GAP_GROUPS, (0, b"bound 4\n", b"")),
+        ("improve - solution out", GAP, (0, b"hard 0 cost 5\n", b"")),
+        ("upgrade instance - out", GAP_PROOF, (0, b"bound 5\n", b"")),
+        ("solve - out other", GAP, (0, b"cost 5 bound 5 finished\n", b"")),
+        ("page instance solution out --proof -", GAP_PROOF, (0, b"", b"")),
+        ("parts - parts", GAP, (0, b"bound 5 parts 2\n", b"")),
+        ("best - best", GAP, (0, b"cost 5 bound 5 optimal\n", b"")),
+        ("best instance best --from -", APART, (0, b"cost 5 bound 5 optimal\n", b"")),
+        ("validate - solution", b"", refused(b"instance: Ended at byte 0")),
     ]:
-        same(desk.told(words), CANNOT_WRITE)
-        assert texts(desk) == before, f"{words} changes a file"
-
-
-def outputs_behind_links(desk):
-    """The file that a link leads to is written, and the link stays; a file's permissions stay."""
-    filled(desk)
-    (desk.folder / "room").mkdir()
-    os.symlink("room/target", desk.folder / "first")
-    os.symlink("first", desk.folder / "second")
-    for mode in (None, 0o600, 0o640, 0o444):
-        target = desk.folder / "room" / "target"
-        if mode is not None:
-            target.chmod(mode)
-        same(desk.told("improve instance solution second"), (0, b"hard 0 cost 5\n", b""))
-        assert os.readlink(desk.folder / "second") == "first" and os.readlink(desk.folder / "first") == "room/target"
-        assert mode is None or stat.S_IMODE(target.stat().st_mode) == mode
-    assert {it.name for it in (desk.folder / "room").iterdir()} == {"target"}
-
-
-def devices_and_pipes(desk):
-    """A device or a pipe is written to, and stays one."""
-    filled(desk)
-    os.mkfifo(desk.folder / "pipe")
-    read = []
-    reader = threading.Thread(target=lambda: read.append((desk.folder / "pipe").read_bytes()))
-    reader.start()
-    same(desk.told("improve instance solution pipe"), (0, b"hard 0 cost 5\n", b""))
-    reader.join()
-    assert len(read[0].split()) == 8 and stat.S_ISFIFO((desk.folder / "pipe").stat().st_mode)
-    same(desk.told("page instance solution /dev/null"), (0, b"", b""))
-    assert stat.S_ISCHR(os.stat("/dev/null").st_mode)
-    told = desk.told("upgrade instance proof /dev/stdout")
-    assert told[0] == 0 and told[1].startswith(b"CTTP 2 bound 5") and told[1].endswith(b"bound 5\n")
-    same(desk.told("page instance solution /dev/full"), CANNOT_WRITE)
-
-
-def outputs_in_missing_folders(desk):
-    """What can't be written is refused before a search begins."""
-    before = filled(desk)
-    like = PROGRAM.parents[3] / "examples" / "like02"
-    for words in [
-        f"improve {like}.ctt {like}.sol none/out --steps 1000000",
-        f"solve {like}.ctt none/out other --nodes 65536",
-        f"solve {like}.ctt other none/out --nodes 65536",
-        f"parts {like}.ctt none/none",
-        f"best {like}.ctt none/none",
-        "page instance solution none/out",
-        "upgrade instance proof none/out",
+        same(desk.told(words, given), wanted)
+    assert (desk.folder / "-").read_bytes() == GAP
+    for words, role in [
+        ("validate - -", b"solution"),
+        ("check - solution -", b"proof"),
+        ("check instance - -", b"proof"),
+        ("sum - - nothing", b"proof 1"),
+        ("sum instance - nothing -", b"proof 3"),
+        ("sum - --solution - proof", b"solution"),
+        ("page - - out", b"solution"),
+        ("upgrade - - out", b"proof"),
+        ("parts - other --solution -", b"solution"),
+        ("best - other --from -", b"solution"),
     ]:
-        start = time.perf_counter()
-        same(desk.told(words), CANNOT_WRITE)
-        assert time.perf_counter() - start < 2, f"{words} takes long"
-    assert texts(desk) == before
-
-
-def folders_that_are_made(desk):
-    """The folder of `parts` and of `best` is made, and removed again where nothing is written to it."""
-    filled(desk)
-    desk.put(bad=b"bad")
-    for command, names in [("parts", {"groups.proof", "rooms.proof"}), ("best", {"best.sol", "page.html", "tree.proof"})]:
-        assert desk.told(f"{command} instance {command}")[0] == 0
-        assert {it.name for it in (desk.folder / command).iterdir()} == names
-        same(desk.told(f"{command} bad new"), refused(b"instance: Expected Name: at byte 0"))
-        assert not (desk.folder / "new").exists()
-
-
-def left_over_files(desk):
-    """Runs that were killed keep no later one from writing; a search that keeps its best timetable leaves it."""
-    filled(desk)
-    for number in range(200):
-        (desk.folder / f"out.new{number}").touch()
-        (desk.folder / f"tt-{number:016x}.new").touch()
-    same(desk.told("improve instance solution out"), (0, b"hard 0 cost 5\n", b""))
-    like = PROGRAM.parents[3] / "examples" / "like02"
-    words = [PROGRAM, "improve", f"{like}.ctt", f"{like}.sol", "best", "--steps", "1000000", "--runs", "1000", "--keep"]
-    run = subprocess.Popen(words, cwd=desk.folder, stdout=subprocess.DEVNULL)
-    time.sleep(4)
-    run.send_signal(signal.SIGKILL)
-    run.wait()
-    told = desk.told(f"validate {like}.ctt best")
-    assert told[0] == 0 and b"hard 0\n" in told[1], f"{told}"
-
-
-def progress(desk):
-    """What is shown goes to standard error, only where it is asked for or a terminal is there, and is cleared."""
-    like = PROGRAM.parents[3] / "examples" / "like02"
-    words = f"improve {like}.ctt {like}.sol out --steps 100000"
-    assert desk.told(words)[2] == b"" and desk.told(f"{words} --progress --quiet")[2] == b""
-    shown = desk.told(f"{words} --progress")[2]
-    assert re.match(rb"\rimprove: [\d,]+ of 100,000 steps, cost \d+, \d+ s\x1b\[K", shown) and shown.endswith(b"\r\x1b[K")
-    # A page of some 20 MB, in pieces.
-    desk.put(instance=ONE_PERIOD % b"".join(b"q%d 1 c0\n" % it for it in range(256)), solution=b"c0 R0 0 0\n" * 256)
-    shown = desk.told("page instance solution out --progress")[2]
-    assert re.match(rb"\rpage: [\d,]+ bytes written, \d+ s\x1b\[K", shown) and shown.endswith(b"\r\x1b[K")
-
-
-def a_closed_output(desk):
-    desk.put(instance=GAP, solution=APART, proof=GAP_PROOF)
-    for words in ["", "--help", "check instance solution proof", "sum instance proof", "report instance solution --by room"]:
-        with open("/dev/full", "wb") as full:
-            done = subprocess.run([PROGRAM, *words.split()], cwd=desk.folder, stdout=full, stderr=subprocess.PIPE, timeout=60)
-        same((done.returncode, done.stderr), (2, b"refused: cannot write\n"))
+        told = desk.told(words, GAP)
+        assert told[:2] == (2, b"") and re.fullmatch(b"refused: " + role + rb": cannot read: -: [^\n]+\n", told[2]), f"{words}: {told}"
+    assert not (desk.folder / "other").exists()
 
 
 ROWS = [
@@ -400,12 +308,5 @@ ROWS = [
     ("4,096 lectures at the greatest price", many_dear_lectures),
     ("files that aren't there", missing_files),
     ("folders in the place of files", folders_in_the_place_of_files),
-    ("outputs that are inputs", outputs_that_are_inputs),
-    ("outputs behind links", outputs_behind_links),
-    ("devices and pipes as outputs", devices_and_pipes),
-    ("outputs in folders that aren't there", outputs_in_missing_folders),
-    ("folders that are made", folders_that_are_made),
-    ("files that killed runs leave", left_over_files),
-    ("progress on standard error", progress),
-    ("an output that takes nothing", a_closed_output),
+    ("standard input as an input", standard_input),
 ]

@@ -152,8 +152,8 @@ def largest_files(table):
 def one_byte_more(table):
     """A file of an instance or of a solution that is a byte longer."""
     table.put(instance=MINI, longer=padded(MINI, FILE_BYTES + 1))
-    same(table.run("validate longer instance").told(), refused(b"instance: too long"))
-    same(table.run("validate instance longer").told(), refused(b"solution: too long"))
+    same(table.run("validate longer instance").told(), refused(b"instance: too long: longer"))
+    same(table.run("validate instance longer").told(), refused(b"solution: too long: longer"))
 
 
 def one_entry_more(table):

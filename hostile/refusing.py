@@ -28,15 +28,22 @@ class Refusal:
     from_there: int = 0
     fault: int = READ_ERROR
     narrow: int = 0
+    hurry: int = 0
 
 
 @dataclass
 class Counted:
+    """What was counted: the numbers of the page in refuse.c, in its order."""
+
     growths: int
     calls: int
     refused: int
     marks: int
     unlinks: int
+    tried: int
+    stored: int
+    unstored: int
+    unstored_names: int
     file: str = ""
 
 

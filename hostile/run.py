@@ -1,20 +1,22 @@
 #!/usr/bin/env python3
 """Puts the program and its calls into a hostile world, and looks at what they answer.
 
-    python3 hostile/run.py [PART ..]
+    python3 hostile/run.py [PART[:TEXT] ..]
 
-The parts, all of them if none is named:
+The parts, all of them if none is named; with a text only the rows of a part whose names contain it:
 
 calls    each public call that takes memory, with its first growth refused, then its second, until none is met
-memory   the program, each command the same way
+memory   the program, each command the same way; one that writes files also where none are there yet
 disk     the program, each command with each call to the system failing in turn, in several ways; of more than 150 calls, as those that
-         write a page byte by byte, the first and the last 50 and some 50 between
+         write a page byte by byte, the first and the last 50 and some 50 between; one that writes files also where none are there yet
 inputs   cut files, endless files, numbers at their limits, files that aren't there
+outputs  standard streams, links, folders, files that can't be replaced, searches that are stopped or begin at earlier results
 largest  the largest inputs that are taken, and what is one above a limit; prints times and peak memory
 slow     files that hold the program long for their size; fails if a row takes twice what is aimed at
 
-The others take some eight minutes, the largest inputs less than a third of that; the last line but one says how long it took. It needs what `rt ci`, or
-`./tt` and `rt all test`, have built. The last line is `N passed, M failed`; the status is 1 where something failed.
+The others take some twenty minutes, the largest inputs less than a third of that; the last line but one says how long it took. It needs what `rt ci`, or
+`./tt` and `rt all test`, have built; TT names another program. Rows that need what the system doesn't give, as root's rights, are left out and say so.
+The last line is `N passed, M failed`; the status is 1 where something failed.
 """
 
 import os
@@ -26,6 +28,7 @@ from pathlib import Path
 import calls
 import inputs
 import largest
+import outputs
 import program
 import slow
 from refusing import Refuser
@@ -33,9 +36,12 @@ from refusing import Refuser
 
 class Tally:
     passed = failed = 0
+    text = ""
 
     def run(self, name, work):
-        """Does one piece of work, and says what came of it."""
+        """Does one piece of work, if it is asked for, and says what came of it."""
+        if self.text not in name:
+            return
         start = time.perf_counter()
         try:
             said = work() or ""
@@ -58,22 +64,31 @@ def run_calls(tally, refuser, folder):
             tally.run(name.removeprefix("memory::"), lambda: answers_of(calls.growths(refuser, built, name)))
 
 
-def shelved(refuser, folder, command):
-    return program.Runs(refuser, program.Shelf(folder), command)
+def on_shelves(tally, refuser, folder, work):
+    """Does some work with the runs of each command: where older files are, and, if it writes some, where none are."""
+    for command in program.COMMANDS:
+        for has_older in (True, False) if command.written != {} else (True,):
+            with tempfile.TemporaryDirectory(dir=folder) as room:
+                shelf = program.Shelf(Path(room), has_older)
+                tally.run(command.name() + ("" if has_older else ", no older files"), lambda: work(program.Runs(refuser, shelf, command)))
 
 
 def run_memory(tally, refuser, folder):
-    for command in program.COMMANDS:
-        tally.run(command.name(), lambda: answers_of(shelved(refuser, folder, command).growths()))
+    on_shelves(tally, refuser, folder, lambda runs: answers_of(runs.growths()))
 
 
 def run_disk(tally, refuser, folder):
-    for command in program.COMMANDS:
-        tally.run(command.name(), lambda: f"{shelved(refuser, folder, command).calls()} runs")
+    on_shelves(tally, refuser, folder, lambda runs: f"{runs.calls()} runs")
 
 
 def run_inputs(tally, refuser, folder):
     for name, row in inputs.ROWS:
+        with tempfile.TemporaryDirectory(dir=folder) as room:
+            tally.run(name, lambda: row(inputs.Desk(Path(room), refuser)))
+
+
+def run_outputs(tally, refuser, folder):
+    for name, row in outputs.ROWS:
         with tempfile.TemporaryDirectory(dir=folder) as room:
             tally.run(name, lambda: row(inputs.Desk(Path(room), refuser)))
 
@@ -90,23 +105,23 @@ def run_slow(tally, refuser, folder):
             tally.run(name, lambda: row(largest.Table(Path(room))))
 
 
-PARTS = {"calls": run_calls, "memory": run_memory, "disk": run_disk, "inputs": run_inputs, "largest": run_largest, "slow": run_slow}
+PARTS = {"calls": run_calls, "memory": run_memory, "disk": run_disk, "inputs": run_inputs, "outputs": run_outputs, "largest": run_largest, "slow": run_slow}
 
 
 def main():
-    asked = sys.argv[1:] or [*PARTS]
-    if not set(asked) <= set(PARTS):
+    asked = [it.partition(":")[::2] for it in sys.argv[1:] or PARTS]
+    if not {part for part, _ in asked} <= set(PARTS):
         sys.exit(__doc__)
     if not program.PROGRAM.exists():
         sys.exit("run ./tt first: the program is not built")
     tally, start = Tally(), time.perf_counter()
-    for part in asked:
+    for part, tally.text in asked:
         print(f"== {part}", flush=True)
         with tempfile.TemporaryDirectory() as library, tempfile.TemporaryDirectory() as folder:
             PARTS[part](tally, Refuser(library), Path(folder))
     print(f"{time.perf_counter() - start:.0f} seconds on {os.cpu_count()} cores")
     print(f"{tally.passed} passed, {tally.failed} failed")
-    return 1 if tally.failed else 0
+    return 1 if tally.failed or not tally.passed else 0
 
 
 if __name__ == "__main__":

@@ -30,6 +30,9 @@ GAP = (
     .replace(b"CONSTRAINTS:\n", b"CONSTRAINTS:\na 0 1\nb 0 1\n")
 )
 
+# Mini with a seat for each student, so that a timetable may cost nothing.
+FREE = MINI.replace(b"Mini", b"Free").replace(b"R 11", b"R 12")
+
 # In Gap each of the two lectures is alone on its day: what the curriculum costs, whatever the rooms.
 GAP_GROUPS = b"CTTG 1 bound 4\nG 4 q0 / c0 ;\nend\n"
 

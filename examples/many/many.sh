@@ -11,7 +11,9 @@
 #
 #   many.sh prepare improve|parts OUTDIR INSTANCE..    only copies the inputs to OUTDIR, for slurm.sh
 #   many.sh keep improve|parts OUTDIR INSTANCE..       only compares what runs have left in OUTDIR
-set -eu
+#
+# The status is 1 if a run failed, or left nothing, though what the others left is kept, and 2 if nothing was begun.
+set -euo pipefail
 here=$(cd "$(dirname "${BASH_SOURCE[0]}")" && pwd)
 TT=$(realpath "${TT:-$here/../../tt}")
 export TT
@@ -28,6 +30,7 @@ while [ $# -gt 1 ]; do
     --steps | --nodes) amount=$2 ;;
     --jobs) jobs=$2 ;;
     --hosts) hosts=$2 ;;
+    -*) echo "many.sh: what is $1?" >&2; exit 2 ;;
     *) break ;;
   esac
   shift 2
@@ -35,6 +38,31 @@ done
 if [ $# -lt 2 ]; then echo "many.sh: give OUTDIR and at least one INSTANCE" >&2; exit 2; fi
 out=$1
 shift
+
+# Another program of this name has no such option.
+if [ "$stage" != prepare ] && [ "$(parallel --version 2>/dev/null | head -c 12)" != 'GNU parallel' ]; then
+  echo "many.sh: there is no GNU parallel, which makes the runs (on Debian: apt-get install parallel)" >&2
+  exit 2
+fi
+
+# Ends where a file that is to be copied isn't there, or where two instances would have one folder.
+check_inputs() {
+  local instance name names=" "
+  for instance in "$@"; do
+    name=$(basename "$instance" .ctt)
+    case $names in *" $name "*) echo "many.sh: two instances are named $name" >&2; exit 2 ;; esac
+    names="$names$name "
+    if [ "$stage" = keep ]; then
+      if [ ! -d "$out/$name" ]; then echo "many.sh: there are no runs of $instance: no folder $out/$name" >&2; exit 2; fi
+      continue
+    fi
+    if [ ! -f "$instance" ]; then echo "many.sh: there is no instance $instance" >&2; exit 2; fi
+    if [ "$kind" = improve ] && [ ! -f "${instance%.ctt}.sol" ]; then
+      echo "many.sh: there is no solution ${instance%.ctt}.sol, from which the runs of $instance begin" >&2
+      exit 2
+    fi
+  done
+}
 
 # Copies an instance and its solution to a folder of its own, so that a run needs no other file.
 prepare() {
@@ -60,34 +88,44 @@ seeds_of() {
 
 # Keeps the timetable with the least hard count and cost, and of equal ones that of the first seed.
 keep_timetable() {
-  local hard cost seed
-  seeds_of "$1" | parallel --jobs "$jobs" "$here/one.sh" cost "$1" '{}' | sort -n -k1,1 -k2,2 -k3,3 >"$1/costs"
+  local hard cost seed refused=0
+  seeds_of "$1" | parallel --jobs "$jobs" "$here/one.sh" cost "$1" '{}' | sort -n -k1,1 -k2,2 -k3,3 >"$1/costs" || refused=1
+  if [ "$refused" -eq 1 ]; then echo "$1: some timetables could not be counted" >&2; fi
   if ! read -r hard cost seed <"$1/costs"; then echo "$1: no run left a timetable" >&2; return 1; fi
-  cp "$1/$seed.sol" "$1.sol"
+  cp "$1/$seed.sol" "$1.sol" || return 1
   echo "$1: hard $hard cost $cost, made by seed $seed, the best of $(wc -l <"$1/costs")"
+  return "$refused"
 }
 
 # Keeps the proofs with the greatest bound, and of equal ones those of the first seed.
 keep_proofs() {
-  local bound seed
-  seeds_of "$1" | parallel --jobs "$jobs" "$here/one.sh" bound "$1" '{}' | sort -k1,1nr -k2,2n >"$1/bounds"
+  local bound seed refused=0
+  seeds_of "$1" | parallel --jobs "$jobs" "$here/one.sh" bound "$1" '{}' | sort -k1,1nr -k2,2n >"$1/bounds" || refused=1
+  if [ "$refused" -eq 1 ]; then echo "$1: some proofs were refused" >&2; fi
   if ! read -r bound seed <"$1/bounds"; then echo "$1: no run left proofs" >&2; return 1; fi
   rm -rf "$1.proofs"
-  cp -r "$1/$seed.proofs" "$1.proofs"
+  cp -r "$1/$seed.proofs" "$1.proofs" || return 1
   echo "$1: bound $bound, made by seed $seed, the best of $(wc -l <"$1/bounds")"
+  return "$refused"
 }
 
+check_inputs "$@"
 # The first call builds the program if it isn't built, so that the runs needn't.
 "$TT" --help >/dev/null
-names=()
+names=() status=0
 for instance in "$@"; do
   if [ "$stage" != keep ]; then prepare "$instance"; fi
   names+=("$(basename "$instance" .ctt)")
 done
 cd "$out"
-if [ "$stage" = all ]; then run_all "${names[@]}" || echo "many.sh: some runs failed; $kind.log has the exit status of each" >&2; fi
+if [ "$stage" = all ]; then
+  rm -f "$kind.log"
+  run_all "${names[@]}" || status=1
+  if [ "$status" -ne 0 ] && [ -e "$kind.log" ]; then echo "many.sh: some runs failed; $out/$kind.log has the exit status of each" >&2; fi
+fi
 if [ "$stage" != prepare ]; then
   for name in "${names[@]}"; do
-    if [ "$kind" = improve ]; then keep_timetable "$name"; else keep_proofs "$name"; fi
+    if [ "$kind" = improve ]; then keep_timetable "$name" || status=1; else keep_proofs "$name" || status=1; fi
   done
 fi
+exit "$status"

@@ -24,7 +24,6 @@ use Rattle.tt_report.specs.declared.fault.ReportFault.TheVariants as report
 use Rattle.tt_app_answers.specs.declared.fault.AppFault.{AppFault}
 use Rattle.tt_app_answers.specs.declared.fault.AppFault.TheVariants as fault
 use Rattle.tt_proof_sum.specs.declared.fault.SumFault.{SumFault}
-use Rattle.tt_report_export.specs.Calendars.{Term}
 
 -- The fault of a call for a fault of the reader of instances.
 abbrev pub fault_from_instance : InstanceFault → AppFault

@@ -103,12 +103,13 @@ impl<'k, 't, R: World, E: Write, S: Shelf + Drop> Drop for Keeper<'k, 't, R, E, 
             rt: _,
             ticker: _,
             limit: _,
-            table: _,
+            table,
             shelf: _,
             keeps_proofs: _,
             pace: _,
             bound: _,
         } = self;
+        drop(table);
     }
 }
 

@@ -1,5 +1,7 @@
 //! Files of proofs; at most one is open at a time.
 
+ghost use Rattle.std.specs.Prelude.{◌≡◌, true};
+
 use crate::fault::CommandFault;
 use crate::showing::{OpenProof, Shown, open_counted};
 use crate::world::World;
@@ -49,7 +51,9 @@ impl<'r, 'p, 't, R: World, E: Write> Drop for ProofFile<'r, 'p, 't, R, E> {
 
 impl<'r, 'p, 't, R: World, E: Write> ProofFile<'r, 'p, 't, R, E> {
     /// Notes why the file can't be read.
-    fn fail(&mut self, reason: Error) -> ReadFailed {
+    fn fail(&mut self, reason: Error) -> ReadFailed
+        ensures { self.new.failed ≡ true }
+    {
         self.failed = true;
         self.unread.set(Some(Unread {
             path: self.path,

@@ -1,7 +1,7 @@
 //! A file system in memory that can be written.
 
 use std::alloc::{Allocator, Global};
-use std::cell::RefCell;
+use std::cell::{Cell, RefCell};
 use std::fs::{Metadata, OpenFile, OpenOptions};
 use std::io;
 use std::io::{BufRead, Error, ErrorKind, Lines, Read, Seek, SeekFrom, Write};
@@ -31,6 +31,9 @@ pub struct MemoryFiles {
     alloc: Global,
     entries: RefCell<Vec<MemoryFile>>,
     refusal: Refusal,
+    /// The milliseconds that the clock moves each time that it is read, and those that it has moved.
+    tick: u64,
+    moved: Cell<u64>,
 }
 
 /// An opened file: reads are made from a copy, and writes go to the file.
@@ -76,12 +79,19 @@ fn fault(kind: ErrorKind) -> Error {
 }
 
 impl MemoryFiles {
-    /// Returns a memory without files.
+    /// Returns a memory without files, whose clock stands.
     pub fn new(alloc: Global, refusal: Refusal) -> MemoryFiles {
+        MemoryFiles::ticking(alloc, refusal, 0)
+    }
+
+    /// Returns a memory without files, whose clock moves by this many milliseconds each time that it is read.
+    pub fn ticking(alloc: Global, refusal: Refusal, tick: u64) -> MemoryFiles {
         MemoryFiles {
             alloc,
             entries: RefCell::new(Vec::new(alloc)),
             refusal,
+            tick,
+            moved: Cell::new(0),
         }
     }
 
@@ -311,12 +321,14 @@ impl<'s> Input for &'s MemoryFiles {
     }
 }
 
-/// A clock that never moves.
 impl<'s> Clock for &'s MemoryFiles {
     fn monotonic(&self) -> io::Result<Duration> {
-        Ok(Duration::ZERO)
+        let moved = self.moved.get().saturating_add(self.tick);
+        self.moved.set(moved);
+        Ok(Duration::from_millis(moved))
     }
 
+    /// Time of day stands still, so new files have the same names in each run.
     fn since_1970(&self) -> io::Result<Duration> {
         Ok(Duration::ZERO)
     }

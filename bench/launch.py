@@ -1,0 +1,229 @@
+#!/usr/bin/env python3
+"""Tries ./tt and ./gate with a stand-in for the toolchain, which proves nothing and builds a program that prints its words.
+
+    python3 bench/launch.py
+
+Each row is what happened to a small repository with these scripts, and whether ./tt then uses the program that is there or builds it again. It
+takes some seconds; the last line is `N passed, M failed`, and the status is 1 where something failed.
+"""
+import os
+import shutil
+import subprocess
+import sys
+import tempfile
+import time
+from pathlib import Path
+
+TOP = Path(__file__).resolve().parent.parent
+# Says what it was built from, so that a program of older sources shows itself.
+STAND_IN = """#!/bin/sh
+echo "rt $*" >>"$CALLS"
+[ -z "$EDIT_ON_THE_WAY" ] || echo edited >>"$EDIT_ON_THE_WAY"
+rm -rf crates/*/out
+mkdir -p crates/tt/out
+printf '#!/bin/sh\\necho "%s: $*"\\n' "$(tail -n 1 crates/tt_text/src/lib.rt)" >crates/tt/out/tt
+chmod +x crates/tt/out/tt
+echo 'rt: tt_text proved'
+exit "${STATUS:-0}"
+"""
+SOURCE = "crates/tt_text/src/lib.rt"
+FILES = {
+    "crates.txt": "# words\ntt_text: itoa # of a file\ntt_bits:\n# the program\ntt: tt_text tt_bits clap\n# tests\ntt_tests_app: tt\n",
+    "HANDLES": "Handles allowed: none.\n",
+    "README.md": (TOP / "README.md").read_text(),
+    SOURCE: "first\n",
+    "crates/tt_text/specs/Lib.antt": "",
+    "crates/tt_text/proofs/Lib.antt": "",
+    "crates/tt_text/must-fail/wrong.edit": "",
+    "crates/tt_bits/src/lib.rt": "",
+    "crates/tt/src/main.rt": "",
+    "crates/tt_tests_app/src/lib.rt": "",
+}
+
+
+class Copy:
+    """A repository of four crates, and the calls of the stand-in that were made in it."""
+
+    def __init__(self, folder):
+        self.folder, self.calls = folder / "copy", folder / "calls"
+        for name, text in FILES.items():
+            self.write(name, text)
+        for name in ("tt", "gate", "bench/sources.sh"):
+            (self.folder / name).parent.mkdir(exist_ok=True)
+            shutil.copy(TOP / name, self.folder / name)
+        (folder / "bin").mkdir()
+        (folder / "bin" / "rt").write_text(STAND_IN)
+        (folder / "bin" / "rt").chmod(0o755)
+        self.path = f"{folder / 'bin'}:{os.environ['PATH']}"
+
+    def write(self, name, text):
+        (self.folder / name).parent.mkdir(parents=True, exist_ok=True)
+        (self.folder / name).write_text(text)
+
+    def run(self, words, path=None, **more):
+        surroundings = {**os.environ, "PATH": path or self.path, "CALLS": str(self.calls), **more}
+        return subprocess.run(words, cwd=self.folder, env=surroundings, capture_output=True, text=True, shell=True)
+
+    def count(self):
+        return len(self.calls.read_text().splitlines()) if self.calls.exists() else 0
+
+    def uses(self, said, builds):
+        """./tt runs a program of these sources, after so many builds, and leaves no copy."""
+        before = self.count()
+        done = self.run("./tt some words")
+        assert (done.returncode, done.stdout) == (0, f"{said}: some words\n"), f"{done}"
+        assert self.count() - before == builds, f"{self.count() - before} builds: {done.stderr}"
+        assert not (self.folder / "out" / "program" / "crates").exists(), "the copy stays"
+
+
+def is_built_once(copy):
+    copy.uses("first", 1)
+    copy.uses("first", 0)
+
+
+def builds_only(copy):
+    done = copy.run("./tt build")
+    assert (done.returncode, done.stdout, copy.count()) == (0, "", 1) and " 3 crates " in done.stderr, f"{done}"
+    done = copy.run("./tt build")
+    assert (done.returncode, done.stdout, copy.count()) == (0, "", 1), f"{done}"
+    assert copy.run("./tt build more").returncode == 2
+    copy.uses("first", 0)
+
+
+def is_copied(copy):
+    copy.uses("first", 1)
+    time.sleep(0.1)
+    old, new = copy.folder, copy.folder.parent / "new"
+    shutil.copytree(old, new, copy_function=shutil.copy)
+    copy.folder = new
+    copy.uses("first", 0)
+    (new / "crates" / "tt" / "out" / "tt").chmod(0o644)
+    copy.uses("first", 0)
+
+
+def is_edited_and_edited_back(copy):
+    copy.uses("first", 1)
+    copy.write(SOURCE, "second\n")
+    copy.write(SOURCE, "first\n")
+    copy.uses("first", 0)
+    copy.write(SOURCE, "second\n")
+    copy.uses("second", 1)
+
+
+def is_older_by_time(copy):
+    """Sources that have other contents and old times."""
+    copy.uses("first", 1)
+    copy.write(SOURCE, "second\n")
+    os.utime(copy.folder / SOURCE, (0, 0))
+    copy.uses("second", 1)
+
+
+def is_edited_during_the_build(copy):
+    done = copy.run("./tt build", EDIT_ON_THE_WAY=str(copy.folder / SOURCE))
+    assert done.returncode == 0, f"{done}"
+    copy.uses("edited", 1)
+
+
+def has_other_files(copy):
+    """A file that is added, renamed or removed counts; tests, edits, documents and comments of crates.txt don't."""
+    copy.uses("first", 1)
+    copy.write("README.md", "none")
+    copy.write("crates/tt_tests_app/src/lib.rt", "none")
+    copy.write("crates/tt_text/must-fail/none.edit", "none")
+    copy.write("crates/tt_text/out/none", "none")
+    copy.write("crates.txt", "# none\n" + (copy.folder / "crates.txt").read_text() + "tt_tests_none:\n")
+    copy.uses("first", 0)
+    copy.write("crates/tt_text/src/more.rt", "more")
+    copy.uses("first", 1)
+    (copy.folder / "crates/tt_text/src/more.rt").rename(copy.folder / "crates/tt_text/src/less.rt")
+    copy.uses("first", 1)
+    (copy.folder / "crates/tt_text/src/less.rt").unlink()
+    copy.uses("first", 1)
+    copy.write("crates.txt", (copy.folder / "crates.txt").read_text().replace("tt_bits:", "tt_bits: itoa"))
+    copy.uses("first", 1)
+
+
+def is_built_by_the_gate(copy):
+    assert copy.run("./gate").returncode == 0
+    copy.uses("first", 0)
+    assert copy.run("./gate", STATUS="3").returncode == 3
+    copy.uses("first", 0)
+    copy.write(SOURCE, "second\n")
+    copy.uses("second", 1)
+
+
+def is_edited_during_the_gate(copy):
+    assert copy.run("./gate", EDIT_ON_THE_WAY=str(copy.folder / SOURCE)).returncode == 0
+    copy.uses("edited", 1)
+
+
+def is_replaced(copy):
+    """The program is built by rt ci alone, of sources that then go away again."""
+    copy.uses("first", 1)
+    stamp = copy.folder / "crates" / "tt" / "out" / "tt.stamp"
+    kept = stamp.read_text()
+    copy.write(SOURCE, "second\n")
+    copy.run("rt ci")
+    copy.write(SOURCE, "first\n")
+    copy.uses("first", 1)
+    copy.write(SOURCE, "second\n")
+    copy.run("rt ci")
+    copy.write(SOURCE, "first\n")
+    stamp.write_text(kept)
+    copy.uses("first", 1)
+
+
+def has_no_toolchain(copy):
+    bare = copy.folder.parent / "bare"
+    bare.mkdir()
+    for folder in ("/usr/bin", "/bin"):
+        for it in Path(folder).iterdir():
+            if it.name != "rt" and not (bare / it.name).is_symlink():
+                (bare / it.name).symlink_to(it)
+    done = copy.run("./tt --help", str(bare))
+    assert (done.returncode, done.stdout) == (2, "") and "rattle-kit-" in done.stderr, f"{done}"
+    assert not (copy.folder / "out").exists(), "something was begun"
+    copy.uses("first", 1)
+    assert copy.run("./tt --help", str(bare)).stdout == "first: --help\n"
+
+
+def is_not_built(copy):
+    done = copy.run("./tt --help", STATUS="1")
+    assert (done.returncode, done.stdout) == (2, ""), f"{done}"
+    assert not (copy.folder / "crates/tt/out").exists() and (copy.folder / "out/program/log").read_text()
+    copy.uses("first", 1)
+
+
+ROWS = [
+    is_built_once,
+    builds_only,
+    is_copied,
+    is_edited_and_edited_back,
+    is_older_by_time,
+    is_edited_during_the_build,
+    has_other_files,
+    is_built_by_the_gate,
+    is_edited_during_the_gate,
+    is_replaced,
+    has_no_toolchain,
+    is_not_built,
+]
+
+
+def main():
+    failed = 0
+    for row in ROWS:
+        name = row.__name__.replace("_", " ")
+        with tempfile.TemporaryDirectory() as folder:
+            try:
+                row(Copy(Path(folder)))
+                print(f"the program {name}: as wanted")
+            except AssertionError as fault:
+                failed += 1
+                print(f"the program {name}: FAILED: {fault}")
+    print(f"{len(ROWS) - failed} passed, {failed} failed")
+    return 1 if failed else 0
+
+
+if __name__ == "__main__":
+    sys.exit(main())
