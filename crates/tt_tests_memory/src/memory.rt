@@ -4,8 +4,8 @@
 use std::alloc::{AllocError, Global};
 use std::test::Fail;
 use tt_app::{
-    Answer, ImproveSearch, PageNames, TreeEffort, check, improve, page, report, solve, upgrade,
-    validate,
+    Answer, BestSearch, ImproveSearch, PageNames, TreeEffort, best, check, improve, page, report,
+    solve, upgrade, validate,
 };
 use tt_facts::TrailPath;
 use tt_facts_path::{Pattern, PlainPath, Who};
@@ -318,6 +318,24 @@ fn the_command_solve(rt: HostRuntime) -> Result<(), Fail> {
     let answer = solve(rt.alloc(), GAP.as_bytes(), tree, &mut Unwatched);
     println!(rt; "{MARK}")?;
     assert_eq!(rt; text_of(&answer?), b"cost 5 bound 5 finished\n".as_slice());
+    Ok(())
+}
+
+#[test]
+fn the_command_best(rt: HostRuntime) -> Result<(), Fail> {
+    let mut proofs = Vec::new(rt.alloc());
+    proofs.push(GAP_PROOF.as_bytes().to_vec(rt.alloc())?)?;
+    let search = BestSearch {
+        rounds: 2,
+        seed: 1,
+        start: Some(MINI_SOLUTION.as_bytes()),
+        proofs: &proofs,
+    };
+    println!(rt; "{MARK}")?;
+    let answer = best(rt.alloc(), GAP.as_bytes(), search, "", &mut Unwatched);
+    println!(rt; "{MARK}")?;
+    let line = b"cost 5 bound 5 optimal\n".as_slice();
+    assert_eq!(rt; answer?.out.as_slice(), line);
     Ok(())
 }
 
