@@ -229,6 +229,8 @@ def failed_run_checks(folder):
         (["parts", "runs", "alone.ctt", "./alone.ctt"], "many.sh: two instances are named alone\n"),
         (["keep", "parts", "runs", "alone.ctt"], "many.sh: there are no runs of alone.ctt: no folder runs/alone\n"),
         (["parts", "--seed", "runs", "alone.ctt"], "many.sh: what is --seed?\n"),
+        (["parts", "--seeds", "no", "runs", "alone.ctt"], "many.sh: --seeds wants a number from 1, and not no\n"),
+        (["improve", ".", "wrong.ctt"], "many.sh: give another OUTDIR: the runs of wrong.ctt begin at ./wrong.sol, which would be replaced\n"),
     ]:
         done = run([MANY + "/many.sh", *words], folder)
         check(f"many.sh says: {said.strip()}", (done.stderr, done.stdout, done.returncode) == (said, "", 2) and not os.path.exists(folder + "/runs"), done.stderr)
@@ -273,7 +275,7 @@ def many_checks(folder):
     run([MANY + "/many.sh", "prepare", "improve", "runs", *instances], folder)
     left = sorted(name for name in os.listdir(folder + "/runs") + os.listdir(folder + "/runs/mini") if ".sol" in name)
     check("many.sh puts aside what an earlier call left",
-          left == ["1.sol.old", "2.sol.old", "3.sol.old", "mini.sol.old", "tiny01.sol.old"], left)
+          left == ["1.sol.old", "2.sol.old", "3.sol.old", "mini.sol.old", "start.sol", "tiny01.sol.old"], left)
     instance = TOP + "/examples/like04.ctt"
     done = run([MANY + "/many.sh", "parts", "--seeds", "2", "--nodes", "1000", "runs", instance], folder)
     found = re.fullmatch(r"like04: bound (\d+): groups.proof \d+ by seed [12](?:, rooms.proof \d+ by seed [12])?, the best of 2\n", done.stdout)

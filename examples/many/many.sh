@@ -46,6 +46,7 @@ while [ $# -gt 1 ]; do
   shift 2
 done
 if [ $# -lt 2 ]; then echo "many.sh: give OUTDIR and at least one INSTANCE" >&2; exit 2; fi
+case $seeds in '' | *[!0-9]* | 0*) echo "many.sh: --seeds wants a number from 1, and not $seeds" >&2; exit 2 ;; esac
 out=$1
 shift
 if [ "$stage" = all ]; then all_known=1; fi
@@ -56,7 +57,7 @@ if [ "$stage" != prepare ] && [ "$(parallel --version 2>/dev/null | head -c 12)"
   exit 2
 fi
 
-# Ends where a file that is to be copied isn't there, or where two instances would have one folder.
+# Ends where a file that is to be copied isn't there, where two instances would have one folder, or where a result would replace an input.
 check_inputs() {
   local instance name
   local -A seen=()
@@ -64,6 +65,10 @@ check_inputs() {
     name=$(basename "$instance" .ctt)
     if [ -n "${seen[$name]:-}" ]; then echo "many.sh: two instances are named $name" >&2; exit 2; fi
     seen[$name]=1
+    if [ "$kind" = improve ] && [ "$out/$name.sol" -ef "${instance%.ctt}.sol" ]; then
+      echo "many.sh: give another OUTDIR: the runs of $instance begin at $out/$name.sol, which would be replaced" >&2
+      exit 2
+    fi
     if [ "$stage" = keep ]; then
       if [ ! -d "$out/$name" ]; then echo "many.sh: there are no runs of $instance: no folder $out/$name" >&2; exit 2; fi
       continue
@@ -97,13 +102,14 @@ put_aside() {
 
 # Copies an instance and its solution to a folder of its own, so that a run needs no other file.
 prepare() {
-  local name seed
+  local name seed log
   name=$(basename "$1" .ctt)
   mkdir -p "$out/$name"
-  cp "$1" "$out/$name/instance.ctt"
-  if [ "$kind" = improve ]; then cp "${1%.ctt}.sol" "$out/$name/start.sol"; fi
   put_aside "$out/$name.$made"
   for seed in $(seeds_of "$out/$name"); do put_aside "$out/$name/$seed.$made"; done
+  for log in "$out/$name"/*."$kind.log"; do put_aside "$log"; done
+  cp "$1" "$out/$name/instance.ctt"
+  if [ "$kind" = improve ]; then cp "${1%.ctt}.sol" "$out/$name/start.sol"; fi
 }
 
 # Makes the runs: the first seed of all instances, then the second.
