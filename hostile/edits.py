@@ -2,11 +2,14 @@
 """Tries the wrong edits that the gate leaves out: bodies that break a clause, which the prover has to refuse.
 
     python3 hostile/edits.py [CRATE ..]
+    python3 hostile/edits.py --look
 
 A crate with must-fail edits is proved a second time before the first of them, so the gate has a part of them, in few crates
 (crates/*/must-fail). The others are files of the same form in hostile/edits/CRATE. This script copies the repository without what was
 built, puts the edits of the named crates, or of all, in their places, and runs `rt must-fail`. The last line is `N edits of M crates were
 refused`, or the status is 1.
+
+With --look nothing is proved: it looks, in a second, whether each old text of each edit, also of those in the gate, stands once in its file.
 """
 
 import shutil
@@ -27,7 +30,34 @@ def copy_crates(to):
     shutil.copytree(TOP / "crates", to / "crates", ignore=shutil.ignore_patterns("out", "must-fail"))
 
 
+def missing_texts(edit, crate):
+    """The old texts of an edit that don't stand once in their file, once the edit's earlier changes are made."""
+    texts, file, old = {}, None, None
+    for line in edit.read_text(encoding="utf-8").splitlines():
+        word, _, text = line.partition(": ")
+        if word == "file":
+            file = TOP / "crates" / crate / text
+        elif word == "old":
+            old = text
+        elif word == "new":
+            whole = texts.get(file) or (file.read_text(encoding="utf-8") if file.exists() else "")
+            if whole.count(old) != 1:
+                yield f"{edit.relative_to(TOP)}: stands {whole.count(old)} times in {file.relative_to(TOP)}: {old}"
+            texts[file] = whole.replace(old, text, 1)
+
+
+def look():
+    """Prints the texts that are missing, and returns the status."""
+    edits = [(it, it.parent.parent.name) for it in sorted(TOP.glob("crates/*/must-fail/*.edit"))]
+    edits += [(it, it.parent.name) for it in sorted(EDITS.glob("*/*.edit"))]
+    missing = [text for edit, crate in edits for text in missing_texts(edit, crate)]
+    print("".join(f"{it}\n" for it in missing) + f"{len(edits)} edits, {len(missing)} texts that don't stand once")
+    return 1 if missing else 0
+
+
 def main(names):
+    if names == ["--look"]:
+        return look()
     known = sorted(it.name for it in EDITS.iterdir())
     for name in names:
         if name not in known:
@@ -43,7 +73,8 @@ def main(names):
     if status:
         sys.exit("some of the edits were not refused, or not tried")
     print(f"{count} edits of {len(names)} crates were refused")
+    return 0
 
 
 if __name__ == "__main__":
-    main(sys.argv[1:])
+    sys.exit(main(sys.argv[1:]))

@@ -281,6 +281,18 @@ impl Batch {
         undo_all(rt, &self.parts);
     }
 
+    /// Renames each file to its place, as `put` does, and returns whether it could. If not, the new files are removed.
+    pub fn put_or_remove<R: Files + Clock + AllocGlobal>(self, rt: &R) -> bool {
+        match self.put(rt) {
+            Ok(_) => true,
+            Err(WriteFault::Unwritten(unwritten)) => {
+                unwritten.remove_kept(rt);
+                false
+            }
+            Err(_) => false,
+        }
+    }
+
     /// Renames each file to its place, and returns what is for the standard streams. If one can't be renamed, the older state of all places is
     /// restored, as far as the system allows, and the new files stay next to them under names of their own.
     pub fn put<R: Files + Clock + AllocGlobal>(self, rt: &R) -> Result<Vec<Printed>, WriteFault> {

@@ -2,7 +2,8 @@
 
 use crate::fault::{OutputFault, Role};
 use std::alloc::{AllocError, AllocFailed, Global};
-use std::{fmt, io};
+use std::rt::Files;
+use std::{fmt, fs, io};
 use thiserror::Error;
 
 /// An output by its role, and the path that was given for it.
@@ -80,6 +81,19 @@ pub struct Unwritten {
     pub output: Label,
     pub fault: OutputFault,
     pub rescued: Option<Vec<Rescued>>,
+}
+
+impl Unwritten {
+    /// Removes the files that are kept beside their places.
+    pub fn remove_kept<R: Files>(&self, rt: &R) {
+        if let Some(rescued) = &self.rescued {
+            for result in rescued {
+                if let Whereabouts::File(path) = &result.whereabouts {
+                    let _ = fs::remove_file(rt, path.as_str());
+                }
+            }
+        }
+    }
 }
 
 impl fmt::Display for Unwritten {

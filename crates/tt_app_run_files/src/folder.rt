@@ -100,6 +100,16 @@ impl<'a> Folder<'a> {
         write_to(rt, batch, file.role, path, text)
     }
 
+    /// Checks whether a file is written beside its place and renamed, and so can be written more than once.
+    pub fn can_keep<R: World>(self, rt: &R, file: FolderFile) -> Result<bool, AllocError> {
+        let path = self.path_of(rt, file)?;
+        match Output::find(rt, path.as_str()) {
+            Ok(output) => Ok(matches!(output, Output::Replaced { .. })),
+            Err(OutputFault::OutOfMemory) => Err(AllocError),
+            Err(_) => Ok(false),
+        }
+    }
+
     /// Adds a file that an earlier run left to a batch, so that it gets another name.
     pub fn retire<R: World>(
         self,

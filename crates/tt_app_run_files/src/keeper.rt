@@ -1,13 +1,12 @@
 //! Watches a search: shows its progress, ends it in time, and keeps what it has found.
 
-use crate::fault::CommandFault;
 use crate::limit::TimeLimit;
 use crate::pace::Pace;
 use crate::shelf::Shelf;
 use crate::targets::Prepared;
 use crate::ticker::Ticker;
 use crate::world::World;
-use std::alloc::Global;
+use std::alloc::{AllocError, Global};
 use std::io::Write;
 use std::rt::Files;
 use tt_app_files::{Batch, Ready};
@@ -68,19 +67,18 @@ impl<'k, F> KeptTable<'k, F> {
         is_better && !(self.is_strict && pair.hard > 0) && matches!(self.out.ready, Ready::Place(_))
     }
 
-    /// Writes a timetable to its file.
+    /// Writes a timetable to its file, and returns whether it is there.
     fn write<R: World<File = F>, S: Shelf>(
         &mut self,
         rt: &R,
         shelf: &mut S,
         entries: &[Entry],
-    ) -> Result<bool, CommandFault> {
+    ) -> Result<bool, AllocError> {
         let Some(text) = text_of(rt.alloc(), &self.instance, entries) else {
             return Ok(false);
         };
         let batch = self.out.write(rt, Batch::new(rt.alloc()), &text)?;
-        shelf.clear(batch)?.put(rt)?;
-        Ok(true)
+        Ok(shelf.clear(batch)?.put_or_remove(rt))
     }
 }
 
@@ -188,7 +186,7 @@ impl<'k, 't, R: World, E: Write, S: Shelf> Watch for Keeper<'k, 't, R, E, S> {
     }
 
     fn take(&mut self, bound: u64, proofs: &[Vec<u8>]) {
-        if self.shelf.put_proofs(proofs).is_ok() {
+        if let Ok(true) = self.shelf.put_proofs(proofs) {
             self.bound = Some(bound);
         }
         self.pace.rest(self.rt);

@@ -1,13 +1,12 @@
 //! Where the proofs of a search are kept on the way.
 
-use crate::fault::CommandFault;
 use std::alloc::AllocError;
 use tt_app_files::Batch;
 
 /// The files beside the timetable of a search.
 pub trait Shelf {
-    /// Writes the texts of proofs to their files.
-    fn put_proofs(&mut self, proofs: &[Vec<u8>]) -> Result<(), CommandFault>;
+    /// Writes the texts of proofs to their files, and returns whether they are there.
+    fn put_proofs(&mut self, proofs: &[Vec<u8>]) -> Result<bool, AllocError>;
 
     /// Adds the files that an earlier run left beside the timetable to a batch that writes it.
     fn clear(&mut self, batch: Batch) -> Result<Batch, AllocError>;
@@ -18,8 +17,8 @@ pub trait Shelf {
 pub struct NoShelf;
 
 impl Shelf for NoShelf {
-    fn put_proofs(&mut self, _proofs: &[Vec<u8>]) -> Result<(), CommandFault> {
-        Ok(())
+    fn put_proofs(&mut self, _proofs: &[Vec<u8>]) -> Result<bool, AllocError> {
+        Ok(false)
     }
 
     fn clear(&mut self, batch: Batch) -> Result<Batch, AllocError> {

@@ -4,7 +4,7 @@ use crate::proof_files::{GROUPS, ProofFolder};
 use std::alloc::AllocError;
 use std::cell::Cell;
 use tt_app_files::{Batch, Role};
-use tt_app_run_files::{CommandFault, Folder, FolderFile, Shelf, World};
+use tt_app_run_files::{Folder, FolderFile, Prepared, Shelf, World};
 use tt_app_searches::BestAnswer;
 
 /// The file of the best timetable.
@@ -62,41 +62,65 @@ impl<'a, R: World> BestFiles<'a, R> {
         }
     }
 
-    /// Adds the timetable of an answer to a batch, or the timetable that another run left, if the answer has none.
-    fn write_table(&self, batch: Batch, table: &Option<Vec<u8>>) -> Result<Batch, AllocError> {
-        match table {
-            Some(text) => self.folder.write(self.rt, batch, TABLE, text),
-            None => self.folder.retire(self.rt, batch, TABLE),
-        }
-    }
-
-    /// Adds all files of an answer to a batch.
-    pub fn write(&self, batch: Batch, answer: &BestAnswer) -> Result<Batch, AllocError> {
-        let batch = self.write_table(batch, &answer.table)?;
+    /// Adds the page and the proofs of an answer to a batch that has its timetable.
+    fn write_others(&self, batch: Batch, answer: &BestAnswer) -> Result<Batch, AllocError> {
         let batch = self.write_page(batch, &answer.page)?;
         self.proofs().write(self.rt, batch, &answer.proofs)
     }
 
-    /// Writes all files of an answer.
-    pub fn put(&self, answer: &BestAnswer) -> Result<(), CommandFault> {
-        let batch = self.write(Batch::new(self.rt.alloc()), answer)?;
-        let _ = batch.put(self.rt)?;
-        self.has_table.set(answer.table.is_some());
-        self.has_proofs.set(true);
+    /// Adds all files of an answer to a batch; a timetable or a page that another run left gets another name if the answer has none.
+    pub fn write(
+        &self,
+        batch: Batch,
+        answer: &BestAnswer,
+        table: &mut Prepared<R::File>,
+    ) -> Result<Batch, AllocError> {
+        let batch = match &answer.table {
+            Some(text) => table.write(self.rt, batch, text)?,
+            None => self.folder.retire(self.rt, batch, TABLE)?,
+        };
+        self.write_others(batch, answer)
+    }
+
+    /// Checks whether all files can be written more than once.
+    fn can_keep(&self) -> Result<bool, AllocError> {
+        let proofs = self.proofs().can_keep(self.rt)?;
+        Ok(proofs && self.folder.can_keep(self.rt, TABLE)? && self.folder.can_keep(self.rt, PAGE)?)
+    }
+
+    /// Writes all files of an answer on the way.
+    pub fn put(&self, answer: &BestAnswer) -> Result<(), AllocError> {
+        if !self.can_keep()? {
+            return Ok(());
+        }
+        let batch = Batch::new(self.rt.alloc());
+        let batch = match &answer.table {
+            Some(text) => self.folder.write(self.rt, batch, TABLE, text)?,
+            None => batch,
+        };
+        if self.write_others(batch, answer)?.put_or_remove(self.rt) {
+            self.has_table.set(answer.table.is_some());
+            self.has_proofs.set(true);
+        }
         Ok(())
     }
 
     /// Writes proofs, and gives other names to a timetable and a page of an earlier run.
-    fn put_proofs(&self, proofs: &[Vec<u8>]) -> Result<(), CommandFault> {
+    fn put_proofs(&self, proofs: &[Vec<u8>]) -> Result<bool, AllocError> {
+        if !self.proofs().can_keep(self.rt)? {
+            return Ok(false);
+        }
         let mut batch = Batch::new(self.rt.alloc());
         batch = self.proofs().write(self.rt, batch, proofs)?;
         if !self.has_table.get() {
             batch = self.folder.retire(self.rt, batch, TABLE)?;
             batch = self.folder.retire(self.rt, batch, PAGE)?;
         }
-        let _ = batch.put(self.rt)?;
-        self.has_proofs.set(true);
-        Ok(())
+        let is_put = batch.put_or_remove(self.rt);
+        if is_put {
+            self.has_proofs.set(true);
+        }
+        Ok(is_put)
     }
 
     /// Adds the page and the proofs of an earlier run to a batch that writes the timetable, so that they get other names.
@@ -126,7 +150,7 @@ impl<'s, 'a, R: World> Drop for BestShelf<'s, 'a, R> {
 }
 
 impl<'s, 'a, R: World> Shelf for BestShelf<'s, 'a, R> {
-    fn put_proofs(&mut self, proofs: &[Vec<u8>]) -> Result<(), CommandFault> {
+    fn put_proofs(&mut self, proofs: &[Vec<u8>]) -> Result<bool, AllocError> {
         self.files.put_proofs(proofs)
     }
 

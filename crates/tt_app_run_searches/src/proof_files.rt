@@ -31,6 +31,11 @@ impl<'a> ProofFolder<'a> {
         }
     }
 
+    /// Checks whether the files can be written more than once.
+    pub fn can_keep<R: World>(self, rt: &R) -> Result<bool, AllocError> {
+        Ok(self.folder.can_keep(rt, GROUPS)? && self.folder.can_keep(rt, self.tree)?)
+    }
+
     /// Adds proofs to a batch, and the files of proofs that an earlier run or an earlier step left and that aren't among them.
     pub fn write<R: World>(
         self,

@@ -1,4 +1,4 @@
-pub mod Best
+pub mod Certified
 pub mod Given
 pub mod Improving
 pub mod Searching

@@ -1,6 +1,6 @@
 -- The answer of `solve`, from the results of its steps.
-use Rattle.std.proofs.Common.{◌≡◌, ℕ, List, Option, Some, All, refl, inr}
-use Rattle.std.specs.Prelude.{IfSome}
+use Rattle.std.proofs.Common.{◌≡◌, ℕ, List, Option, Some, None, All, refl, inr}
+use Rattle.std.specs.Prelude.{Vec, IfSome, MatchOption}
 use Rattle.tt_instance_data.specs.Problem.{Problem}
 use Rattle.tt_instance.specs.Reading.{instance_of, Fails}
 use Rattle.tt_instance_data.specs.Spelling.{Spells}
@@ -12,10 +12,7 @@ use Rattle.tt_table.specs.Table.{IsTimetable}
 use Rattle.tt_rules.specs.Score.{IsFeasible}
 use Rattle.tt_leaf_data.specs.declared.leaf.Bound.{Bound}
 use Rattle.tt_proof_read.specs.declared.node.Node.{Node}
-use Rattle.tt_proof_read.specs.Trees.{IsPreorder}
-use Rattle.tt_proof_text.specs.Within.{IsNodeIn, Refuses, Writes}
-use Rattle.tt_proof_text.specs.declared.fault.WriteFault.TheVariants as write
-use Rattle.tt_proof_upgrade.proofs.Written.{node_in_two}
+use Rattle.tt_proof_text.specs.Within.{IsNodeIn, Writes}
 use Rattle.tt_app_searches.specs.Solved.{IsProofFile, IsOverLong}
 use Rattle.tt_app_answers.specs.FaultMaps.{fault_from_instance}
 use Rattle.tt_app_answers.specs.declared.fault.AppFault.TheVariants as fault
@@ -26,20 +23,10 @@ best_fits p (Some t) h = h.timetable
 best_fits p _ h = h
 
 -- a text in version 2 is the proof's file if a node has a claim of this version
-pub second_file : (b : Bound) (nodes : List Node) (bytes : List ℕ) → ¬ All (IsNodeIn 1) nodes → Writes 2 b nodes bytes → IsProofFile b nodes bytes
-second_file b nodes bytes newer h = record { version = 2; least = inr (refl, newer); text = h.text }
-
--- nodes of a tree are not refused for being no tree
-pub is_tree : (v : ℕ) (b : Bound) (nodes : List Node) → IsPreorder nodes → Refuses v b nodes write.NotATree → ⊥
-is_tree v b nodes tree h = h tree
-
--- no nodes are refused for a version in version 2
-pub in_second : (b : Bound) (nodes : List Node) → Refuses 2 b nodes write.NotInVersion → ⊥
-in_second b nodes h = h.2 (λ k x e. node_in_two _)
-
--- the text is too long in some version
-pub over_long : (v : ℕ) (b : Bound) (nodes : List Node) → Refuses v b nodes write.OverLimit → IsOverLong b nodes
-over_long v b nodes h = record { version = v; large = h.1 }
+pub second_file : {A : Type 0} (b : Bound) (nodes : List Node) (text : Option (Vec ℕ A)) → ¬ All (IsNodeIn 1) nodes → MatchOption text (IsOverLong b nodes) (λ v. Writes 2 b nodes v.items)
+    → MatchOption text (IsOverLong b nodes) (λ v. IsProofFile b nodes v.items)
+second_file b nodes (Some v) newer h = record { version = 2; least = inr (refl, newer); text = h.text }
+second_file b nodes None newer h = h
 
 -- if the bytes spell an instance, reading it is refused only for being out of memory
 pub read_memory : (i : List ℕ) (p : Problem) (f : InstanceFault) → Spells i p → Fails f (instance_of i) → fault_from_instance f ≡ fault.OutOfMemory

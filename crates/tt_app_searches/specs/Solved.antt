@@ -1,5 +1,5 @@
 -- The answer of `solve` for the bytes of an instance.
-use Rattle.std.specs.Prelude.{◌≡◌, ℕ, ◌⊎◌, Bool, List, Option, Some, Err, All, option_map, if◌then◌else◌, is_some, IsSomeAnd, ⊤}
+use Rattle.std.specs.Prelude.{◌≡◌, ℕ, ◌⊎◌, Bool, List, Option, Err, All, option_map, if◌then◌else◌, is_some, IsSomeAnd, ⊤}
 use Rattle.tt_instance_data.specs.Problem.{Problem}
 use Rattle.tt_instance.specs.Reading.{instance_of}
 use Rattle.tt_instance_data.specs.Spelling.{Spells}

@@ -109,7 +109,7 @@ fn searches_that_are_refused(rt: HostRuntime) -> Result<(), Fail> {
     for refusal in [Refusal::NewFiles, Refusal::Writes, Refusal::Renames] {
         let memory = filled(rt.alloc(), GAP, refusal)?;
         let outcome = solved(rt.alloc(), &memory, "100")?;
-        let refused = "refused: cannot write: output solution: a.sol: ";
+        let refused = "refused: cannot write: output solution: a.out: ";
         assert!(rt; outcome.err.starts_with(refused), "{}", outcome.err);
         assert_eq!(rt; outcome.status, 2);
         assert_eq!(rt;

@@ -31,7 +31,7 @@ fn an_improvement(rt: HostRuntime) -> Result<(), Fail> {
         (MINI_SOLUTION, false, 0, "hard 0 cost 5\n"),
         (MINI_SOLUTION, false, u64::MAX, "hard 0 cost 1\n"),
         ("", true, u64::MAX, "hard 0 cost 1\n"),
-        ("", false, u64::MAX, "hard 2 cost 0\n"),
+        ("", false, u64::MAX, "hard 2 cost 10\n"),
     ] {
         let out = improved(rt.alloc(), solution, completes, patience)?;
         assert!(rt; out.as_slice() == line.as_bytes(), "{line}");

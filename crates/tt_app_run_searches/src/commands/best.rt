@@ -95,7 +95,7 @@ fn find_best<R: World, E: Write>(
     let answer = search_shown(&files, &mut ticker, &start, &mut table, request);
     ticker.clear();
     let answer = answer?;
-    let batch = files.write(Batch::new(rt.alloc()), &answer)?;
+    let batch = files.write(Batch::new(rt.alloc()), &answer, &mut table)?;
     reply_with(rt, batch, answer.status, answer.out)
 }
 

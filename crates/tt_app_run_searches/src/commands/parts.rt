@@ -31,10 +31,13 @@ impl<'s, R: World> Drop for PartsShelf<'s, R> {
 }
 
 impl<'s, R: World> Shelf for PartsShelf<'s, R> {
-    fn put_proofs(&mut self, proofs: &[Vec<u8>]) -> Result<(), CommandFault> {
+    fn put_proofs(&mut self, proofs: &[Vec<u8>]) -> Result<bool, AllocError> {
+        if !self.proofs.can_keep(self.rt)? {
+            return Ok(false);
+        }
         let batch = Batch::new(self.rt.alloc());
-        let _ = self.proofs.write(self.rt, batch, proofs)?.put(self.rt)?;
-        Ok(())
+        let batch = self.proofs.write(self.rt, batch, proofs)?;
+        Ok(batch.put_or_remove(self.rt))
     }
 
     fn clear(&mut self, batch: Batch) -> Result<Batch, AllocError> {

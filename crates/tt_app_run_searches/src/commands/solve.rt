@@ -25,16 +25,15 @@ impl<'s, R: World> Drop for ProofShelf<'s, R> {
 }
 
 impl<'s, R: World> Shelf for ProofShelf<'s, R> {
-    fn put_proofs(&mut self, proofs: &[Vec<u8>]) -> Result<(), CommandFault> {
+    fn put_proofs(&mut self, proofs: &[Vec<u8>]) -> Result<bool, AllocError> {
         if !matches!(self.proof.ready, Ready::Place(_)) {
-            return Ok(());
+            return Ok(false);
         }
         let mut batch = Batch::new(self.rt.alloc());
         for proof in proofs {
             batch = self.proof.write(self.rt, batch, proof)?;
         }
-        let _ = batch.put(self.rt)?;
-        Ok(())
+        Ok(batch.put_or_remove(self.rt))
     }
 
     fn clear(&mut self, batch: Batch) -> Result<Batch, AllocError> {

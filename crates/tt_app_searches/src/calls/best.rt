@@ -196,14 +196,15 @@ fn found_answer(
     requires parts { AreFound instance.now parts.now }
     ensures { IfOk result (λ a. (i : List ℕ) → Spells i instance.now → CostsAtMost i style.now cost a) }
 {
-    let Bound::AtLeast(points) = parts.bound else {
+    let bound = parts.bound;
+    let Bound::AtLeast(points) = bound else {
         unreachable!();
     };
     Ok(BestAnswer {
         status: 0,
         out: found_line(alloc, cost, points)?,
         table: Some(write_solution(alloc, instance, table)?),
-        page: page_of(alloc, instance, table, parts.bound, style)?,
+        page: page_of(alloc, instance, table, bound, style)?,
         proofs: copy_texts(alloc, &parts.proofs)?,
     })
 }
@@ -240,7 +241,14 @@ fn answer_of(
 {
     let score = score(instance, &week.table);
     if score.feasible() {
-        found_answer(alloc, instance, &week.table, score.cost(), &week.parts, style)
+        found_answer(
+            alloc,
+            instance,
+            &week.table,
+            score.cost(),
+            &week.parts,
+            style,
+        )
     } else {
         missing_answer(alloc, instance, &week.parts)
     }

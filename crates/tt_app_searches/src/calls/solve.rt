@@ -103,11 +103,7 @@ fn best_text(
 }
 
 /// Writes a tree in version 2, which has all claims; `None` if its text is too long.
-fn second_text(
-    alloc: Global,
-    bound: Bound,
-    nodes: &[Node],
-) -> Result<Option<Vec<u8>>, AllocError>
+fn second_text(alloc: Global, bound: Bound, nodes: &[Node]) -> Result<Option<Vec<u8>>, AllocError>
     requires { IsPreorder nodes.now }
     ensures { IfOk result (λ text. MatchOption text (IsOverLong bound nodes.now) (λ v. Writes 2 bound nodes.now v.items)) }
 {

@@ -1,6 +1,6 @@
 use Rattle.std.proofs.lemmas.Result.{err_from_is_err_and}
 use Rattle.std.specs.Option.{option_copied}
-use Rattle.tt_app_searches.proofs.Best.{costs_no_more}
+use Rattle.tt_app_searches.proofs.Certified.{costs_no_more}
 use Rattle.tt_app_searches.proofs.Given.{tells_first, tells_given, tells_memory, given_memory, given_fits}
 use Rattle.tt_app_searches.proofs.Searching.{read_memory}
 use Rattle.tt_app_searches.proofs.calls.best.best.Goals as goal

@@ -1,7 +1,9 @@
-use Rattle.std.proofs.Common.{ℕ, List, refl, sym, subst, arith}
+use Rattle.std.proofs.Common.{ℕ, List, refl, sym, ap, subst, ◌∙◌, arith}
+use Rattle.std.specs.Prelude.{Vec}
+use Rattle.std.specs.Global.{Global}
 use Rattle.tt_proof_sum.specs.Sums.{IsSum}
 use Rattle.tt_parts.specs.Found.{texts_of}
-use Rattle.tt_app_searches.proofs.Best.{whole}
+use Rattle.tt_app_searches.proofs.Certified.{whole}
 use Rattle.tt_app_searches.proofs.calls.best.found_answer.Goals as goal
 
 pub returns : goal.returns
@@ -12,7 +14,8 @@ returns c =
     let solution = c.in_ok-write_solution in
     let page = c.in_ok-page_of in
     let copies = c.in_ok-copy_texts in
-    let sum = subst (λ (files : List (List ℕ)). IsSum a.instance.now files parts.bound) (sym copies.ensures) c.requires.parts.sum in
+    let same = copies.ensures ∙ ap (λ (l : List (Vec ℕ Global)). texts_of l) c.deref.ensures.value in
+    let sum = subst (λ (files : List (List ℕ)). IsSum a.instance.now files parts.bound) (sym same) c.requires.parts.sum in
     let is = whole i solution.field-0.items a.instance.now a.table.now (texts_of copies.field-0.items) page.field-0 a.style.now parts.bound a.cost
     c.in-AtLeast.points spells solution.ensures.again c.requires.feasible c.requires.cost sum c.requires.parts.holds c.in-AtLeast.is page.ensures in
     record {

@@ -1,7 +1,5 @@
-use Rattle.std.proofs.Common.{List, inl, inr, refl, subst}
+use Rattle.std.proofs.Common.{inl}
 use Rattle.std.proofs.lemmas.Result.{err_from_is_err_and}
-use Rattle.tt_proof_read.specs.declared.node.Node.{Node}
-use Rattle.tt_app_searches.specs.Solved.{IsOverLong}
 use Rattle.tt_app_searches.proofs.Searching.{best_fits, read_memory}
 use Rattle.tt_app_searches.proofs.calls.solve.solve.Goals as goal
 

@@ -57,14 +57,16 @@ no_lower hard_one cost_one hard_other cost_other none kept = (grind (arith, none
 no_worse_found : (p : Problem) (t u : List Cell) → IsTimetable p u → IsFeasible p t → IsNoHigher p t u → IsFeasible p u × (cost p u ≤ cost p t)
 no_worse_found p t u fits feasible kept =
     let none : hard p t ≡ 0 = omega (arith, feasible.lectures, feasible.conflicts, feasible.availability, feasible.room_occupancy) in
-    let found = no_lower (hard p t) (cost p t) (hard p u) (cost p u) none kept in
-    (record {
-      timetable = fits;
-      lectures = omega (arith, found.0);
-      conflicts = omega (arith, found.0);
-      availability = omega (arith, found.0);
-      room_occupancy = omega (arith, found.0);
-    }, found.1)
+    let found = no_lower (hard p t) (cost p t) (hard p u) (cost p u) none kept in (
+      record {
+        timetable = fits;
+        lectures = omega (arith, found.0);
+        conflicts = omega (arith, found.0);
+        availability = omega (arith, found.0);
+        room_occupancy = omega (arith, found.0);
+      },
+      found.1,
+    )
 
 -- the answer costs no more than a given solution that breaks no hard rule
 pub costs_no_more : (i : List ℕ) (given : Option (List ℕ)) (style : List ℕ) (p : Problem) (table : Option (List Cell)) (w : List Cell) (a : BestAnswer) → Spells i p → IsGiven p given table
