@@ -229,6 +229,8 @@ def failed_run_checks(folder):
         (["parts", "runs", "alone.ctt", "./alone.ctt"], "many.sh: two instances are named alone\n"),
         (["keep", "parts", "runs", "alone.ctt"], "many.sh: there are no runs of alone.ctt: no folder runs/alone\n"),
         (["parts", "--seed", "runs", "alone.ctt"], "many.sh: what is --seed?\n"),
+        (["parts", "--seeds", "no", "runs", "alone.ctt"], "many.sh: --seeds wants a number from 1, and not no\n"),
+        (["improve", ".", "wrong.ctt"], "many.sh: give another OUTDIR: the runs of wrong.ctt begin at ./wrong.sol, which would be replaced\n"),
     ]:
         done = run([MANY + "/many.sh", *words], folder)
         check(f"many.sh says: {said.strip()}", (done.stderr, done.stdout, done.returncode) == (said, "", 2) and not os.path.exists(folder + "/runs"), done.stderr)
@@ -256,7 +258,7 @@ def many_checks(folder):
         print("left out: examples/many, since GNU parallel isn't here")
         return
     failed_run_checks(folder)
-    folder += "/good"
+    folder += "/good ones"
     os.mkdir(folder)
     instances = [TOP + "/examples/mini.ctt", TOP + "/examples/tiny01.ctt"]
     done = run([MANY + "/many.sh", "improve", "--seeds", "3", "--steps", "200", "runs", *instances], folder)
@@ -267,14 +269,23 @@ def many_checks(folder):
         check(f"the timetable kept of {name} has its cost", f"\ncost {cost}\n" in done.stdout, done.stdout)
     again = run([MANY + "/many.sh", "keep", "improve", "runs", *instances], folder)
     check("many.sh keep says the same", re.findall(r"^(\w+): hard 0 cost (\d+)", again.stdout, re.M) == lines, again.stdout)
+    missing = run([MANY + "/many.sh", "keep", "improve", "--seeds", "4", "runs", *instances], folder)
+    check("many.sh keep names the seeds that are missing", missing.returncode == 1 and "mini: these seeds left nothing: 4\n" in missing.stderr
+          and missing.stdout == again.stdout, missing.stdout + missing.stderr)
+    run([MANY + "/many.sh", "prepare", "improve", "runs", *instances], folder)
+    left = sorted(name for name in os.listdir(folder + "/runs") + os.listdir(folder + "/runs/mini") if ".sol" in name)
+    check("many.sh puts aside what an earlier call left",
+          left == ["1.sol.old", "2.sol.old", "3.sol.old", "mini.sol.old", "start.sol", "tiny01.sol.old"], left)
     instance = TOP + "/examples/like04.ctt"
     done = run([MANY + "/many.sh", "parts", "--seeds", "2", "--nodes", "1000", "runs", instance], folder)
-    found = re.fullmatch(r"like04: bound (\d+), made by seed [12], the best of 2\n", done.stdout)
+    found = re.fullmatch(r"like04: bound (\d+): groups.proof \d+ by seed [12](?:, rooms.proof \d+ by seed [12])?, the best of 2\n", done.stdout)
     check("many.sh keeps proofs", found is not None, done.stdout + done.stderr)
     if found is not None:
         proofs = sorted(f"runs/like04.proofs/{name}" for name in os.listdir(folder + "/runs/like04.proofs"))
         done = run([MANY + "/check.sh", instance, *proofs], folder)
         check("check.sh adds up the proofs kept", done.stdout.endswith(f"\nbound {found[1]}\n"), done.stdout + done.stderr)
+        done = run([TT, "sum", instance, *(f"runs/like04/{seed}.proofs/groups.proof" for seed in (1, 2))], folder)
+        check("groups of two seeds don't add up", done.returncode == 2 and "refused: proof 2: ClaimedElsewhere at group " in done.stderr, done.stdout + done.stderr)
     proofs = sorted(f"{TOP}/examples/like04/{name}" for name in os.listdir(TOP + "/examples/like04"))
     done = run([MANY + "/check.sh", instance, "--solution", TOP + "/examples/like04.best.sol", *proofs], folder)
     check("check.sh checks eleven proofs and their sum",
