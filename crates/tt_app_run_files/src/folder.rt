@@ -16,11 +16,10 @@ pub struct FolderFile {
     pub name: &'static str,
 }
 
-/// A folder that is written to, and the files that are read before writing.
+/// A folder that is written to, by its path.
 #[derive(Clone, Copy)]
 pub struct Folder<'a> {
     pub path: &'a str,
-    pub inputs: &'a Inputs<'a>,
 }
 
 /// Adds a text for the file of a path to a batch.
@@ -54,29 +53,40 @@ impl<'a> Folder<'a> {
     }
 
     /// Finds the output for a file; refuses a file that is read.
-    pub fn find<R: World>(self, rt: &R, file: FolderFile) -> Result<Found, CommandFault> {
+    pub fn find<R: World>(
+        self,
+        rt: &R,
+        inputs: &Inputs<'_>,
+        file: FolderFile,
+    ) -> Result<Found, CommandFault> {
         let path = self.path_of(rt, file)?;
         let target = Target {
             role: file.role,
             path: path.as_str(),
         };
-        target.find(rt, self.inputs)
+        target.find(rt, inputs)
     }
 
     /// Finds the output for a file, and tries it.
     pub fn prepare<R: World>(
         self,
         rt: &R,
+        inputs: &Inputs<'_>,
         file: FolderFile,
     ) -> Result<Prepared<R::File>, CommandFault> {
-        self.find(rt, file)?.prepare(rt)
+        self.find(rt, inputs, file)?.prepare(rt)
     }
 
     /// Refuses files that are read, and two names of the same file.
-    pub fn check<R: World>(self, rt: &R, files: &[FolderFile]) -> Result<(), CommandFault> {
+    pub fn check<R: World>(
+        self,
+        rt: &R,
+        inputs: &Inputs<'_>,
+        files: &[FolderFile],
+    ) -> Result<(), CommandFault> {
         let mut found: Vec<Found> = Vec::new(rt.alloc());
         for file in files {
-            let mut next = self.find(rt, *file)?;
+            let mut next = self.find(rt, inputs, *file)?;
             for other in &found {
                 next = next.check_apart(rt, other)?;
             }

@@ -37,9 +37,9 @@ fn search_shown<'k, R: World, E: Write>(
     let (rt, search) = (files.rt, request.search);
     let alloc = rt.alloc();
     let kept = kept_table(alloc, &start.instance, table, search.keeps, true);
-    let shelf = BestShelf { files };
+    let shelf = BestShelf { files: &*files };
     let keeper = Keeper::new(rt, ticker, search.seconds, kept, shelf, search.keeps);
-    let mut keeper = BestKeeper::new(keeper, files, search.keeps);
+    let mut keeper = BestKeeper::new(keeper, &*files, search.keeps);
     let search = BestSearch {
         rounds: search.rounds,
         seed: search.seed,
@@ -61,7 +61,7 @@ fn read_proofs<R: World>(rt: &R, folder: Folder<'_>) -> Result<Vec<Vec<u8>>, Com
         match input.read(rt) {
             Ok(text) => proofs.push(text).map_err(AllocError::from)?,
             Err(CommandFault::OutOfMemory) => return Err(CommandFault::OutOfMemory),
-            Err(_) => {}
+            Err(_fault) => {}
         }
     }
     Ok(proofs)
@@ -71,12 +71,15 @@ fn read_proofs<R: World>(rt: &R, folder: Folder<'_>) -> Result<Vec<Vec<u8>>, Com
 fn find_best<R: World, E: Write>(
     rt: &R,
     err: &mut E,
-    folder: Folder<'_>,
+    inputs: &Inputs<'_>,
     mut start: Start,
     request: BestRequest<'_>,
 ) -> Result<Reply, CommandFault> {
-    folder.check(rt, &[TABLE, PAGE, GROUPS, TREE])?;
-    let found = folder.find(rt, TABLE)?;
+    let folder = Folder {
+        path: &*request.folder,
+    };
+    folder.check(rt, inputs, &[TABLE, PAGE, GROUPS, TREE])?;
+    let found = folder.find(rt, inputs, TABLE)?;
     let is_own = match request.start {
         Some(path) => found.is_read(rt, path)?,
         None => false,
@@ -85,7 +88,7 @@ fn find_best<R: World, E: Write>(
         start.proofs = read_proofs(rt, folder)?;
     }
     let files = BestFiles {
-        rt,
+        rt: &*rt,
         folder,
         has_table: Cell::new(is_own),
         has_proofs: Cell::new(!start.proofs.is_empty()),
@@ -120,10 +123,9 @@ pub fn answer_best<R: World, E: Write>(
     };
     let folder = Folder {
         path: request.folder,
-        inputs: &inputs,
     };
     let is_made = folder.make(rt)?;
-    let reply = find_best(rt, err, folder, start, request);
+    let reply = find_best(rt, err, &inputs, start, request);
     if reply.is_err() {
         folder.remove_made(rt, is_made);
     }

@@ -19,18 +19,18 @@ const ROOMS: FolderFile = FolderFile {
 };
 
 /// The files in which proofs are kept on the way.
-struct PartsShelf<'s, R: World> {
+struct PartsShelf<'s, 'p, R: World> {
     rt: &'s R,
-    proofs: ProofFolder<'s>,
+    proofs: ProofFolder<'p>,
 }
 
-impl<'s, R: World> Drop for PartsShelf<'s, R> {
+impl<'s, 'p, R: World> Drop for PartsShelf<'s, 'p, R> {
     fn drop(self) {
         let PartsShelf { rt: _, proofs: _ } = self;
     }
 }
 
-impl<'s, R: World> Shelf for PartsShelf<'s, R> {
+impl<'s, 'p, R: World> Shelf for PartsShelf<'s, 'p, R> {
     fn put_proofs(&mut self, proofs: &[Vec<u8>]) -> Result<bool, AllocError> {
         if !self.proofs.can_keep(self.rt)? {
             return Ok(false);
@@ -80,11 +80,14 @@ fn write_found<R: World, E: Write>(
     rt: &R,
     err: &mut E,
     read: Read<'_>,
-    folder: Folder<'_>,
+    inputs: &Inputs<'_>,
     request: PartsRequest<'_>,
 ) -> Result<Reply, CommandFault> {
-    folder.check(rt, &[GROUPS, ROOMS])?;
-    let _ = folder.prepare(rt, GROUPS)?;
+    let folder = Folder {
+        path: request.folder,
+    };
+    folder.check(rt, inputs, &[GROUPS, ROOMS])?;
+    let _ = folder.prepare(rt, inputs, GROUPS)?;
     let proofs = ProofFolder {
         folder,
         tree: ROOMS,
@@ -110,10 +113,9 @@ pub fn answer_parts<R: World, E: Write>(
     };
     let folder = Folder {
         path: request.folder,
-        inputs: &inputs,
     };
     let is_made = folder.make(rt)?;
-    let reply = write_found(rt, err, read, folder, request);
+    let reply = write_found(rt, err, read, &inputs, request);
     if reply.is_err() {
         folder.remove_made(rt, is_made);
     }
