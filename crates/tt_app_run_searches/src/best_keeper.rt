@@ -8,15 +8,15 @@ use tt_search_watch::{Progress, Watch};
 use tt_table::Entry;
 
 /// Shows how far `best` is, ends it in time, and keeps what it has.
-pub struct BestKeeper<'k, 't, 'a, R: World, E: Write> {
-    keeper: Keeper<'k, 't, R, E, BestShelf<'k, 'a, R>>,
-    files: &'k BestFiles<'a, R>,
+pub struct BestKeeper<'k, 't, 's, 'a, R: World, E: Write> {
+    keeper: Keeper<'k, 't, R, E, BestShelf<'s, 'a, R>>,
+    files: &'s BestFiles<'a, R>,
     keeps: bool,
     /// Whether the search was told to end.
     is_over: bool,
 }
 
-impl<'k, 't, 'a, R: World, E: Write> Drop for BestKeeper<'k, 't, 'a, R, E> {
+impl<'k, 't, 's, 'a, R: World, E: Write> Drop for BestKeeper<'k, 't, 's, 'a, R, E> {
     fn drop(self) {
         let BestKeeper {
             keeper: _,
@@ -27,11 +27,11 @@ impl<'k, 't, 'a, R: World, E: Write> Drop for BestKeeper<'k, 't, 'a, R, E> {
     }
 }
 
-impl<'k, 't, 'a, R: World, E: Write> BestKeeper<'k, 't, 'a, R, E> {
+impl<'k, 't, 's, 'a, R: World, E: Write> BestKeeper<'k, 't, 's, 'a, R, E> {
     /// Returns a watch that keeps answers on the way if `keeps` is true.
     pub fn new(
-        keeper: Keeper<'k, 't, R, E, BestShelf<'k, 'a, R>>,
-        files: &'k BestFiles<'a, R>,
+        keeper: Keeper<'k, 't, R, E, BestShelf<'s, 'a, R>>,
+        files: &'s BestFiles<'a, R>,
         keeps: bool,
     ) -> Self {
         BestKeeper {
@@ -43,7 +43,7 @@ impl<'k, 't, 'a, R: World, E: Write> BestKeeper<'k, 't, 'a, R, E> {
     }
 }
 
-impl<'k, 't, 'a, R: World, E: Write> Watch for BestKeeper<'k, 't, 'a, R, E> {
+impl<'k, 't, 's, 'a, R: World, E: Write> Watch for BestKeeper<'k, 't, 's, 'a, R, E> {
     ghost use Rattle.std.specs.Prelude.{◌≡◌, true};
 
     ghost has_ended = { λ k. k.is_over ≡ true };
@@ -68,7 +68,7 @@ impl<'k, 't, 'a, R: World, E: Write> Watch for BestKeeper<'k, 't, 'a, R, E> {
     }
 }
 
-impl<'k, 't, 'a, R: World, E: Write> WatchBest for BestKeeper<'k, 't, 'a, R, E> {
+impl<'k, 't, 's, 'a, R: World, E: Write> WatchBest for BestKeeper<'k, 't, 's, 'a, R, E> {
     fn see_round(&mut self, round: u64, most: u64) {
         self.keeper.show_round(round, most);
     }

@@ -19,7 +19,7 @@ use tt_page::STYLE;
 
 /// The texts with which the search begins.
 #[derive(Debug, Drop)]
-struct Start {
+struct Texts {
     instance: Vec<u8>,
     table: Option<Vec<u8>>,
     /// The proofs of an earlier run.
@@ -30,23 +30,18 @@ struct Start {
 fn search_shown<'k, R: World, E: Write>(
     files: &'k BestFiles<'_, R>,
     ticker: &'k mut Ticker<'_, R, E>,
-    start: &'k Start,
+    instance: &'k [u8],
     table: &'k mut Prepared<R::File>,
+    search: BestSearch<'_>,
     request: BestRequest<'_>,
 ) -> Result<BestAnswer, AppFault> {
-    let (rt, search) = (files.rt, request.search);
+    let (rt, asked) = (files.rt, request.search);
     let alloc = rt.alloc();
-    let kept = kept_table(alloc, &start.instance, table, search.keeps, true);
+    let kept = kept_table(alloc, instance, table, asked.keeps, true);
     let shelf = BestShelf { files: &*files };
-    let keeper = Keeper::new(rt, ticker, search.seconds, kept, shelf, search.keeps);
-    let mut keeper = BestKeeper::new(keeper, &*files, search.keeps);
-    let search = BestSearch {
-        rounds: search.rounds,
-        seed: search.seed,
-        start: start.table.as_ref().map(|text| text.as_slice()),
-        proofs: &start.proofs,
-    };
-    best(alloc, &start.instance, search, STYLE, &mut keeper)
+    let keeper = Keeper::new(rt, ticker, asked.seconds, kept, shelf, asked.keeps);
+    let mut keeper = BestKeeper::new(keeper, &*files, asked.keeps);
+    best(alloc, instance, search, STYLE, &mut keeper)
 }
 
 /// Reads the proofs that an earlier run left in the folder; a file that can't be read is passed over.
@@ -72,7 +67,7 @@ fn find_best<R: World, E: Write>(
     rt: &R,
     err: &mut E,
     inputs: &Inputs<'_>,
-    mut start: Start,
+    mut texts: Texts,
     request: BestRequest<'_>,
 ) -> Result<Reply, CommandFault> {
     let folder = Folder {
@@ -84,18 +79,25 @@ fn find_best<R: World, E: Write>(
         Some(path) => found.is_read(rt, path)?,
         None => false,
     };
-    if start.table.is_some() {
-        start.proofs = read_proofs(rt, folder)?;
+    if texts.table.is_some() {
+        texts.proofs = read_proofs(rt, folder)?;
     }
     let files = BestFiles {
         rt: &*rt,
         folder,
         has_table: Cell::new(is_own),
-        has_proofs: Cell::new(!start.proofs.is_empty()),
+        has_proofs: Cell::new(!texts.proofs.is_empty()),
     };
     let mut table = found.prepare(rt)?;
+    let search = BestSearch {
+        rounds: request.search.rounds,
+        seed: request.search.seed,
+        start: texts.table.as_ref().map(|text| text.as_slice()),
+        proofs: &texts.proofs,
+    };
+    let instance = texts.instance.as_slice();
     let mut ticker = ticker_of(rt, err, "best", request.showing);
-    let answer = search_shown(&files, &mut ticker, &start, &mut table, request);
+    let answer = search_shown(&files, &mut ticker, instance, &mut table, search, request);
     ticker.clear();
     let answer = answer?;
     let batch = files.write(Batch::new(rt.alloc()), &answer, &mut table)?;
@@ -113,7 +115,7 @@ pub fn answer_best<R: World, E: Write>(
     // The timetable from which the search begins may be the one that it replaces, so it isn't among the inputs.
     let mut starts = inputs.copy()?;
     let start = starts.add_given(Input::Solution, request.start)?;
-    let start = Start {
+    let texts = Texts {
         instance: instance.read(rt)?,
         table: match start {
             Some(file) => Some(file.read(rt)?),
@@ -125,7 +127,7 @@ pub fn answer_best<R: World, E: Write>(
         path: request.folder,
     };
     let is_made = folder.make(rt)?;
-    let reply = find_best(rt, err, &inputs, start, request);
+    let reply = find_best(rt, err, &inputs, texts, request);
     if reply.is_err() {
         folder.remove_made(rt, is_made);
     }

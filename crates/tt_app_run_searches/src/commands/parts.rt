@@ -53,9 +53,9 @@ struct Read<'a> {
 }
 
 /// Searches for the proofs, shows the progress on standard error, and keeps proofs on the way if the options ask for it.
-fn find_shown<R: World, E: Write>(
-    rt: &R,
-    ticker: &mut Ticker<'_, R, E>,
+fn find_shown<'k, R: World, E: Write>(
+    rt: &'k R,
+    ticker: &'k mut Ticker<'_, R, E>,
     read: Read<'_>,
     proofs: ProofFolder<'_>,
     search: PartSearch,
