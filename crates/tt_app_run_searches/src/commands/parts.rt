@@ -52,6 +52,17 @@ struct Read<'a> {
     solution: Option<InputFile<'a>>,
 }
 
+/// Watches a search for proofs that begins now.
+fn watch_parts<'k, 't, 'p, R: World, E: Write>(
+    rt: &'k R,
+    ticker: &'k mut Ticker<'t, R, E>,
+    proofs: ProofFolder<'p>,
+    search: PartSearch,
+) -> Keeper<'k, 't, R, E, PartsShelf<'k, 'p, R>> {
+    let shelf = PartsShelf { rt, proofs };
+    Keeper::new(rt, ticker, search.seconds, None, shelf, search.keeps)
+}
+
 /// Searches for the proofs, shows the progress on standard error, and keeps proofs on the way if the options ask for it.
 fn find_shown<'k, R: World, E: Write>(
     rt: &'k R,
@@ -65,8 +76,7 @@ fn find_shown<'k, R: World, E: Write>(
         Some(solution) => Some(solution.read(rt)?),
         None => None,
     };
-    let shelf = PartsShelf { rt, proofs };
-    let mut keeper = Keeper::new(rt, ticker, search.seconds, None, shelf, search.keeps);
+    let mut keeper = watch_parts(rt, ticker, proofs, search);
     let effort = Effort {
         nodes: search.nodes,
         seed: search.seed,
