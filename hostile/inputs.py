@@ -287,12 +287,12 @@ def standard_input(desk):
         ("sum - --solution - proof", b"solution"),
         ("page - - out", b"solution"),
         ("upgrade - - out", b"proof"),
-        ("parts - other --solution -", b"solution"),
-        ("best - other --from -", b"solution"),
+        ("parts - new --solution -", b"solution"),
+        ("best - new --from -", b"solution"),
     ]:
         told = desk.told(words, GAP)
         assert told[:2] == (2, b"") and re.fullmatch(b"refused: " + role + rb": cannot read: -: [^\n]+\n", told[2]), f"{words}: {told}"
-    assert not (desk.folder / "other").exists()
+    assert not (desk.folder / "new").exists()
 
 
 ROWS = [
