@@ -154,7 +154,7 @@ COMMANDS = [
     Command("improve mini gap.sol - --steps 100", out=None),
     Command("improve mini gap.sol out --steps 100 --runs 3", out=b"hard 0 cost 1\n", written={"out": None}),
     Command("improve gap empty out --complete --steps 100", out=b"hard 0 cost 5\n", written={"out": None}),
-    Command("improve mini gap.sol out --steps 100 --runs 20 --keep", out=b"hard 0 cost 1\n", written={"out": None}, hurry=HURRY),
+    Command("improve mini gap.sol out --steps 100 --runs 5 --keep", out=b"hard 0 cost 1\n", written={"out": None}, hurry=HURRY),
     Command("improve mini gap.sol out --steps 1000 --runs 1000 --time 2", out=b"hard 0 cost 1\n", written={"out": None}, hurry=HURRY),
     Command("improve mini gap.sol mini", 2, b"", not_written("solution", "mini", "is a file that the command reads")),
     Command("solve gap out out", 2, b"", not_written("proof", "out", "is also output solution")),
@@ -294,12 +294,15 @@ class Runs:
         self.check_proofs()
 
     def check_own_files(self, written):
-        """The files are those that the command writes; of those in a folder of its own, an earlier run's have other names."""
+        """The files are those that the command writes; of those in a folder of its own, an earlier run's have other names: those that it doesn't
+        write, and with --keep also those that it hadn't written when it kept the first one."""
         wanted = {**self.shelf.files, **written}
         if self.command.folder() == "." and self.own.status != 2:
             for name in IN_FOLDER[self.command.split()[0]]:
                 if name in self.shelf.files and name not in written:
                     wanted[f"{name}.old"] = wanted.pop(name)
+                elif name in self.shelf.files and self.command.keeps() and f"{name}.old" in self.own_files:
+                    wanted[f"{name}.old"] = OLDER
         assert wanted.keys() == self.own_files.keys(), f"leaves {sorted(self.own_files)}, and not {sorted(wanted)}"
         for name, text in wanted.items():
             assert self.own_files[name] == text or (text is None and self.own_files[name] != OLDER), f"writes {name}"
@@ -451,6 +454,7 @@ class Runs:
         if folder is not None:
             outputs.append(("output folder", folder))
         wanted = [(role, path) for name, role, path in self.command.inputs() if name == file or (file == "0" and path == "-")]
+        wanted += [(role, path) for role, path in outputs if file == "-1" and path == "-"]
         names = {Path(path).name or "." for _, path in outputs} | {Path(path).parent.name or "." for _, path in outputs}
         if file.removesuffix(".old") in names or is_draft(file) or is_second_name(file) or file in STREAM_LINKS:
             wanted += outputs
