@@ -10,7 +10,7 @@ use clap::ArgMatches;
 /// The maximum number of rounds of a search.
 const MAX_ROUNDS: u64 = 1_000;
 
-/// How `best` searches, and whether what it has is written on the way.
+/// How `best` searches, and whether it writes its results on the way.
 #[derive(Clone, Copy, Debug)]
 pub struct BestSearch {
     pub seed: u64,

@@ -72,10 +72,15 @@ fn move_all<R: Files + Clock + AllocGlobal>(
 }
 
 /// Makes the system store the names in the folders; returns the first file whose name couldn't be stored.
-fn sync_all<R: Files>(rt: &R, parts: &[Part]) -> Option<Failure> {
+fn sync_all<R: Files>(rt: &R, parts: &[Part], retired: &[Retired]) -> Option<Failure> {
     for (place, part) in parts.iter().enumerate() {
         if let Err(fault) = sync_part(rt, part) {
             return Some(Failure::Part(place, fault));
+        }
+    }
+    for (place, file) in retired.iter().enumerate() {
+        if let Err(fault) = file.sync(rt) {
+            return Some(Failure::Retired(place, fault));
         }
     }
     None
@@ -85,7 +90,7 @@ fn sync_all<R: Files>(rt: &R, parts: &[Part]) -> Option<Failure> {
 fn put_all<R: Files + Clock + AllocGlobal>(
     rt: &R,
     parts: &mut [Part],
-    retired: &mut Vec<Retired>,
+    retired: &mut [Retired],
 ) -> Result<Option<Failure>, AllocError> {
     if let Some(failure) = find_failed(parts) {
         return Ok(Some(failure));
@@ -94,8 +99,10 @@ fn put_all<R: Files + Clock + AllocGlobal>(
         return Ok(Some(failure));
     }
     forget_older(rt, parts);
-    retired.clear();
-    Ok(sync_all(rt, parts))
+    for file in retired.iter_mut() {
+        file.settle();
+    }
+    Ok(sync_all(rt, parts, retired))
 }
 
 /// Adds the texts for the standard streams to a list.
@@ -196,7 +203,7 @@ impl Batch {
         }
     }
 
-    /// Writes a new file next to its place, or the bytes to a device or a pipe. That a text couldn't be written is told by `put`. After an error
+    /// Writes a new file next to its place, or the bytes to a device or a pipe. `put` reports a text that couldn't be written. After an error
     /// none of the batch's files are left.
     pub fn write<R: Files + Clock + AllocGlobal>(
         self,

@@ -1,4 +1,4 @@
-//! What becomes of results that couldn't be put in their places.
+//! Where results are that couldn't be renamed to their places.
 
 use crate::fault::{OutputFault, Role};
 use std::alloc::{AllocError, AllocFailed, Global};
@@ -84,7 +84,7 @@ pub struct Unwritten {
 }
 
 impl Unwritten {
-    /// Removes the files that are kept beside their places.
+    /// Removes the files that are still next to their places.
     pub fn remove_kept<R: Files>(&self, rt: &R) {
         if let Some(rescued) = &self.rescued {
             for result in rescued {

@@ -6,7 +6,7 @@ use std::fs;
 use std::io::ErrorKind;
 use std::rt::Files;
 
-/// The word that stands for standard input where a file is read, and for standard output where one is written.
+/// The word that means standard input where a file is read, and standard output where one is written.
 pub const STANDARD: &str = "-";
 
 /// The link that leads to standard input.

@@ -95,7 +95,7 @@ impl<'a> Folder<'a> {
         Ok(())
     }
 
-    /// Adds a text for a file to a batch. If the file can't be written now, the batch says so when it is put in its place.
+    /// Adds a text for a file to a batch. If the file can't be written now, the batch says so when its files are renamed.
     pub fn write<R: World>(
         self,
         rt: &R,
@@ -110,7 +110,7 @@ impl<'a> Folder<'a> {
         write_to(rt, batch, file.role, path, text)
     }
 
-    /// Checks whether a file is written beside its place and renamed, and so can be written more than once.
+    /// Checks whether a file is written next to its place and renamed, and so can be written more than once.
     pub fn can_keep<R: World>(self, rt: &R, file: FolderFile) -> Result<bool, AllocError> {
         let path = self.path_of(rt, file)?;
         match Output::find(rt, path.as_str()) {

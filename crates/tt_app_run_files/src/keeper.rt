@@ -14,11 +14,11 @@ use tt_instance_data::Instance;
 use tt_search_watch::{Pair, Progress, Watch};
 use tt_table::{Entry, Timetable, write_solution};
 
-/// The file in which the best timetable of a search is kept.
+/// The file in which the best timetable of a search is stored.
 pub struct KeptTable<'k, F> {
     out: &'k mut Prepared<F>,
     instance: Instance<'k>,
-    /// Whether only a timetable that breaks no hard rule is kept.
+    /// Whether only a timetable that breaks no hard rule is stored.
     is_strict: bool,
     kept: Option<Pair>,
 }
@@ -47,7 +47,7 @@ fn text_of(alloc: Global, instance: &Instance<'_>, entries: &[Entry]) -> Option<
 }
 
 impl<'k, F> KeptTable<'k, F> {
-    /// Returns a file in which nothing is kept yet.
+    /// Returns a file in which nothing is stored yet.
     pub fn new(
         out: &'k mut Prepared<F>,
         instance: Instance<'k>,
@@ -61,7 +61,7 @@ impl<'k, F> KeptTable<'k, F> {
         }
     }
 
-    /// Checks whether a timetable is better than the one that is kept, and is to be kept.
+    /// Checks whether a timetable is better than the one that is stored, and is to be stored.
     fn is_wanted(&self, pair: Pair) -> bool {
         let is_better = self.kept.is_none_or(|kept| pair.is_below(kept));
         is_better && !(self.is_strict && pair.hard > 0) && matches!(self.out.ready, Ready::Place(_))
@@ -89,7 +89,7 @@ pub struct Keeper<'k, 't, R: World, E: Write, S: Shelf> {
     limit: TimeLimit,
     table: Option<KeptTable<'k, <R as Files>::File>>,
     shelf: S,
-    /// Whether proofs are kept.
+    /// Whether proofs are stored.
     keeps_proofs: bool,
     pace: Pace,
     bound: Option<u64>,
@@ -143,12 +143,12 @@ impl<'k, 't, R: World, E: Write, S: Shelf> Keeper<'k, 't, R, E, S> {
         self.pace.is_due(self.rt)
     }
 
-    /// Begins the pause after something was kept.
+    /// Begins the pause after something was stored.
     pub fn rest(&mut self) {
         self.pace.rest(self.rt);
     }
 
-    /// Keeps a timetable, if it is better than the one that is kept. A failure to write it has no effect: the last one is written at the end.
+    /// Stores a timetable, if it is better than the one that is stored. A failure to write it has no effect: the last one is written at the end.
     fn keep_table(&mut self, pair: Pair, entries: &[Entry]) {
         let Some(table) = &mut self.table else {
             return;

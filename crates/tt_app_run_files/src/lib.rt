@@ -1,4 +1,4 @@
-//! The files of the commands: how they are read and written, the line that shows how far a command is, and what is kept of a search on the
+//! The files of the commands: how they are read and written, the line that shows how far a command is, and what a search stores on the
 //! way.
 #![tactic(auto)]
 

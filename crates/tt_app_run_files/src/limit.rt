@@ -17,7 +17,7 @@ pub fn milliseconds<R: Clock>(rt: &R) -> Option<u64> {
 #[derive(Clone, Copy, Debug)]
 pub struct TimeLimit {
     end: Option<u64>,
-    /// Whether a search was told to end.
+    /// Whether a search was asked to end.
     pub is_over: bool,
 }
 

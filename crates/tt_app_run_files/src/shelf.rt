@@ -1,14 +1,14 @@
-//! Where the proofs of a search are kept on the way.
+//! Where the proofs of a search are stored on the way.
 
 use std::alloc::AllocError;
 use tt_app_files::Batch;
 
-/// The files beside the timetable of a search.
+/// The files next to the timetable of a search.
 pub trait Shelf {
     /// Writes the texts of proofs to their files, and returns whether they are there.
     fn put_proofs(&mut self, proofs: &[Vec<u8>]) -> Result<bool, AllocError>;
 
-    /// Adds the files that an earlier run left beside the timetable to a batch that writes it.
+    /// Adds the files that an earlier run left next to the timetable to a batch that writes it.
     fn clear(&mut self, batch: Batch) -> Result<Batch, AllocError>;
 }
 

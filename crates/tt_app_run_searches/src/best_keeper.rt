@@ -12,7 +12,7 @@ pub struct BestKeeper<'k, 't, 's, 'a, R: World, E: Write> {
     keeper: Keeper<'k, 't, R, E, BestShelf<'s, 'a, R>>,
     files: &'s BestFiles<'a, R>,
     keeps: bool,
-    /// Whether the search was told to end.
+    /// Whether the search was asked to end.
     is_over: bool,
 }
 

@@ -1,10 +1,10 @@
-//! Timetables that are kept during a search.
+//! Timetables that are stored during a search.
 
 use std::alloc::Global;
 use tt_app_run_files::{KeptTable, Prepared};
 use tt_instance::read_instance;
 
-/// Returns the file in which timetables are kept on the way, if they are to be kept and the bytes spell an instance.
+/// Returns the file in which timetables are stored on the way, if they are to be stored and the bytes spell an instance.
 pub fn kept_table<'k, F>(
     alloc: Global,
     instance: &'k [u8],

@@ -35,47 +35,50 @@ fn wide_files(fails_at: [u64; 3]) -> [StoredFile<'static>; 3] {
     ]
 }
 
+/// Where the reads of the three files fail, with the status and the lines that the run prints then.
+const FAILED_READS: [([u64; 3], u8, &str, &str); 7] = [
+    ([0, 0, 0], 0, "yes cost 5 bound 5 optimal\n", ""),
+    (
+        [1, 1, 1],
+        2,
+        "",
+        "refused: instance: cannot read: a.ctt: other error\n",
+    ),
+    (
+        [2, 0, 0],
+        2,
+        "",
+        "refused: instance: cannot read: a.ctt: other error\n",
+    ),
+    (
+        [0, 1, 1],
+        2,
+        "",
+        "refused: solution: cannot read: a.sol: other error\n",
+    ),
+    (
+        [0, 2, 0],
+        2,
+        "",
+        "refused: solution: cannot read: a.sol: other error\n",
+    ),
+    (
+        [0, 0, 1],
+        2,
+        "",
+        "refused: proof: Read: a.proof: other error\n",
+    ),
+    (
+        [0, 0, 2],
+        2,
+        "",
+        "refused: proof: Read: a.proof: other error\n",
+    ),
+];
+
 #[test]
 fn failed_reads(rt: HostRuntime) -> Result<(), Fail> {
-    for (fails_at, status, out, err) in [
-        ([0, 0, 0], 0, "yes cost 5 bound 5 optimal\n", ""),
-        (
-            [1, 1, 1],
-            2,
-            "",
-            "refused: instance: cannot read: a.ctt: other error\n",
-        ),
-        (
-            [2, 0, 0],
-            2,
-            "",
-            "refused: instance: cannot read: a.ctt: other error\n",
-        ),
-        (
-            [0, 1, 1],
-            2,
-            "",
-            "refused: solution: cannot read: a.sol: other error\n",
-        ),
-        (
-            [0, 2, 0],
-            2,
-            "",
-            "refused: solution: cannot read: a.sol: other error\n",
-        ),
-        (
-            [0, 0, 1],
-            2,
-            "",
-            "refused: proof: Read: a.proof: other error\n",
-        ),
-        (
-            [0, 0, 2],
-            2,
-            "",
-            "refused: proof: Read: a.proof: other error\n",
-        ),
-    ] {
+    for (fails_at, status, out, err) in FAILED_READS {
         let outcome = run_with(rt.alloc(), &WORDS, &wide_files(fails_at))?;
         assert_eq!(rt; outcome.answer(), (status, out, err), "at {fails_at:?}");
     }
@@ -178,60 +181,60 @@ fn overlap(alloc: Global, words: &[&str]) -> Result<(String, bool), Fail> {
     Ok((outcome.err, is_same))
 }
 
+/// The words of commands whose outputs are refused, and why.
+const REFUSED_OUTPUTS: [(&[&str], &str); 14] = [
+    (
+        &["improve", "a.ctt", "a.sol", "a.ctt"],
+        "solution: a.ctt: is a file that the command reads",
+    ),
+    (
+        &["improve", "a.ctt", "a.sol", "a.sol"],
+        "solution: a.sol: is a file that the command reads",
+    ),
+    (
+        &["page", "a.ctt", "a.sol", "a.ctt"],
+        "page: a.ctt: is a file that the command reads",
+    ),
+    (
+        &["page", "a.ctt", "a.sol", "a.proof", "--proof", "a.proof"],
+        "page: a.proof: is a file that the command reads",
+    ),
+    (
+        &["upgrade", "a.ctt", "a.proof", "a.proof"],
+        "proof: a.proof: is a file that the command reads",
+    ),
+    (
+        &["solve", "a.ctt", "a.ctt", "b.proof"],
+        "solution: a.ctt: is a file that the command reads",
+    ),
+    (
+        &["solve", "a.ctt", "b.sol", "a.ctt"],
+        "proof: a.ctt: is a file that the command reads",
+    ),
+    (
+        &["solve", "a.ctt", "same", "same"],
+        "proof: same: is also output solution",
+    ),
+    (
+        &["solve", "a.ctt", "-", "-"],
+        "proof: -: is also output solution",
+    ),
+    (
+        &["improve", "a.ctt", "a.sol", "out/"],
+        "solution: out/: ends in /",
+    ),
+    (
+        &["improve", "a.ctt", "a.sol", "new/."],
+        "solution: new/.: ends in /",
+    ),
+    (&["improve", "a.ctt", "a.sol", ""], "solution: : is empty"),
+    (&["best", "a.ctt", ""], "folder: : is empty"),
+    (&["parts", "a.ctt", ""], "folder: : is empty"),
+];
+
 #[test]
 fn outputs_are_apart(rt: HostRuntime) -> Result<(), Fail> {
-    for (words, why) in [
-        (
-            ["improve", "a.ctt", "a.sol", "a.ctt"].as_slice(),
-            "solution: a.ctt: is a file that the command reads",
-        ),
-        (
-            ["improve", "a.ctt", "a.sol", "a.sol"].as_slice(),
-            "solution: a.sol: is a file that the command reads",
-        ),
-        (
-            ["page", "a.ctt", "a.sol", "a.ctt"].as_slice(),
-            "page: a.ctt: is a file that the command reads",
-        ),
-        (
-            ["page", "a.ctt", "a.sol", "a.proof", "--proof", "a.proof"].as_slice(),
-            "page: a.proof: is a file that the command reads",
-        ),
-        (
-            ["upgrade", "a.ctt", "a.proof", "a.proof"].as_slice(),
-            "proof: a.proof: is a file that the command reads",
-        ),
-        (
-            ["solve", "a.ctt", "a.ctt", "b.proof"].as_slice(),
-            "solution: a.ctt: is a file that the command reads",
-        ),
-        (
-            ["solve", "a.ctt", "b.sol", "a.ctt"].as_slice(),
-            "proof: a.ctt: is a file that the command reads",
-        ),
-        (
-            ["solve", "a.ctt", "same", "same"].as_slice(),
-            "proof: same: is also output solution",
-        ),
-        (
-            ["solve", "a.ctt", "-", "-"].as_slice(),
-            "proof: -: is also output solution",
-        ),
-        (
-            ["improve", "a.ctt", "a.sol", "out/"].as_slice(),
-            "solution: out/: ends in /",
-        ),
-        (
-            ["improve", "a.ctt", "a.sol", "new/."].as_slice(),
-            "solution: new/.: ends in /",
-        ),
-        (
-            ["improve", "a.ctt", "a.sol", ""].as_slice(),
-            "solution: : is empty",
-        ),
-        (["best", "a.ctt", ""].as_slice(), "folder: : is empty"),
-        (["parts", "a.ctt", ""].as_slice(), "folder: : is empty"),
-    ] {
+    for (words, why) in REFUSED_OUTPUTS {
         let (reported, is_same) = overlap(rt.alloc(), words)?;
         let wanted = format!(in rt.alloc(); "refused: cannot write: output {why}\n")?;
         assert_eq!(rt; reported.as_str(), wanted.as_str(), "{words:?}");

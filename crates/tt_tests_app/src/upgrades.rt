@@ -80,7 +80,7 @@ fn refused_writes_leave_the_older_file(rt: HostRuntime) -> Result<(), Fail> {
         assert!(rt; outcome.err.starts_with(refused), "{}", outcome.err);
         assert_eq!(rt; outcome.status, 2);
         assert_eq!(rt; memory.text("a.out")?.as_deref(), Some(OLDER));
-        // A proof that can't be renamed stays beside its place.
+        // A proof that can't be renamed stays next to its place.
         let drafts = if refusal == Refusal::Renames { 1 } else { 0 };
         assert_eq!(rt; memory.count(), 3 + drafts);
     }

@@ -79,7 +79,7 @@ fn fault(kind: ErrorKind) -> Error {
 }
 
 impl MemoryFiles {
-    /// Returns a memory without files, whose clock stands.
+    /// Returns a memory without files, whose clock has stopped.
     pub fn new(alloc: Global, refusal: Refusal) -> MemoryFiles {
         MemoryFiles::ticking(alloc, refusal, 0)
     }
@@ -328,7 +328,7 @@ impl<'s> Clock for &'s MemoryFiles {
         Ok(Duration::from_millis(moved))
     }
 
-    /// Time of day stands still, so new files have the same names in each run.
+    /// The time of day never changes, so new files have the same names in each run.
     fn since_1970(&self) -> io::Result<Duration> {
         Ok(Duration::ZERO)
     }

@@ -1,4 +1,4 @@
-//! Searches that end in time, and what is kept of them on the way.
+//! Searches that end in time, and what they store on the way.
 
 use std::alloc::Global;
 use std::test::Fail;

@@ -58,7 +58,7 @@ fn parts_that_cannot_be_written(rt: HostRuntime) -> Result<(), Fail> {
         assert_eq!(rt; outcome.out.contains("CTTG 1"), refusal == Refusal::Writes);
         let kept = memory.text("found/groups.proof")?;
         assert!(rt; kept.is_some_and(|text| text.as_str() == "older"));
-        // Proofs that can't be renamed stay beside their places.
+        // Proofs that can't be renamed stay next to their places.
         let drafts = if refusal == Refusal::Renames { 2 } else { 0 };
         assert_eq!(rt; memory.count(), 2 + drafts);
     }

@@ -18,6 +18,7 @@ pub struct Counting {
 }
 
 impl Counting {
+    /// Returns a watch that has counted nothing and has no line.
     pub fn new(alloc: Global, patience: u64) -> Counting {
         Counting {
             patience,

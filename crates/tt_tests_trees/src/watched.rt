@@ -11,7 +11,7 @@ use tt_table::Entry;
 use tt_tests_samples::GAP;
 use tt_text::Pieces;
 
-/// A proof on the way, with the bound that its watch was told.
+/// A proof on the way, with the bound that its watch was shown.
 #[derive(Drop)]
 struct Taken {
     bound: u64,

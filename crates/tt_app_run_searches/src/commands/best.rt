@@ -86,7 +86,7 @@ fn find_best<R: World, E: Write>(
         rt: &*rt,
         folder,
         has_table: Cell::new(is_own),
-        has_proofs: Cell::new(!texts.proofs.is_empty()),
+        has_proofs: Cell::new(false),
     };
     let mut table = found.prepare(rt)?;
     let search = BestSearch {

@@ -18,7 +18,7 @@ const ROOMS: FolderFile = FolderFile {
     name: "rooms.proof",
 };
 
-/// The files in which proofs are kept on the way.
+/// The files in which proofs are stored on the way.
 struct PartsShelf<'s, 'p, R: World> {
     rt: &'s R,
     proofs: ProofFolder<'p>,

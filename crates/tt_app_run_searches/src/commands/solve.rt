@@ -12,7 +12,7 @@ use tt_app_run_files::{
 };
 use tt_app_searches::{TreeEffort, solve};
 
-/// The file in which the proof of a tree is kept on the way.
+/// The file in which the proof of a tree is stored on the way.
 struct ProofShelf<'s, R: World> {
     rt: &'s R,
     proof: &'s mut Prepared<R::File>,
