@@ -1,5 +1,8 @@
 //! The entries of a timetable, and periods.
 
+ghost use Rattle.std.specs.Prelude.{◌≡◌};
+ghost use Rattle.tt_instance_data.specs.Cells.{is_at};
+
 /// A course in a room, in a period of a day: an entry of a timetable, or a place for one.
 #[derive(Clone, Copy, Debug, PartialEq, Eq)]
 pub struct Cell {
@@ -14,4 +17,13 @@ pub struct Cell {
 pub struct Slot {
     pub day: u32,
     pub period: u32,
+}
+
+impl Cell {
+    /// Checks whether the cell is in a period.
+    pub fn is_at(&self, slot: Slot) -> bool
+        ensures { result ≡ is_at slot self.now }
+    {
+        self.day == slot.day && self.period == slot.period
+    }
 }

@@ -1,5 +1,5 @@
 -- Steps from one timetable to the next.
-use Rattle.std.specs.Prelude.{ℕ, ◌<◌, List, [], ◌∷◌, length, fold, ⊤}
+use Rattle.std.specs.Prelude.{ℕ, ◌<◌, List, length}
 use Rattle.tt_instance_data.specs.Problem.{Problem}
 use Rattle.tt_instance_data.specs.declared.cell.Cell.{Cell}
 pub use Rattle.tt_occupancy.specs.Filled.{no_entry, entry_at, in_place_of, moved, swapped}
@@ -20,12 +20,3 @@ stepped t (Swap i j) = swapped t i j
 abbrev pub CanStep : Problem → List Cell → Step → Type 0
 CanStep p t (Move i r d s) = (i < length t) × (r < length p.rooms) × (d < p.days) × (s < p.periods)
 CanStep p t (Swap i j) = (i < length t) × (j < length t)
-
--- the list after steps in turn
-abbrev pub stepped_by : List Cell → List Step → List Cell
-stepped_by t steps = fold stepped t steps
-
--- whether each step's numbers are an entry's, a room's and a period's in the timetable to which the steps before it lead
-abbrev pub CanStepBy : Problem → List Cell → List Step → Type 0
-CanStepBy p t [] = ⊤
-CanStepBy p t (step ∷ steps) = CanStep p t step × CanStepBy p (stepped t step) steps

@@ -1,4 +1,4 @@
-//! Steps, their changes of the score, and Kempe chains.
+//! Steps, and their changes of the score.
 #![tactic(auto)]
 
 mod changing;
@@ -20,6 +20,5 @@ pub use changing::{change, lowers};
 pub use cost::EntryCost;
 pub use exchanging::Change;
 pub use pricing::{cost_change, entry_cost};
-pub use step::{Step, apply, apply_all, can_step, undo};
-pub use tt_moves_chain::{Chain, ChainFault, chain, swap_chain};
+pub use step::{Step, apply, can_step, undo};
 pub use within::{change_within, hard_change};

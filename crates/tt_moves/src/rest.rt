@@ -14,7 +14,6 @@ ghost use Rattle.tt_moves.specs.Rounds.{OtherIsHandled};
 ghost use Rattle.tt_instance_data.specs.declared.limit.TheConstants.{MAX_SLOTS};
 
 use tt_instance_data::{Instance, Slot};
-use tt_moves_chain::is_in_period;
 use tt_occupancy::{Occupied, one_if};
 use tt_table::Entry;
 
@@ -38,7 +37,7 @@ fn is_in_period_of(entry: Entry, place: Entry) -> bool
         day: place.day,
         period: place.period,
     };
-    is_in_period(slot, &entry)
+    entry.is_at(slot)
 }
 
 /// Checks whether an entry is in the room and the period of another entry.
@@ -113,9 +112,9 @@ impl WithoutEntry<'_, '_, '_> {
         let slot = Slot { day, period };
         adjusted(
             self.occupied.of_curriculum(curriculum, day, period),
-            other && is_in_period(slot, &self.to),
-            other && is_in_period(slot, &self.from),
-            is_in_period(slot, &self.gone),
+            other && self.to.is_at(slot),
+            other && self.from.is_at(slot),
+            self.gone.is_at(slot),
         )
     }
 

@@ -2,7 +2,7 @@
 
 ghost use Rattle.std.specs.Prelude.{◌≡◌, ◌<◌, ◌↔◌, length, IsTrue};
 ghost use Rattle.tt_table.specs.Table.{IsTimetable};
-ghost use Rattle.tt_moves.specs.Steps.{CanStep, CanStepBy, entry_at, stepped, stepped_by};
+ghost use Rattle.tt_moves.specs.Steps.{CanStep, entry_at, stepped};
 
 use tt_occupancy::Occupied;
 use tt_table::Entry;
@@ -88,17 +88,4 @@ pub fn undo(occupied: &mut Occupied<'_, '_>, step: Step)
     } }
 {
     apply(occupied, step);
-}
-
-/// Makes steps in turn. `Occupied::score` is then the score of the list to which they lead.
-pub fn apply_all(occupied: &mut Occupied<'_, '_>, steps: &[Step])
-    requires { CanStepBy occupied.old.problem occupied.old.entries steps.now }
-    ensures { occupied.new ≡ record {
-      problem = occupied.old.problem;
-      entries = stepped_by occupied.old.entries steps.now;
-    } }
-{
-    for step in steps {
-        apply(occupied, *step);
-    }
 }

@@ -8,5 +8,4 @@ mod turning;
 
 pub use kempe::{Chain, ChainFault};
 pub use seeking::chain;
-pub use spreading::is_in_period;
 pub use turning::swap_chain;

@@ -2,20 +2,12 @@
 
 ghost use Rattle.std.specs.Prelude.{◌≡◌, ◌⊎◌, ℕ, ◌<◌, Bool, true, length, slice_index_or, OnOk, IfOk};
 ghost use Rattle.tt_instance_data.specs.declared.cell.Cell.{Cell};
-ghost use Rattle.tt_instance_data.specs.Cells.{is_at};
 ghost use Rattle.tt_moves_chain.specs.Chains.{exclude, linked, IsClosed};
 ghost use Rattle.tt_moves_chain.specs.Marks.{marked, IsMarking, IsSpread};
 
 use std::alloc::{AllocError, Global};
 use tt_instance_data::{Instance, Slot};
 use tt_table::Entry;
-
-/// Checks whether an entry is in a period.
-pub fn is_in_period(s: Slot, e: &Entry) -> bool
-    ensures { result ≡ is_at s e.now }
-{
-    e.day == s.day && e.period == s.period
-}
 
 fn are_in_conflict(instance: &Instance<'_>, x: &Entry, y: &Entry) -> bool
     ensures { result ≡ exclude instance.now x.now y.now }
@@ -27,9 +19,8 @@ fn are_in_conflict(instance: &Instance<'_>, x: &Entry, y: &Entry) -> bool
 pub fn is_linked(instance: &Instance<'_>, a: Slot, b: Slot, x: &Entry, y: &Entry) -> bool
     ensures { result ≡ linked instance.now a b x.now y.now }
 {
-    let apart = is_in_period(a, x) && is_in_period(b, y)
-        || is_in_period(b, x) && is_in_period(a, y);
-    apart && are_in_conflict(instance, x, y)
+    let are_apart = x.is_at(a) && y.is_at(b) || x.is_at(b) && y.is_at(a);
+    are_apart && are_in_conflict(instance, x, y)
 }
 
 /// Marks the place, and adds it to the waiting ones if it is newly marked.

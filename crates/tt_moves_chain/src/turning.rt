@@ -10,7 +10,7 @@ ghost use Rattle.tt_moves_chain.specs.Chains.{linked, swapped};
 
 use crate::kempe::Chain;
 use crate::seeking::{is_barred, other_period};
-use crate::spreading::{is_in_period, is_linked};
+use crate::spreading::is_linked;
 use tt_instance_data::{Instance, Slot};
 use tt_occupancy::Occupied;
 
@@ -67,8 +67,8 @@ impl Chain {
             return false;
         }
         let entry = occupied.entry(index);
-        let stands = is_in_period(self.from, &entry) || is_in_period(self.to, &entry);
-        stands
+        let is_in_either = entry.is_at(self.from) || entry.is_at(self.to);
+        is_in_either
             && !is_barred(occupied, self.from, self.to, index)
             && self.has_links_of(occupied, index)
     }

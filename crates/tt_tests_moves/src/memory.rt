@@ -5,7 +5,7 @@ use crate::timetables::occupied;
 use std::alloc::Global;
 use std::test::Fail;
 use tt_instance::read_instance;
-use tt_moves::{Chain, ChainFault, chain};
+use tt_moves_chain::{Chain, ChainFault, chain};
 use tt_occupancy::{Occupied, Refused};
 use tt_rules::score;
 use tt_search::{Unwatched, construct, descend, improve};

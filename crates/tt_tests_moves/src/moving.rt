@@ -4,10 +4,8 @@ use crate::timetables::{occupied, text_of};
 use std::alloc::Global;
 use std::test::Fail;
 use tt_instance::read_instance;
-use tt_moves::{
-    ChainFault, Change, Step, apply, can_step, chain, change, change_within, hard_change, lowers,
-    swap_chain, undo,
-};
+use tt_moves::{Change, Step, apply, can_step, change, change_within, hard_change, lowers, undo};
+use tt_moves_chain::{ChainFault, chain, swap_chain};
 use tt_occupancy::Occupied;
 use tt_tests_samples::{MINI, MINI_SOLUTION, TOUR, edited};
 
