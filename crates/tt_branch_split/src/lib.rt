@@ -2,7 +2,7 @@
 #![tactic(auto)]
 
 mod choice;
-mod conflicts;
+mod course_set;
 mod free;
 mod leeway;
 mod neighbours;

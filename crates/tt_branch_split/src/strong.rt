@@ -2,7 +2,7 @@
 
 ghost use Rattle.std.specs.Prelude.{◌<◌, length};
 
-use crate::conflicts::{Conflicts, CourseSet, bit_in, first_course};
+use crate::course_set::{CourseSet, bit_in, first_course, rivals_in, words_for};
 use crate::neighbours::Neighbours;
 use crate::prospects::{Prospects, bit_of};
 use std::alloc::{AllocError, Global};
@@ -72,7 +72,6 @@ struct BranchingTables<'s, 'i> {
     instance: &'s Instance<'i>,
     prospects: &'s Prospects,
     neighbours: &'s Neighbours,
-    conflicts: &'s Conflicts,
 }
 
 fn weight(beside: u32) -> u64 {
@@ -237,8 +236,8 @@ impl BranchingTables<'_, '_> {
     /// Returns the gain of the courses that conflict with a course when it is in the period.
     fn rivals(&self, course: u32, set: &CourseSet, gains: &[Gains]) -> ChildEstimate {
         let mut gain = ChildEstimate::NONE;
-        for word in 0..self.conflicts.words() {
-            let rivals = self.conflicts.word(course, word) & set.word(word);
+        for word in 0..words_for(self.instance) {
+            let rivals = rivals_in(self.instance, course, word) & set.word(word);
             gain.add(sum_of_no(gains, word, rivals));
         }
         gain
@@ -275,7 +274,7 @@ impl BranchingTables<'_, '_> {
         for member in self.instance.members(curriculum) {
             members |= bit_in(word, *member);
             if self.prospects.is_open(*member, slot.day, slot.period) {
-                rivals |= self.conflicts.word(*member, word);
+                rivals |= rivals_in(self.instance, *member, word);
             }
         }
         rivals & !members
@@ -302,7 +301,7 @@ impl BranchingTables<'_, '_> {
     fn add_others(&self, curriculum: u32, slot: Slot, set: &CourseSet, gains: &mut [Gains])
         requires { curriculum < length self.now.instance.now.curricula }
     {
-        for word in 0..self.conflicts.words() {
+        for word in 0..words_for(self.instance) {
             let others = self.others_in(curriculum, slot, word) & set.word(word);
             self.add_word(curriculum, slot, word, others, gains);
         }
@@ -395,13 +394,11 @@ pub fn best_candidate(
     prospects: &Prospects,
 ) -> Result<Option<Candidate>, AllocError> {
     let neighbours = Neighbours::new(alloc, instance, prospects)?;
-    let conflicts = Conflicts::new(alloc, instance)?;
     let mut gains = vec![in alloc; Gains::NONE; instance.courses() as usize]?;
     let scene = BranchingTables {
         instance,
         prospects,
         neighbours: &neighbours,
-        conflicts: &conflicts,
     };
     let mut found = None;
     for day in 0..instance.days() {

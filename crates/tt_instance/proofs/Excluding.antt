@@ -99,6 +99,12 @@ pub teacher_rows_square : (rows : List CourseRow) → IsSquare (teacher_rows_of 
 teacher_rows_square rows = All-map (λ (row : List Bool). length row ≡ length (teacher_rows_of rows)) (λ x. flags_of rows x.teacher) rows (λ k d h.
     length-map rows (λ r. eqb r.teacher (get_or rows k d).teacher) ∙ sym (length-map rows (λ x. flags_of rows x.teacher)))
 
+-- each course has a row
+pub row_for_each : (p : Parts) (courses : List CourseRow) (first : List (List Bool)) → courses ≡ p.courses.rows.items → first ≡ teacher_rows_of courses
+    → length first ≡ length (courses_seen p.courses.rows.items)
+row_for_each p courses first courses_are first_is =
+    ap length first_is ∙ length-map courses (λ x. flags_of courses x.teacher) ∙ ap length courses_are ∙ sym (length-map p.courses.rows.items course_seen)
+
 -- each member has a row
 pub members_have_rows : (p : Parts) (courses : List CourseRow) (curricula : List CurriculumRow) (first : List (List Bool)) → IsIndexedParts p
     → courses ≡ p.courses.rows.items → curricula ≡ p.curricula.rows.items → first ≡ teacher_rows_of courses

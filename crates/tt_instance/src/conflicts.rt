@@ -69,7 +69,9 @@ fn add_curricula(rows: &mut Vec<Marks>, curricula: &[CurriculumRow<'_>])
 /// Removes the mark of each course in its own row.
 fn clear_own(rows: &mut Vec<Marks>)
     requires { IsSquare rows.old.items }
-    ensures { (a b : ℕ) → mark_at rows.new.items a b ≡ (not (a == b) && mark_at rows.old.items a b) }
+    ensures len { length rows.new.items ≡ length rows.old.items }
+    ensures square { IsSquare rows.new.items }
+    ensures marked { (a b : ℕ) → mark_at rows.new.items a b ≡ (not (a == b) && mark_at rows.old.items a b) }
 {
     for course in 0..rows.len() {
         rows[course].clear(course);

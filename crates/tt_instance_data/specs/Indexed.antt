@@ -80,4 +80,6 @@ IsSquare rows = All (λ row. length row ≡ length rows) rows
 
 -- The table has a row of marks for each course, which says with which courses it conflicts.
 pub record IsExcluding (p : Problem) (rows : List (List Bool)) : Type 0 where
+  pub len : length rows ≡ length p.courses
+  pub square : IsSquare rows
   pub agrees : (a b : ℕ) → mark_at rows a b ≡ conflict p a b

@@ -1,6 +1,7 @@
 //! Instances of the timetabling problem.
 
-ghost use Rattle.std.specs.Prelude.{◌≡◌, ◌<◌, ◌≤◌, ◌*◌, length, slice_get, slice_index_or, IfSome, Some};
+ghost use Rattle.std.specs.Prelude.{◌≡◌, ◌<◌, ◌≤◌, ◌*◌, ◌/◌, ◌%◌, ℕ, length, slice_get, slice_index_or, IfSome, Some};
+ghost use Rattle.tt_bits.specs.Bits.{has_bit};
 ghost use Rattle.tt_text.specs.Texts.{index_of_name};
 ghost use Rattle.tt_instance_data.specs.Limits.{IsInstance};
 ghost use Rattle.tt_instance_data.specs.Seen.{problem_seen};
@@ -279,6 +280,18 @@ impl<'a> Instance<'a> {
         ensures { result ≡ conflict self.now first second }
     {
         has_at(&self.conflicts, first as usize, second as usize)
+    }
+
+    /// Returns the courses that conflict with a course, as words: course k is the bit k % 64 of the word k / 64. There are no words if the
+    /// course is out of range.
+    pub fn conflict_words(&self, course: u32) -> &[u64]
+        ensures { (other : ℕ) → other < length self.now.courses →
+            has_bit (slice_index_or result.now (other / 64) 0) (other % 64) ≡ conflict self.now course other }
+    {
+        match self.conflicts.get(course as usize) {
+            Some(marks) => marks.words(),
+            None => &[],
+        }
     }
 
     /// Returns whether a period is unavailable to a course; false if the course, the day or the period is out of range.

@@ -1,6 +1,7 @@
 //! Marks of numbers.
 
-ghost use Rattle.std.specs.Prelude.{◌≡◌, ◌<◌, ◌≤◌, ℕ, true, false, [], ◌==◌, ◌&&◌, ◌||◌, length, replicate, slice_index_or, slice_set, IfOk};
+ghost use Rattle.std.specs.Int.{div_ceil};
+ghost use Rattle.std.specs.Prelude.{◌≡◌, ◌<◌, ◌≤◌, ◌/◌, ◌%◌, ℕ, true, false, [], ◌==◌, ◌&&◌, ◌||◌, length, replicate, slice_index_or, slice_set, IfOk};
 ghost use Rattle.tt_bits.specs.Bits.{has_bit};
 
 use std::alloc::{AllocError, Global};
@@ -56,6 +57,15 @@ impl Marks {
         ensures { result ≡ slice_index_or self.now number false }
     {
         number < self.len && has_bit(self.words[number / BITS], (number % BITS) as u32)
+    }
+
+    /// Returns the marks as words: number k is the bit k % 64 of the word k / 64.
+    #[tactic(auto, using(crate::proofs::Flagging::flag_at, crate::proofs::Flagging::flags_length))]
+    pub fn words(&self) -> &[u64]
+        ensures len { length result.now ≡ div_ceil (length self.now) 64 }
+        ensures bits { (k : ℕ) → k < length self.now → has_bit (slice_index_or result.now (k / 64) 0) (k % 64) ≡ slice_index_or self.now k false }
+    {
+        &self.words
     }
 
     /// Marks a number.

@@ -1,6 +1,6 @@
-use Rattle.std.proofs.Common.{sym, subst}
+use Rattle.std.proofs.Common.{◌∙◌, sym, subst}
 use Rattle.tt_instance_data.specs.Indexed.{IsSquare}
-use Rattle.tt_instance.proofs.Excluding.{teacher_rows_square, members_have_rows, rows_reported}
+use Rattle.tt_instance.proofs.Excluding.{teacher_rows_square, row_for_each, members_have_rows, rows_reported}
 use Rattle.tt_instance.proofs.conflicts.conflict_rows.Goals as goal
 
 pub add_curricula-requires-clause-square : goal.add_curricula-requires-clause-square
@@ -14,6 +14,9 @@ add_curricula-requires-clause-within c =
 
 pub returns : goal.returns
 returns c = record {
+  len = c.clear_own.ensures.len ∙ c.add_curricula.ensures.len
+      ∙ row_for_each c.args.parts.now c.deref.result.now c.in_ok-rows.rows.items c.deref.ensures.value c.in_ok-rows.ensures;
+  square = c.clear_own.ensures.square;
   agrees = rows_reported c.args.parts.now c.deref.result.now c.deref-2.result.now c.in_ok-rows.rows.items c.add_curricula.new.rows.items c.clear_own.new.rows.items
-      c.requires c.deref.ensures.value c.deref-2.ensures.value c.in_ok-rows.ensures c.add_curricula.ensures.marked c.clear_own.ensures;
+      c.requires c.deref.ensures.value c.deref-2.ensures.value c.in_ok-rows.ensures c.add_curricula.ensures.marked c.clear_own.ensures.marked;
 }
