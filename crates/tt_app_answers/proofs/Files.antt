@@ -6,14 +6,13 @@ use Rattle.tt_instance_data.specs.Spelling.{Spells}
 use Rattle.tt_instance_data.specs.declared.cell.Cell.{Cell}
 use Rattle.tt_instance.specs.declared.fault.InstanceFault.{InstanceFault}
 use Rattle.tt_instance.specs.declared.fault.InstanceFault.TheVariants as instance
-use Rattle.tt_instance.proofs.Laws.{is_read, spelled_instance}
+use Rattle.tt_instance.proofs.Laws.{is_read, spelled_instance, spelled_once}
 use Rattle.tt_table.specs.Reading.{solution_of, Fails as FailsTable}
 use Rattle.tt_table.specs.Spelling.{SpellsBoth}
 use Rattle.tt_table.specs.declared.fault.SolutionFault.{SolutionFault}
 use Rattle.tt_table.specs.declared.fault.SolutionFault.TheVariants as solution
 use Rattle.tt_table.proofs.EntryLaws.{solution_read}
 use Rattle.tt_app_answers.specs.FaultMaps.{fault_from_instance, fault_from_solution}
-use Rattle.tt_proof_check.proofs.Files.{one_instance}
 use Rattle.tt_app_answers.specs.Refusals.{IsFileRefusal}
 use Rattle.tt_app_answers.specs.declared.fault.AppFault.{AppFault}
 use Rattle.tt_app_answers.specs.declared.fault.AppFault.TheVariants as fault
@@ -32,7 +31,7 @@ tells_solution i s p f spelled h = record { problem = p; spelled = spelled; fail
 pub only_memory : (i s : List ℕ) (p : Problem) (t : List Cell) (f : AppFault) → SpellsBoth i s p t → IsFileRefusal i s f → f ≡ fault.OutOfMemory
 only_memory i s p t (fault.Instance f) both h = let e = is_read i p both.spelled in absurd cc
 only_memory i s p t (fault.Solution f) both h =
-    let same : h.problem ≡ p = one_instance i h.problem p h.spelled both.spelled in
+    let same : h.problem ≡ p = spelled_once i h.problem p h.spelled both.spelled in
     let e = solution_read p s t (spelled_instance i p both.spelled).within both.solved in
     let g : solution_of p s ≡ Err f = subst (λ (q : Problem). solution_of q s ≡ Err f) same h.fails in
     absurd cc

@@ -3,13 +3,13 @@ use Rattle.std.proofs.Common.{ℕ, ◌<◌, ◌^◌, List, refl, ap, subst, inl,
 use Rattle.tt_instance_data.specs.Problem.{Problem}
 use Rattle.tt_instance_data.specs.Spelling.{Spells}
 use Rattle.tt_leaf_data.specs.declared.leaf.Bound.{Bound}
-use Rattle.tt_proof_check.proofs.Files.{one_instance}
 use Rattle.tt_proof_sum.specs.Faults.{IsSilentSum, all_points}
 use Rattle.tt_proof_sum.specs.Sums.{IsSum}
 use Rattle.tt_proof_sum.specs.declared.fault.SumFault.{SumFault}
 use Rattle.tt_proof_sum.specs.declared.fault.SumFault.TheVariants as sum
 use Rattle.tt_app_answers.specs.FaultMaps.{fault_from_sum}
 use Rattle.tt_app_answers.specs.Refusals.{IsSilentRefusal}
+use Rattle.tt_instance.proofs.Laws.{spelled_once}
 
 -- a silent error says nothing about the bytes
 pub silent_refusal : (f : SumFault) → IsSilentSum f → IsSilentRefusal (fault_from_sum f)
@@ -25,4 +25,4 @@ pub record SumHere (p : Problem) (proofs : List (List ℕ)) (b : Bound) : Type 0
   pub within : all_points is.parts < 2 ^ 64
 
 pub sum_here : (i : List ℕ) (proofs : List (List ℕ)) (p read : Problem) (b : Bound) → Spells i p → Spells i read → (h : IsSum p proofs b) → all_points h.parts < 2 ^ 64 → SumHere read proofs b
-sum_here i proofs p read b spells found h within = subst (λ (q : Problem). SumHere q proofs b) (one_instance i p read spells found) (record { is = h; within = within })
+sum_here i proofs p read b spells found h within = subst (λ (q : Problem). SumHere q proofs b) (spelled_once i p read spells found) (record { is = h; within = within })

@@ -10,7 +10,7 @@ use Rattle.tt_rules.proofs.Scores.{cost_is, feasible_is}
 use Rattle.tt_leaf_data.specs.declared.leaf.Bound.TheVariants.{AtLeast}
 use Rattle.tt_proof_check.specs.Derives.{HoldsOfAll}
 use Rattle.tt_proof_check.specs.Headline.{Solves, BoundsAll}
-use Rattle.tt_proof_check.proofs.Files.{one_instance, one_table}
+use Rattle.tt_proof_check.proofs.Files.{one_table}
 use Rattle.tt_proof_sum.specs.Faults.{IsSumFault, IsSilentSum, all_points}
 use Rattle.tt_proof_sum.specs.Sums.{IsSum}
 use Rattle.tt_proof_sum.specs.declared.fault.SumFault.{SumFault}
@@ -18,6 +18,7 @@ use Rattle.tt_proof_sum.specs.declared.fault.SumFault.TheVariants as sum
 use Rattle.tt_app_answers.specs.Sums.{CertifiesSum}
 use Rattle.tt_app_checks.specs.Summed.{IsSumYes, IsSumCheckFault, AnswersSumYes}
 use Rattle.tt_app_answers.specs.FaultMaps.{fault_from_sum}
+use Rattle.tt_instance.proofs.Laws.{spelled_once}
 
 -- a silent error says nothing about the bytes
 pub silent_yes : (f : SumFault) (c b : ℕ) → IsSilentSum f → AnswersSumYes (Err (fault_from_sum f)) c b
@@ -46,7 +47,7 @@ module _ (i s : List ℕ) (p : Problem) (t : List Cell) (spelled : Spells i p) (
 
   pub sum_certified : (files : List (List ℕ)) (c b : ℕ) (h : CertifiesSum i s files c b) → all_points h.sum.parts < 2 ^ 64 → Certified p t files c b
   sum_certified files c b h within =
-      let same : h.solves.problem ≡ p = one_instance i h.solves.problem p h.solves.both.spelled spelled in
+      let same : h.solves.problem ≡ p = spelled_once i h.solves.problem p h.solves.both.spelled spelled in
       let there : SpellsTable p s h.solves.table × Certified p h.solves.table files c b =
       subst (λ (q : Problem). SpellsTable q s h.solves.table × Certified q h.solves.table files c b) same
       (h.solves.both.solved, record { feasible = h.solves.feasible; costs = h.solves.costs; sum = h.sum; within = within }) in
@@ -75,6 +76,6 @@ module _ (i s : List ℕ) (p : Problem) (t : List Cell) (spelled : Spells i p) (
 
     pub sum_yes : (gives : List (List ℕ) → Type 0) (b : ℕ) → broken_by score ≡ 0 → ((files : List (List ℕ)) → gives files → IsSum p files (AtLeast b)) → HoldsOfAll p (AtLeast b) → IsSumYes i s gives (costs_of score) b
     sum_yes gives b e derived holds =
-        let all : BoundsAll i b = λ other spells. subst (λ (x : Problem). HoldsOfAll x (AtLeast b)) (one_instance i p other spelled spells) holds in
+        let all : BoundsAll i b = λ other spells. subst (λ (x : Problem). HoldsOfAll x (AtLeast b)) (spelled_once i p other spelled spells) holds in
         let within : b ≤ costs_of score = subst (λ (n : ℕ). b ≤ n) (sym (cost_is p t score is)) (holds t (feasible_here e)) in
         record { solves = solves_here e; certified = λ files given. record { solves = solves_here e; sum = derived files given }; bounds = all; within = within }

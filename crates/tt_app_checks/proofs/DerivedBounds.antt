@@ -6,13 +6,12 @@ use Rattle.tt_instance.specs.Reading.{instance_of, Fails}
 use Rattle.tt_instance_data.specs.Spelling.{Spells}
 use Rattle.tt_instance.specs.declared.fault.InstanceFault.{InstanceFault}
 use Rattle.tt_instance.specs.declared.fault.InstanceFault.TheVariants as instance
-use Rattle.tt_instance.proofs.Laws.{is_read}
+use Rattle.tt_instance.proofs.Laws.{is_read, spelled_once}
 use Rattle.tt_leaf_data.specs.declared.leaf.Bound.{Bound}
 use Rattle.tt_proof_check.specs.Derives.{HoldsOfAll}
 use Rattle.tt_proof_check.specs.Streams.{IsProved, IsEnvironmental, stream_of, IsProofFault}
 use Rattle.tt_proof_check.specs.declared.fault.CheckFault.{CheckFault}
 use Rattle.tt_proof_check.specs.declared.fault.CheckFault.TheVariants as check
-use Rattle.tt_proof_check.proofs.Files.{one_instance}
 use Rattle.tt_app_checks.specs.Bounded.{IsBoundAnswer, IsBounded, IsBoundRefusal, AnswersBound}
 use Rattle.tt_app_answers.specs.FaultMaps.{fault_from_instance, fault_from_check}
 use Rattle.tt_app_answers.specs.declared.answer.Answer.{Answer}
@@ -47,7 +46,7 @@ silent_bound f b (inr e) = subst (λ g. AnswersBound (Err (fault_from_check g)) 
 
 -- a bound that is derived on the instance that the bytes spell is derived on the instance that was read
 pub proved_here : (i bytes : List ℕ) (p read : Problem) (b : Bound) → Spells i p → Spells i read → IsProved p bytes b → IsProved read bytes b
-proved_here i bytes p read b spells found h = subst (λ (q : Problem). IsProved q bytes b) (one_instance i p read spells found) h
+proved_here i bytes p read b spells found h = subst (λ (q : Problem). IsProved q bytes b) (spelled_once i p read spells found) h
 
 pub bounded : (i : List ℕ) (p : Problem) (q : Option (List ℕ)) (a : Answer) (b : Bound) → Spells i p → ((bytes : List ℕ) → q ≡ Some bytes → IsProved p bytes b) → HoldsOfAll p b → IsBoundAnswer a b → IsBounded i q a
 bounded i p q a b spells proved holds answer = record { problem = p; spelled = spells; bound = b; proved = reported q (λ bytes. IsProved p bytes b) proved; holds = holds; answer = answer }

@@ -4,7 +4,7 @@ use Rattle.std.specs.Prelude.{Vec}
 use Rattle.tt_instance_data.specs.Problem.{Problem}
 use Rattle.tt_instance_data.specs.Spelling.{Spells}
 use Rattle.tt_instance_data.specs.declared.cell.Cell.{Cell}
-use Rattle.tt_instance.proofs.Laws.{spelled_instance}
+use Rattle.tt_instance.proofs.Laws.{spelled_instance, spelled_once}
 use Rattle.tt_table.specs.Spelling.{SpellsTable}
 use Rattle.tt_table.specs.Table.{IsTimetable}
 use Rattle.tt_table.specs.Reading.{solution_of}
@@ -17,7 +17,6 @@ use Rattle.tt_page.specs.Pages.{page_text}
 use Rattle.tt_page_text.specs.Labels.{no_labels}
 use Rattle.tt_proof_check.specs.Derives.{HoldsOfAll}
 use Rattle.tt_proof_check.specs.Headline.{BoundsAll}
-use Rattle.tt_proof_check.proofs.Files.{one_instance}
 use Rattle.tt_proof_sum.specs.Sums.{IsSum}
 use Rattle.tt_best.specs.Weeks.{IsNoHigher, IsNoWorseThan}
 use Rattle.tt_app_searches.specs.Best.{ShowsPage, CostsAtMost, CostsNoMore}
@@ -42,7 +41,7 @@ whole i s p t files page style sum c b spells solved feasible costs is holds e s
         solves = record { problem = p; table = t; both = record { spelled = spells; solved = solved }; feasible = feasible; costs = sym costs };
         sum = subst (λ (x : Bound). IsSum p files x) e is;
       };
-      bounds = λ other read. subst (λ (x : Problem). HoldsOfAll x (AtLeast b)) (one_instance i p other spells read) here;
+      bounds = λ other read. subst (λ (x : Problem). HoldsOfAll x (AtLeast b)) (spelled_once i p other spells read) here;
       within = subst (λ (n : ℕ). b ≤ n) (sym costs) (here t feasible);
       shown = shown;
     }
@@ -76,7 +75,7 @@ costs_no_more i (Some s) style p None w a spells is fits kept costs = absurd is
 costs_no_more i (Some s) style p (Some t) w a spells is fits kept costs =
     λ c solves.
     let limits = (spelled_instance i p spells).within in
-    let same : solves.problem ≡ p = one_instance i solves.problem p solves.both.spelled spells in
+    let same : solves.problem ≡ p = spelled_once i solves.problem p solves.both.spelled spells in
     let spelled : SpellsTable p s solves.table = subst (λ (q : Problem). SpellsTable q s solves.table) same solves.both.solved in
     let read : solution_of p s ≡ Ok t = solution_read p s t limits is in
     let again : solution_of p s ≡ Ok solves.table = solution_read p s solves.table limits spelled in

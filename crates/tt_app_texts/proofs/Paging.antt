@@ -16,7 +16,7 @@ use Rattle.tt_page_text.specs.Labels.{is_environmental}
 use Rattle.tt_page_text.specs.declared.fault.LabelsFault.{LabelsFault}
 use Rattle.tt_page_text.specs.declared.fault.LabelsFault.TheVariants as labels
 use Rattle.tt_proof_check.specs.Derives.{HoldsOfAll}
-use Rattle.tt_proof_check.proofs.Files.{one_instance, one_table}
+use Rattle.tt_proof_check.proofs.Files.{one_table}
 use Rattle.tt_proof_sum.specs.Faults.{IsSumFault}
 use Rattle.tt_proof_sum.specs.Sums.{IsSum}
 use Rattle.tt_proof_sum.specs.declared.fault.SumFault.{SumFault}
@@ -26,6 +26,7 @@ use Rattle.tt_app_texts.specs.Paged.{labels_for, IsNotPut, IsPageRefusal, IsProv
 use Rattle.tt_app_texts.specs.declared.calls.page.PageNames.{PageNames}
 use Rattle.tt_app_answers.specs.declared.fault.AppFault.{AppFault}
 use Rattle.tt_app_answers.specs.declared.fault.AppFault.TheVariants as fault
+use Rattle.tt_instance.proofs.Laws.{spelled_once}
 
 -- what an error of the page's output says about its size
 pub output_tells : (f : PageFault) (text : List ℕ) → ExplainsSize f text → IsNotPut (fault_from_page f) text
@@ -41,10 +42,10 @@ memory_not_put f text e = rw e tt
 pub names_memory : (i : List ℕ) (p read : Problem) (names : PageNames) (l : Labelled) (f : LabelsFault) → Spells i p → Spells i read → labels_for p names ≡ Ok l → FailsUnless is_environmental f (labels_for read names)
     → fault_from_labels f ≡ fault.OutOfMemory
 names_memory i p read names l labels.Days spells found named h =
-    let here : labels_for read names ≡ Ok l = subst (λ (q : Problem). labels_for q names ≡ Ok l) (one_instance i p read spells found) named in
+    let here : labels_for read names ≡ Ok l = subst (λ (q : Problem). labels_for q names ≡ Ok l) (spelled_once i p read spells found) named in
     absurd cc
 names_memory i p read names l labels.Periods spells found named h =
-    let here : labels_for read names ≡ Ok l = subst (λ (q : Problem). labels_for q names ≡ Ok l) (one_instance i p read spells found) named in
+    let here : labels_for read names ≡ Ok l = subst (λ (q : Problem). labels_for q names ≡ Ok l) (spelled_once i p read spells found) named in
     absurd cc
 names_memory i p read names l labels.OutOfMemory spells found named h = refl
 
@@ -101,7 +102,7 @@ module _ (i s : List ℕ) (p : Problem) (t : List Cell) (names : PageNames) (spe
 pub page_same : (i s : List ℕ) (p read : Problem) (t found : List Cell) (names : PageNames) (l m : Labelled) (a c : Option Bound) (style : List ℕ) → SpellsBoth i s p t → Spells i read → SpellsTable read s found
     → labels_for p names ≡ Ok l → labels_for read names ≡ Ok m → c ≡ a → page_text read found m c style ≡ page_text p t l a style
 page_same i s p read t found names l m a c style both spells solved named given e =
-    let same : read ≡ p = one_instance i read p spells both.spelled in
+    let same : read ≡ p = spelled_once i read p spells both.spelled in
     let here : SpellsTable p s found = subst (λ (q : Problem). SpellsTable q s found) same solved in
     let table : found ≡ t = one_table s i p found t both.spelled here both.solved in
     let reported : labels_for p names ≡ Ok m = subst (λ (q : Problem). labels_for q names ≡ Ok m) same given in

@@ -2,20 +2,13 @@
 use Rattle.std.proofs.Common.{◌≡◌, ℕ, ◌≤◌, ◌<◌, zero, suc, List, [], ◌∷◌, ◌++◌, drop, Option, Some, length, get_or, refl, ap, ◌∙◌, arith}
 use Rattle.std.specs.Prelude.{slice_set, option_to_list}
 use Rattle.std.specs.List.{AllByRecursion}
-use Rattle.std.proofs.Math.ListN.{set}
 use Rattle.std.proofs.lemmas.List.{drop-append-le, set-get_or}
 use Rattle.tt_bits.specs.Undone.{undone, table_at, tables_at, IsClimb, AreWithin}
 use Rattle.tt_bits.specs.declared.trail.Old.{Old}
+use Rattle.tt_lists.proofs.Members.{each_of_append}
+use Rattle.tt_lists.proofs.Tested.{each_append}
 
 -- ---- lists of numbers
-
-all-append_parts : {X : Type 0} (P : X → Type 0) (xs ys : List X) → AllByRecursion P (xs ++ ys) → AllByRecursion P xs × AllByRecursion P ys
-all-append_parts P [] ys a = (tt, a)
-all-append_parts P (x ∷ xs) ys a = let b = all-append_parts P xs ys a.1 in ((a.0, b.0), b.1)
-
-all-append_from : {X : Type 0} (P : X → Type 0) (xs ys : List X) → AllByRecursion P xs → AllByRecursion P ys → AllByRecursion P (xs ++ ys)
-all-append_from P [] ys a b = b
-all-append_from P (x ∷ xs) ys a b = (a.0, all-append_from P xs ys a.1 b)
 
 -- ---- marks
 
@@ -23,24 +16,24 @@ pub climb_parts : (ms : List ℕ) (m n : ℕ) → IsClimb (ms ++ m ∷ []) n →
 climb_parts [] m n a = (tt, a.0.0)
 climb_parts (k ∷ ks) m n a =
     let b = climb_parts ks m n a.1 in
-    (((all-append_parts (λ i. k ≤ i) (ks ++ m ∷ []) (n ∷ []) a.0).0, b.0), b.1)
+    (((each_of_append (λ i. k ≤ i) (ks ++ m ∷ []) (n ∷ []) a.0).0, b.0), b.1)
 
 pub climb_more : (ms : List ℕ) (n : ℕ) → IsClimb ms n → IsClimb (ms ++ n ∷ []) n
 climb_more [] n a = ((omega arith, tt), tt)
 climb_more (k ∷ ks) n a =
-    let b = (all-append_parts (λ i. k ≤ i) ks (n ∷ []) a.0).1 in
-    (all-append_from (λ i. k ≤ i) (ks ++ n ∷ []) (n ∷ []) a.0 b, climb_more ks n a.1)
+    let b = (each_of_append (λ i. k ≤ i) ks (n ∷ []) a.0).1 in
+    (each_append (λ i. k ≤ i) (ks ++ n ∷ []) (n ∷ []) a.0 b, climb_more ks n a.1)
 
 pub climb_further : (ms : List ℕ) (n m : ℕ) → n ≤ m → IsClimb ms n → IsClimb ms m
 climb_further [] n m h a = tt
 climb_further (k ∷ ks) n m h a =
-    let b = all-append_parts (λ i. k ≤ i) ks (n ∷ []) a.0 in
+    let b = each_of_append (λ i. k ≤ i) ks (n ∷ []) a.0 in
     let c : k ≤ m = omega (arith, b.1.0) in
-    (all-append_from (λ i. k ≤ i) ks (m ∷ []) b.0 (c, tt), climb_further ks n m h a.1)
+    (each_append (λ i. k ≤ i) ks (m ∷ []) b.0 (c, tt), climb_further ks n m h a.1)
 
 pub climb_at_most : (ms : List ℕ) (n : ℕ) → IsClimb ms n → AllByRecursion (λ k. k ≤ n) ms
 climb_at_most [] n a = tt
-climb_at_most (k ∷ ks) n a = ((all-append_parts (λ i. k ≤ i) ks (n ∷ []) a.0).1.0, climb_at_most ks n a.1)
+climb_at_most (k ∷ ks) n a = ((each_of_append (λ i. k ≤ i) ks (n ∷ []) a.0).1.0, climb_at_most ks n a.1)
 
 -- ---- tables
 
@@ -83,10 +76,10 @@ pub last_taken : {X : Type 0} (old new : List X) (r : Option X) (x : X) → old 
 last_taken old new r x e f = e ∙ ap (λ q. new ++ option_to_list q) f
 
 pub within_parts : (n : ℕ) (log : List Old) (o : Old) → AreWithin n (log ++ o ∷ []) → AreWithin n log × (o.place < n)
-within_parts n log o a = let b = all-append_parts (λ x. x.place < n) log (o ∷ []) a in (b.0, b.1.0)
+within_parts n log o a = let b = each_of_append (λ x. x.place < n) log (o ∷ []) a in (b.0, b.1.0)
 
 pub within_more : (n : ℕ) (log : List Old) (o : Old) → AreWithin n log → o.place < n → AreWithin n (log ++ o ∷ [])
-within_more n log o a h = all-append_from (λ x. x.place < n) log (o ∷ []) a (h, tt)
+within_more n log o a h = each_append (λ x. x.place < n) log (o ∷ []) a (h, tt)
 
 pub at_most_all : (ms : List ℕ) (m n : ℕ) → m ≤ n → AllByRecursion (λ k. k ≤ m) ms → AllByRecursion (λ k. k ≤ n) ms
 at_most_all [] m n h a = tt

@@ -7,7 +7,7 @@ use Rattle.std.proofs.lemmas.List.Folds.{list_any-append}
 use Rattle.std.proofs.lemmas.Nat.{mod-mul-add, div-mul-add}
 use Rattle.std.proofs.Math.Bool.{or-false}
 use Rattle.tt_lists.specs.Words.{has_number}
-use Rattle.tt_lists.proofs.Truth.{same_truth}
+use Rattle.tt_lists.proofs.Truth.{same_truth, and-over}
 use Rattle.tt_instance_data.specs.Problem.{Problem}
 use Rattle.tt_instance_data.specs.Cells.{InRange}
 use Rattle.tt_instance_data.specs.declared.cell.Cell.{Cell}
@@ -121,16 +121,9 @@ all_gone p g c from to n x h covers past = same_truth (is_gone p g c n x) ((x.co
 
 -- ---- course by course
 
-spread : (a b z : Bool) → ((a && z) || (b && z)) ≡ ((a || b) && z)
-spread true true true = refl
-spread true true false = refl
-spread true false true = refl
-spread true false false = refl
-spread false b z = refl
-
 pub course_gone : (ks : List ℕ) (k c : ℕ) (z : Bool) → ((has_number ks c && z) || ((c == k) && z)) ≡ (has_number (ks ++ k ∷ []) c && z)
 course_gone ks k c z =
-    spread (has_number ks c) (c == k) z
+    and-over (has_number ks c) (c == k) z
     ∙ ap (λ b. (has_number ks c || b) && z) (turned c k)
     ∙ ap (λ b. b && z) (sym (list_any-append (λ m. m == c) ks (k ∷ []) ∙ ap (λ b. has_number ks c || b) (or-false (k == c))))
   where

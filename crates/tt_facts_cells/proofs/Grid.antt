@@ -1,14 +1,11 @@
 -- The place of words: each bit of a table has a word.
-use Rattle.std.proofs.Common.{◌≡◌, ℕ, zero, suc, ◌+◌, ◌*◌, ◌/◌, ◌%◌, ◌<◌, ◌≤◌, length, arith, subst, sym, ap, ◌∙◌}
-use Rattle.std.proofs.Math.Nat.{mul_comm}
-use Rattle.std.proofs.lemmas.Nat.{mul-add-lt, mod-mul-add, div-mul-add}
+use Rattle.std.proofs.Common.{◌≡◌, ℕ, zero, suc, ◌+◌, ◌*◌, ◌/◌, ◌%◌, ◌<◌, ◌≤◌, length, arith, sym, ap, ◌∙◌}
+use Rattle.std.proofs.lemmas.Nat.{mod-mul-add, div-mul-add}
 use Rattle.tt_instance_data.specs.Problem.{Problem}
 use Rattle.tt_instance_data.specs.Cells.{InRange}
 use Rattle.tt_instance_data.specs.declared.cell.Cell.{Cell}
 use Rattle.tt_facts_cells.specs.Words.{Bit, IsBit, width, place, size, bit_of}
-
-within_row : (a w b h : ℕ) → a < h → b < w → a * w + b < h * w
-within_row a w b h ha hb = subst (λ n. a * w + b < n) (mul_comm w h) (mul-add-lt a w b h ha hb)
+use Rattle.tt_lists.proofs.Grid.{within_row}
 
 row_within : (a w h : ℕ) → a < h → a * w + w ≤ h * w
 row_within a zero h ha = omega arith
@@ -46,9 +43,3 @@ module _ (p : Problem) where
 
 pub room_back : (r : ℕ) → r / 64 * 64 + r % 64 ≡ r
 room_back r = omega arith
-
-pub block_back : (w k : ℕ) → k < 64 → (w * 64 + k) / 64 ≡ w
-block_back w k h = omega arith
-
-pub number_back : (w k : ℕ) → k < 64 → (w * 64 + k) % 64 ≡ k
-number_back w k h = omega arith

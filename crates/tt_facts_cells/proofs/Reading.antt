@@ -1,11 +1,8 @@
 -- What words say about the cells of a course in a period.
-use Rattle.std.proofs.Common.{◌≡◌, ℕ, ◌+◌, ◌*◌, ◌/◌, ◌%◌, ◌<◌, ◌≤◌, Bool, true, false, ◌&&◌, List, [], ◌∷◌, length, refl, sym, ap, ◌∙◌, arith, inl, inr}
+use Rattle.std.proofs.Common.{◌≡◌, ℕ, ◌+◌, ◌*◌, ◌/◌, ◌%◌, ◌<◌, ◌≤◌, Bool, true, false, ◌&&◌, List, length, refl, sym, ap, ◌∙◌, arith, inl, inr}
 use Rattle.std.specs.List.{list_any, list_all}
 use Rattle.std.proofs.lemmas.Bool.{cases_lt, both_ways}
-use Rattle.std.proofs.lemmas.List.Folds.{list_all-append}
-use Rattle.std.proofs.Math.Bool.{and-true}
 use Rattle.tt_lists.specs.Words.{range_below}
-use Rattle.tt_lists.proofs.Below.{range_below_more}
 use Rattle.tt_lists.proofs.Numbers.{any_below}
 use Rattle.tt_lists.proofs.Members.{member_from_any}
 use Rattle.tt_lists.proofs.Range.{all_below, at_below, below_member}
@@ -16,11 +13,8 @@ use Rattle.tt_bits.specs.Bits.{bits}
 use Rattle.tt_bits.proofs.BitLaws.{any_bits_at, bit_from_any, all_bits_from, all_bits_at}
 use Rattle.tt_facts_cells.specs.Words.{width, is_set, in_force}
 use Rattle.tt_facts_cells.specs.Tables.{has_cell, IsTable}
-use Rattle.tt_facts_cells.proofs.Grid.{block_back, number_back, room_back, block_within}
-
--- a test of the numbers below a bound, with another number
-pub all_next : (t : ℕ → Bool) (n : ℕ) → list_all t (range_below (n + 1)) ≡ (list_all t (range_below n) && t n)
-all_next t n = ap (list_all t) (range_below_more n) ∙ list_all-append t (range_below n) (n ∷ []) ∙ ap (λ b. list_all t (range_below n) && b) (and-true (t n))
+use Rattle.tt_facts_cells.proofs.Grid.{room_back, block_within}
+use Rattle.tt_lists.proofs.Grid.{block_back, number_back}
 
 module _ (p : Problem) where
   -- a cell by its block and number

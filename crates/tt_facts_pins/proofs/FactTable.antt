@@ -19,7 +19,8 @@ use Rattle.tt_facts_pins.specs.declared.bit_places.BitPlace.{BitPlace}
 use Rattle.tt_facts_pins.specs.Sets.{has_at}
 use Rattle.tt_facts_pins.specs.Tables.{width, Adds}
 use Rattle.tt_facts_pins.specs.FactTable.{fact_row, fact_rows, open_place, open_size, slot_row, closed_place, bit_place_in, bit_place_of, bit_place_at, is_nowhere, unplaced_of, is_fact, ShowsFacts, AddsFact}
-use Rattle.tt_facts_pins.proofs.Grid.{within_row, same_day, same_room, room_within, apart, apart_back}
+use Rattle.tt_facts_pins.proofs.Grid.{same_day, same_room, room_within, apart, apart_back}
+use Rattle.tt_lists.proofs.Grid.{within_row}
 
 -- ---- facts that are the same
 

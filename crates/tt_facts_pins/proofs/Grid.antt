@@ -1,18 +1,15 @@
 -- The places of words.
-use Rattle.std.proofs.Common.{◌≡◌, ℕ, ◌+◌, ◌*◌, ◌/◌, ◌%◌, ◌<◌, ◌≤◌, false, ◌&&◌, length, arith, subst, sym, ap, ◌∙◌, eq-eqb, ne_eqb}
+use Rattle.std.proofs.Common.{◌≡◌, ℕ, ◌+◌, ◌*◌, ◌/◌, ◌%◌, ◌<◌, ◌≤◌, false, ◌&&◌, length, arith, sym, ap, ◌∙◌, eq-eqb, ne_eqb}
 use Rattle.std.specs.Prelude.{◌==◌}
-use Rattle.std.proofs.Math.Nat.{mul_comm}
 use Rattle.std.proofs.lemmas.Bool.{eqb-true, and_from, and_parts}
-use Rattle.std.proofs.lemmas.Nat.{mul-add-lt, mod-mul-add, div-mul-add}
+use Rattle.std.proofs.lemmas.Nat.{mod-mul-add, div-mul-add}
 use Rattle.tt_lists.proofs.Truth.{same_truth}
 use Rattle.tt_instance_data.specs.Problem.{Problem}
 use Rattle.tt_facts_path.specs.Facts.{IsWho}
 use Rattle.tt_facts_path.specs.declared.facts.Who.{Who}
 use Rattle.tt_facts_path.specs.declared.facts.Who.TheVariants.{Course, Curriculum}
 use Rattle.tt_facts_pins.specs.Tables.{row_of, rows, day_place, days_size, width}
-
-pub within_row : (a w b h : ℕ) → a < h → b < w → a * w + b < h * w
-within_row a w b h ha hb = subst (λ n. a * w + b < n) (mul_comm w h) (mul-add-lt a w b h ha hb)
+use Rattle.tt_lists.proofs.Grid.{within_row}
 
 pub row_within : (p : Problem) (who : Who) → IsWho p who → row_of p who < rows p
 row_within p (Course c) h = omega arith
@@ -36,12 +33,6 @@ room_within p r h = omega arith
 
 pub block_within : (p : Problem) (b : ℕ) → b * 64 < length p.rooms → b < width p
 block_within p b h = omega arith
-
-pub of_block : (b i : ℕ) → i < 64 → (b * 64 + i) / 64 ≡ b
-of_block b i h = div-mul-add b 64 i h
-
-pub in_block : (b i : ℕ) → i < 64 → (b * 64 + i) % 64 ≡ i
-in_block b i h = mod-mul-add b 64 i h
 
 -- a place and a number belong to only one course and room
 pub same_room : (base w c r c0 r0 : ℕ) → r / 64 < w → r0 / 64 < w → ((base + (c * w + r / 64) == base + (c0 * w + r0 / 64)) && (r % 64 == r0 % 64)) ≡ ((c0 == c) && (r0 == r))

@@ -2,7 +2,7 @@
 use Rattle.std.proofs.Common.{◌≡◌, ℕ, ◌+◌, ◌%◌, ◌<◌, ◌≤◌, Bool, true, false, ◌&&◌, ◌||◌, List, [], ◌∷◌, Option, Some, None, length, get_or, refl, sym, ap, ◌∙◌, arith, inl, inr, ne_eqb}
 use Rattle.std.specs.Prelude.{◌==◌, nat_lt, All}
 use Rattle.std.proofs.Math.Bool.{or-false, and-false}
-use Rattle.std.proofs.lemmas.Bool.{cases_eq, eqb-true, lt-ltb, le-ltb}
+use Rattle.std.proofs.lemmas.Bool.{cases_eq, eqb-true, lt-ltb, le-ltb, and_right}
 use Rattle.std.proofs.lemmas.List.Folds.{list_any_none}
 use Rattle.tt_lists.specs.Words.{has_number}
 use Rattle.tt_lists.proofs.Tests.{same_test, test_turned}
@@ -19,6 +19,7 @@ use Rattle.tt_facts_path.specs.declared.facts.Who.TheVariants.{Course, Curriculu
 use Rattle.tt_facts_pins.specs.Sets.{has_at}
 use Rattle.tt_facts_pins.specs.Tables.{row_of, day_place, days_size, width, room_place, Adds, is_day_of, pins_period, pins_room, PinsPeriods, PinsRooms}
 use Rattle.tt_facts_pins.proofs.Grid.{row_within, day_within, same_day, room_within, same_room, apart, apart_back}
+use Rattle.tt_lists.proofs.Truth.{and-over}
 
 -- a test of a number that is below a bound
 in_bound : (t u v l : Bool) → u ≡ v → (u ≡ true → l ≡ true) → (t && u) ≡ (l && (t && v))
@@ -41,20 +42,13 @@ pins_from_adds p reported d0 s0 old new test h adds means beyond = record {
   others = λ i s hi hs. adds.each i s hs ∙ ap (λ t. has_at old i s || (t && (s == s0))) (beyond i hi) ∙ or-false (has_at old i s);
 }
 
-each_or : (x y t : Bool) → ((x && t) || (y && t)) ≡ ((x || y) && t)
-each_or true true true = refl
-each_or true true false = refl
-each_or true false true = refl
-each_or true false false = refl
-each_or false y t = refl
-
 any_day : (p : Problem) (q d d0 : ℕ) → d < p.days → d0 < p.days → (qs : List ℕ) → is_day_of p qs d0 (day_place p (length p.courses + q) d) ≡ (has_number qs q && (d0 == d))
 any_day p q d d0 h k [] = refl
 any_day p q d d0 h k (m ∷ ms) =
     ap (λ b. b || is_day_of p ms d0 (day_place p (length p.courses + q) d)) (same_day (length p.courses + q) d (length p.courses + m) d0 p.days h k)
     ∙ ap (λ b. ((length p.courses + q == length p.courses + m) && (d0 == d)) || b) (any_day p q d d0 h k ms)
     ∙ ap (λ b. (b && (d0 == d)) || (has_number ms q && (d0 == d))) (same_test (length p.courses + q) (length p.courses + m) m q (λ e. omega arith) (λ e. omega arith))
-    ∙ each_or (m == q) (has_number ms q) (d0 == d)
+    ∙ and-over (m == q) (has_number ms q) (d0 == d)
 
 no_day : (p : Problem) (d0 i : ℕ) → ((q : ℕ) → (i == day_place p (length p.courses + q) d0) ≡ false) → (qs : List ℕ) → is_day_of p qs d0 i ≡ false
 no_day p d0 i h [] = refl
@@ -109,31 +103,28 @@ pins_nothing p reported day period words none = record {
   others = λ i s hi hs. refl;
 }
 
-either_way : (l a : Bool) → a ≡ false → (l && a) ≡ false
-either_way l a e = ap (λ t. l && t) e ∙ and-false l
-
 module _ (p : Problem) (words : List ℕ) where
   pub no_given_day : (reported : Who) (period : Option ℕ) → PinsPeriods p reported None period words words
   no_given_day reported period = pins_nothing p reported None period words (λ who d s is h.
-      either_way (nat_lt s p.periods) (pins_period p reported None period who d s) (second (is_pinned_by p who reported) false (gives period s) refl))
+      and_right (nat_lt s p.periods) (pins_period p reported None period who d s) (second (is_pinned_by p who reported) false (gives period s) refl))
 
   pub no_given_period : (reported : Who) (day : Option ℕ) → PinsPeriods p reported day None words words
   no_given_period reported day = pins_nothing p reported day None words (λ who d s is h.
-      either_way (nat_lt s p.periods) (pins_period p reported day None who d s) (third (is_pinned_by p who reported) (gives day d) false refl))
+      and_right (nat_lt s p.periods) (pins_period p reported day None who d s) (third (is_pinned_by p who reported) (gives day d) false refl))
 
   pub no_such_day : (reported : Who) (d0 : ℕ) (period : Option ℕ) → p.days ≤ d0 → PinsPeriods p reported (Some d0) period words words
   no_such_day reported d0 period k = pins_nothing p reported (Some d0) period words (λ who d s is h.
-      either_way (nat_lt s p.periods) (pins_period p reported (Some d0) period who d s) (second (is_pinned_by p who reported) (d0 == d) (gives period s) (ne_eqb d0 d (λ e. omega arith))))
+      and_right (nat_lt s p.periods) (pins_period p reported (Some d0) period who d s) (second (is_pinned_by p who reported) (d0 == d) (gives period s) (ne_eqb d0 d (λ e. omega arith))))
 
   pub no_such_period : (reported : Who) (day : Option ℕ) (s0 : ℕ) → p.periods ≤ s0 → PinsPeriods p reported day (Some s0) words words
   no_such_period reported day s0 k = pins_nothing p reported day (Some s0) words (λ who d s is h. elim (cases_eq s0 s) [
     | inl e ↦ ap (λ b. b && pins_period p reported day (Some s0) who d s) (le-ltb s p.periods (omega arith))
-    | inr e ↦ either_way (nat_lt s p.periods) (pins_period p reported day (Some s0) who d s) (third (is_pinned_by p who reported) (gives day d) (s0 == s) (ne_eqb s0 s e))
+    | inr e ↦ and_right (nat_lt s p.periods) (pins_period p reported day (Some s0) who d s) (third (is_pinned_by p who reported) (gives day d) (s0 == s) (ne_eqb s0 s e))
   ])
 
   pub no_such_curriculum : (q : ℕ) (day period : Option ℕ) → length p.curricula ≤ q → PinsPeriods p (Curriculum q) day period words words
   no_such_curriculum q day period k = pins_nothing p (Curriculum q) day period words (λ who d s is h.
-      either_way (nat_lt s p.periods) (pins_period p (Curriculum q) day period who d s) (first_of_three (is_pinned_by p who (Curriculum q)) (gives day d) (gives period s) (silent who is)))
+      and_right (nat_lt s p.periods) (pins_period p (Curriculum q) day period who d s) (first_of_three (is_pinned_by p who (Curriculum q)) (gives day d) (gives period s) (silent who is)))
     where
       silent : (who : Who) → IsWho p who → is_pinned_by p who (Curriculum q) ≡ false
       silent (Course c) is = refl
@@ -141,7 +132,7 @@ module _ (p : Problem) (words : List ℕ) where
 
   pub no_such_course : (c : ℕ) (day period : Option ℕ) → IsInstance p → length p.courses ≤ c → PinsPeriods p (Course c) day period words words
   no_such_course c day period valid k = pins_nothing p (Course c) day period words (λ who d s is h.
-      either_way (nat_lt s p.periods) (pins_period p (Course c) day period who d s) (first_of_three (is_pinned_by p who (Course c)) (gives day d) (gives period s) (silent who is)))
+      and_right (nat_lt s p.periods) (pins_period p (Course c) day period who d s) (first_of_three (is_pinned_by p who (Course c)) (gives day d) (gives period s) (silent who is)))
     where
       silent : (who : Who) → IsWho p who → is_pinned_by p who (Course c) ≡ false
       silent (Course a) is = ne_eqb c a (λ e. omega arith)
@@ -171,16 +162,16 @@ room_pins_nothing p reported room words none = record {
 
 module _ (p : Problem) (words : List ℕ) where
   pub no_room_given : (reported : Who) → PinsRooms p reported None words words
-  no_room_given reported = room_pins_nothing p reported None words (λ c r hc. either_way (nat_lt r (length p.rooms)) (pins_room p reported None c r) (and-false (is_pinned_by p (Course c) reported)))
+  no_room_given reported = room_pins_nothing p reported None words (λ c r hc. and_right (nat_lt r (length p.rooms)) (pins_room p reported None c r) (and-false (is_pinned_by p (Course c) reported)))
 
   pub no_such_room : (reported : Who) (r0 : ℕ) → length p.rooms ≤ r0 → PinsRooms p reported (Some r0) words words
   no_such_room reported r0 k = room_pins_nothing p reported (Some r0) words (λ c r hc. elim (cases_eq r0 r) [
     | inl e ↦ ap (λ b. b && pins_room p reported (Some r0) c r) (le-ltb r (length p.rooms) (omega arith))
-    | inr e ↦ either_way (nat_lt r (length p.rooms)) (pins_room p reported (Some r0) c r) (ap (λ b. is_pinned_by p (Course c) reported && b) (ne_eqb r0 r e) ∙ and-false (is_pinned_by p (Course c) reported))
+    | inr e ↦ and_right (nat_lt r (length p.rooms)) (pins_room p reported (Some r0) c r) (ap (λ b. is_pinned_by p (Course c) reported && b) (ne_eqb r0 r e) ∙ and-false (is_pinned_by p (Course c) reported))
   ])
 
   pub no_course_reported : (q : ℕ) (room : Option ℕ) → PinsRooms p (Curriculum q) room words words
   no_course_reported q room = room_pins_nothing p (Curriculum q) room words (λ c r hc. and-false (nat_lt r (length p.rooms)))
 
   pub no_course_there : (c0 : ℕ) (room : Option ℕ) → length p.courses ≤ c0 → PinsRooms p (Course c0) room words words
-  no_course_there c0 room k = room_pins_nothing p (Course c0) room words (λ c r hc. either_way (nat_lt r (length p.rooms)) (pins_room p (Course c0) room c r) (ap (λ b. b && gives room r) (ne_eqb c0 c (λ e. omega arith))))
+  no_course_there c0 room k = room_pins_nothing p (Course c0) room words (λ c r hc. and_right (nat_lt r (length p.rooms)) (pins_room p (Course c0) room c r) (ap (λ b. b && gives room r) (ne_eqb c0 c (λ e. omega arith))))

@@ -10,7 +10,8 @@ use Rattle.tt_facts_path.specs.declared.facts.Who.TheVariants.{Course}
 use Rattle.tt_facts_path.specs.declared.facts.Fact.{Fact}
 use Rattle.tt_facts_pins.specs.Sets.{has_at}
 use Rattle.tt_facts_pins.specs.Tables.{row_of, day_place, block_place, room_place, pins_period, pins_room, ShowsPins, PinsPeriods, PinsRooms, Pins}
-use Rattle.tt_facts_pins.proofs.Grid.{row_within, day_within, block_within, of_block, in_block}
+use Rattle.tt_facts_pins.proofs.Grid.{row_within, day_within, block_within}
+use Rattle.tt_lists.proofs.Grid.{block_back, number_back}
 
 -- another test, after a bound
 one_more : (x l a h b c d : Bool) → x ≡ (l && a) → (x || (h && (l && (b && c && d)))) ≡ (l && (a || ((h && b && c && d) || false)))
@@ -70,6 +71,6 @@ pub block_shown : (p : Problem) (facts : List Fact) (words : List ℕ) (c b : �
     → has_at words (block_place p c b) n ≡ (nat_lt (b * 64 + n) (length p.rooms) && pinned_room p facts c (b * 64 + n))
 block_shown p facts words c b s hc hb n h =
     let k = block_within p b hb in
-    ap (λ m. has_at words (block_place p c m) n) (sym (of_block b n h))
-    ∙ ap (λ m. has_at words (block_place p c ((b * 64 + n) / 64)) m) (sym (in_block b n h))
-    ∙ s.rooms c (b * 64 + n) hc (rw (of_block b n h) k)
+    ap (λ m. has_at words (block_place p c m) n) (sym (block_back b n h))
+    ∙ ap (λ m. has_at words (block_place p c ((b * 64 + n) / 64)) m) (sym (number_back b n h))
+    ∙ s.rooms c (b * 64 + n) hc (rw (block_back b n h) k)

@@ -4,8 +4,7 @@ use Rattle.std.proofs.Common.{◌≡◌, ℕ, ◌+◌, ◌-◌, ◌*◌, ◌<◌
 use Rattle.std.specs.Prelude.{Contains, ◌==◌, nat_lt, sum_by, count_by, flat_map}
 use Rattle.std.specs.List.{list_any, AllByRecursion}
 use Rattle.std.proofs.lemmas.Bool.{and_parts, and_from, both_ways, ltb-true}
-use Rattle.std.proofs.lemmas.List.Elements.{Contains-append_right}
-use Rattle.tt_lists.specs.Words.{range_below, count_pairs}
+use Rattle.tt_lists.specs.Words.{range_below}
 use Rattle.tt_lists.proofs.Sums.{one_if, cond-le, sum_by-le, sum_by-same, sum_by-of_flat_map, list_any-of_flat_map, each, each_weaker, once_at_most}
 use Rattle.tt_lists.proofs.Members.{at_member, any_member, member_from_any, none_counted}
 use Rattle.tt_lists.proofs.Numbers.{any_below, count_below}
@@ -26,16 +25,9 @@ use Rattle.tt_groups.specs.Plans.{Day, Week, week_of, lectures_on, is_taught, is
 use Rattle.tt_groups.proofs.Exact.{plan-is_cost}
 use Rattle.tt_groups.proofs.Lists.{sum_by-same_member, member_before}
 use Rattle.tt_groups.proofs.Projection.{course_own, member_own, standing}
+use Rattle.tt_lists.proofs.Counting.{pairs_none}
 
 -- ---- lists
-
--- no pairs are counted if no two elements are related
-no_pairs : {X : Type 0} (related : X → X → Bool) (xs : List X) → ((x y : X) → Contains xs x → Contains xs y → related x y ≡ true → ⊥) → count_pairs related xs ≡ 0
-no_pairs related [] h = refl
-no_pairs {X} related (x ∷ xs) h =
-    let later : (z : X) → Contains xs z → Contains (x ∷ xs) z = λ z m. Contains-append_right (x ∷ []) xs z m in
-    let first = none_counted (related x) xs (λ y m. h x y (0, omega arith, refl) (later y m)) in
-    omega (arith, first, no_pairs related xs (λ y z m n. h y z (later y m) (later z n)))
 
 -- the count of passing elements in a list of one element, or of none
 counted_if : {X : Type 0} (q : X → Bool) (b : Bool) (x : X) → count_by q (cond b (x ∷ []) []) ≡ one_if (b && q x)
@@ -185,7 +177,7 @@ module _ (p : Problem) (g : Group) (week : Week) (plan : IsPlan p g week) (there
   kept_before x m = is_built x (member_before (λ e. concerns p g e.course) built x m)
 
   no_collisions : conflicts_count p (entries_for p g built) ≡ 0
-  no_collisions = no_pairs (collide p) (entries_for p g built) (λ x y m n h.
+  no_collisions = pairs_none (collide p) (entries_for p g built) (λ x y m n h.
       let a = kept_before x m in
       let b = kept_before y n in
       let k = and_parts ((x.day == y.day) && (x.period == y.period)) (conflict p x.course y.course) h in

@@ -1,15 +1,15 @@
 -- The setup of a group: its courses, and the sizes of its digits.
-use Rattle.std.proofs.Common.{◌≡◌, ℕ, zero, suc, ◌+◌, ◌-◌, ◌<◌, ◌≤◌, Bool, true, false, ◌&&◌, ◌||◌, cond, List, [], ◌∷◌, ◌++◌, length, length-append, get_or, refl, sym, ap, ◌∙◌, subst, arith, eqb-true, inl, inr}
+use Rattle.std.proofs.Common.{◌≡◌, ℕ, zero, suc, ◌+◌, ◌-◌, ◌<◌, ◌≤◌, Bool, true, false, ◌&&◌, ◌||◌, List, [], ◌∷◌, ◌++◌, length, length-append, get_or, refl, sym, ap, ◌∙◌, subst, arith, eqb-true, inl, inr}
 use Rattle.std.specs.Prelude.{◌==◌, All, Contains, nat_lt, filter, count_by, slice_index}
 use Rattle.std.specs.List.{list_any}
 use Rattle.std.proofs.lemmas.Bool.{or_cases, both_ways, and_from, cases_lt, cases_Bool}
 use Rattle.std.proofs.Common.{lt-ltb}
 use Rattle.std.proofs.Math.Seq.{get_or-append_seam}
-use Rattle.std.proofs.lemmas.List.{append-nil, get_or_append_left}
-use Rattle.std.proofs.lemmas.List.Elements.{All-contains, Contains-get_or, filter-append}
+use Rattle.std.proofs.lemmas.List.{get_or_append_left}
+use Rattle.std.proofs.lemmas.List.Elements.{All-contains, Contains-get_or}
 use Rattle.std.proofs.lemmas.List.Sums.{length-filter}
 use Rattle.tt_lists.specs.Words.{has_number, range_below}
-use Rattle.tt_lists.proofs.Below.{range_below_more}
+use Rattle.tt_lists.proofs.Below.{filter_more-passing, filter_more-failing}
 use Rattle.tt_lists.proofs.Filters.{member_passes}
 use Rattle.tt_lists.proofs.Members.{member_from_any, number_below}
 use Rattle.tt_lists.proofs.Numbers.{any_below}
@@ -31,13 +31,6 @@ use Rattle.tt_groups_check.specs.Availability.{IsSameAvailability}
 use Rattle.tt_groups_check.specs.Limits.{IsGroupOf, courses_of, has_long_course, is_too_wide}
 
 -- ---- filters of numbers
-
-pub filter_more-passing : (q : ℕ → Bool) (i : ℕ) → q i ≡ true → filter q (range_below (i + 1)) ≡ filter q (range_below i) ++ i ∷ []
-filter_more-passing q i e = ap (filter q) (range_below_more i) ∙ filter-append q (range_below i) (i ∷ []) ∙ ap (λ b. filter q (range_below i) ++ cond b (i ∷ []) []) e
-
-pub filter_more-failing : (q : ℕ → Bool) (i : ℕ) → q i ≡ false → filter q (range_below (i + 1)) ≡ filter q (range_below i)
-filter_more-failing q i e =
-    ap (filter q) (range_below_more i) ∙ filter-append q (range_below i) (i ∷ []) ∙ ap (λ b. filter q (range_below i) ++ cond b (i ∷ []) []) e ∙ append-nil (filter q (range_below i))
 
 -- ---- the courses of a group
 

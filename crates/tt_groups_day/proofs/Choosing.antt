@@ -1,10 +1,9 @@
 -- Sets chosen course by course: the effect of another course on a set, and on a list that has each choice of the courses before it.
-use Rattle.std.proofs.Common.{◌≡◌, ℕ, zero, suc, ◌+◌, ◌*◌, ◌<◌, ◌≤◌, ◌≢◌, Bool, true, false, not, ◌&&◌, ◌||◌, List, [], ◌∷◌, map, length, max, replicate, bit_or, refl, sym, ap, ◌∙◌, arith, mul-le-mul_right, inl, inr, eq-eqb, get_or}
+use Rattle.std.proofs.Common.{◌≡◌, ℕ, zero, suc, ◌+◌, ◌*◌, ◌<◌, ◌≤◌, ◌≢◌, Bool, true, false, not, ◌&&◌, ◌||◌, List, [], ◌∷◌, map, length, max, replicate, refl, sym, ap, ◌∙◌, arith, mul-le-mul_right, inl, inr, eq-eqb, get_or}
 use Rattle.std.specs.Prelude.{◌⊎◌, All, Contains, filter, nat_lt, ◌==◌, slice_index}
 use Rattle.std.specs.List.{list_any}
-use Rattle.std.specs.Int.{bit_at}
-use Rattle.std.proofs.lemmas.Bool.{and_from, and_parts, both_ways, cases_eq, cases_lt, false_from_ne_true, lt-ltb, le-ltb, ltb-true}
-use Rattle.std.proofs.lemmas.Nat.Bits.{bit_at_or, bit_at-lt, bit_at-zero}
+use Rattle.std.proofs.lemmas.Bool.{and_from, and_parts, both_ways, cases_eq, cases_lt, false_from_ne_true, lt-ltb, le-ltb, ltb-true, and_right}
+use Rattle.std.proofs.lemmas.Nat.Bits.{bit_at-zero}
 use Rattle.std.proofs.lemmas.List.{get_or-set_same, get_or-set_other, length-set}
 use Rattle.std.proofs.lemmas.List.Elements.{All-append, All-from_recursion, All-map, All-contains, filter_passes, Contains-append_left, Contains-append_right, Contains-get_or}
 use Rattle.std.proofs.lemmas.List.Folds.{list_any-append}
@@ -25,6 +24,7 @@ use Rattle.tt_groups.proofs.Lists.{passing_member, member_before}
 use Rattle.tt_groups_day.specs.Choosing.{has_conflict, with_course, with_next, IsApart, IsChoice, HasChoices}
 use Rattle.tt_groups_day.specs.Sets.{has_course, IsWordOf, index_by, IsCourseSet, IsComplete}
 use Rattle.tt_groups_day.specs.declared.morning.CourseSet.{CourseSet}
+use Rattle.tt_bits.proofs.Growing.{has_bit-either}
 
 -- a mapped element is in the mapped list
 member_map : {X Y : Type 0} (h : X → Y) (ys : List X) (x : X) → Contains ys x → Contains (map h ys) (h x)
@@ -45,10 +45,6 @@ max_test zero b h k = ap (λ n. n == 1) (let e : max 0 b ≡ b = omega arith in 
 max_test (suc zero) b h k = ap (λ n. n == 1) (let e : max 1 b ≡ 1 = omega arith in e)
 max_test (suc (suc a)) b h k = absurd (omega arith)
 
--- a number is in a union if it is in one of the two sets
-has_bit-either : (a b r : ℕ) → has_bit (bit_or a b) r ≡ (has_bit a r || has_bit b r)
-has_bit-either a b r = ap (λ n. n == 1) (bit_at_or a b r) ∙ max_test (bit_at a r) (bit_at b r) (bit_at-lt a r) (bit_at-lt b r)
-
 -- -- another number
 
 any_last : (t : ℕ → Bool) (n : ℕ) → list_any t (range_below (n + 1)) ≡ (list_any t (range_below n) || t n)
@@ -67,10 +63,6 @@ one_at n e = eq-eqb n 1 e
 
 pub none_at : (n : ℕ) → n ≡ 0 → (n == 1) ≡ false
 none_at n e = ap (λ k. k == 1) e
-
-pub cut_right : (a b : Bool) → b ≡ false → (a && b) ≡ false
-cut_right true b e = e
-cut_right false b e = refl
 
 -- an upper bound of the index of courses, each of a weight up to m
 pub index-le : (weights amounts : List ℕ) (m n : ℕ) → ((i : ℕ) → slice_index weights i ≤ m) → ((i : ℕ) → slice_index amounts i ≤ 1) → index_by weights amounts n ≤ n * m
@@ -206,7 +198,7 @@ module _ (p : Problem) (g : Group) (cs weights : List ℕ) (n met : ℕ) (below 
               x.0,
               Contains-append_left xs (map wider (filter goes xs)) x.0 x.1,
               (λ i. elim (cases_eq i n) [
-                | inl s ↦ x.2 i ∙ ap (λ b. b && f i) (le-ltb i n (omega arith)) ∙ sym (cut_right (nat_lt i (n + 1)) (f i) (ap f s ∙ e))
+                | inl s ↦ x.2 i ∙ ap (λ b. b && f i) (le-ltb i n (omega arith)) ∙ sym (and_right (nat_lt i (n + 1)) (f i) (ap f s ∙ e))
                 | inr s ↦ x.2 i ∙ ap (λ b. b && f i) (one_less i s)
               ]),
             )
@@ -248,7 +240,7 @@ module _ (p : Problem) (g : Group) (cs weights : List ℕ) where
     long = refl;
     digits = λ i. omega (arith, none_there i);
     own = λ i h. none_there i;
-    met = λ k h. ap (λ n. n == 1) (bit_at-zero k) ∙ sym (cut_right (nat_lt k (length g.curricula)) false refl);
+    met = λ k h. ap (λ n. n == 1) (bit_at-zero k) ∙ sym (and_right (nat_lt k (length g.curricula)) false refl);
     placed = refl;
     apart = record { apart = λ i j hi hj. absurd (both_ways (has_course no_course_set i) (none_at (slice_index (replicate 16 0) i) (none_there i)) hi) };
   }

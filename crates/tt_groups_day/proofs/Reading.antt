@@ -1,16 +1,15 @@
 -- Entries read off a table that covers all days are a list of the day.
-use Rattle.std.proofs.Common.{◌≡◌, true, ℕ, zero, suc, ◌+◌, ◌-◌, ◌*◌, ◌/◌, ◌%◌, ◌<◌, ◌≤◌, List, [], ◌∷◌, ◌++◌, map, length, Some, refl, sym, ap, ◌∙◌, subst, arith, inl, inr, ◌||◌, eq-eqb}
-use Rattle.std.specs.Prelude.{All, ◌⊎◌, ◌==◌, Contains, sum_by, slice_get, slice_index}
-use Rattle.std.specs.List.{list_any}
+use Rattle.std.proofs.Common.{◌≡◌, ℕ, zero, suc, ◌+◌, ◌-◌, ◌*◌, ◌/◌, ◌%◌, ◌<◌, ◌≤◌, List, [], ◌∷◌, ◌++◌, map, length, Some, refl, sym, ap, ◌∙◌, subst, arith, inl, inr}
+use Rattle.std.specs.Prelude.{All, ◌⊎◌, Contains, sum_by, slice_get, slice_index}
 use Rattle.std.proofs.lemmas.Bool.{cases_lt}
 use Rattle.std.proofs.lemmas.List.{length-map}
 use Rattle.std.proofs.lemmas.List.Elements.{Contains-append_left, Contains-append_right}
 use Rattle.tt_lists.specs.Words.{range_below}
-use Rattle.tt_lists.proofs.Members.{any_member, member_cases}
+use Rattle.tt_lists.proofs.Members.{member_cases}
 use Rattle.tt_lists.proofs.Tests.{sum_by-same_below}
 use Rattle.tt_instance_data.specs.Problem.{Problem}
-use Rattle.tt_instance_data.specs.Courses.{lectures, in_curriculum}
-use Rattle.tt_groups.specs.Group.{Group, concerns}
+use Rattle.tt_instance_data.specs.Courses.{lectures}
+use Rattle.tt_groups.specs.Group.{Group}
 use Rattle.tt_groups.specs.Listed.{AreCourses, IsDayList, IsReachedDay}
 use Rattle.tt_groups.specs.Places.{weights_from, place_of, group_amounts}
 use Rattle.tt_groups.specs.Plans.{Day, lectures_on}
@@ -21,6 +20,7 @@ use Rattle.tt_groups_day.specs.Entries.{lecture_sizes, AreLectureDigits, HasLect
 use Rattle.tt_groups_day.specs.Found.{IsDayAt}
 use Rattle.tt_groups_day.specs.Sets.{Covers, Begins}
 use Rattle.tt_groups_day.specs.declared.morning.CourseSet.{CourseSet}
+use Rattle.tt_groups.proofs.Projection.{course_own}
 
 -- ---- amounts
 
@@ -108,11 +108,6 @@ weights-positive m (n ∷ ns) h some (suc j) l =
     above (suc a) zero x y = absurd (omega arith)
     above (suc a) (suc b) x y = omega arith
 
--- the group concerns its own courses
-own_concerned : (p : Problem) (g : Group) (c : ℕ) → Contains g.courses c → concerns p g c ≡ true
-own_concerned p g c m =
-    ap (λ b. b || list_any (λ q. in_curriculum p q c) g.curricula) (any_member (λ n. n == c) g.courses c m (eq-eqb c c refl))
-
 begins_none : (p : Problem) (cs : List ℕ) (g : Group) (day : Day) → Begins p g cs day []
 begins_none p cs g day = λ s x e. absurd (nothing s x e)
   where
@@ -127,7 +122,7 @@ day_list p g cs sizes weights table b d xs group are has covers = record {
       let s = sum_by (λ i. k (slice_index cs i) * slice_index weights i) (range_below (length cs)) in
       let low = covers.low day is fits (begins_none p cs g day) less in
       let x = has s (place_inside p g cs sizes weights table group are k fits) (omega (arith, low, less)) in
-      (x.0, x.1, x.2 k (digits_are p g cs sizes weights table group are k fits) (λ c m. group.all c (own_concerned p g c m)), omega (arith, x.3, low));
+      (x.0, x.1, x.2 k (digits_are p g cs sizes weights table group are k fits) (λ c m. group.all c (course_own p g c m)), omega (arith, x.3, low));
 }
 
 module _ (p : Problem) (cs sizes weights : List ℕ) (count : ℕ) (are : AreLectureDigits p cs sizes weights count) where
@@ -180,6 +175,6 @@ reached_list p g cs sizes weights table b d xs group are own days x m =
     record {
       day = at.day;
       is = at.is;
-      entry = w.3 k (subst (λ (s : ℕ). HasLectures cs sizes weights s k) at.placed digits) (λ c h. group.all c (own_concerned p g c h));
+      entry = w.3 k (subst (λ (s : ℕ). HasLectures cs sizes weights s k) at.placed digits) (λ c h. group.all c (course_own p g c h));
       paid = omega (arith, at.paid, w.4);
     }

@@ -1,9 +1,9 @@
 -- Before the first period of a day, nothing has been taught or paid.
-use Rattle.std.proofs.Common.{◌≡◌, ℕ, ◌*◌, ◌≤◌, Bool, true, false, ◌&&◌, List, [], ◌++◌, length, take, take_all, refl, sym, ap, ◌∙◌, arith, inl, inr}
+use Rattle.std.proofs.Common.{◌≡◌, ℕ, ◌*◌, Bool, true, false, ◌&&◌, List, [], length, refl, sym, ap, ◌∙◌, arith, inl, inr}
 use Rattle.std.specs.Prelude.{nat_lt, replicate, slice_index}
 use Rattle.std.proofs.Math.ListN.{get_or-eq_default}
 use Rattle.std.proofs.lemmas.Bool.{cases_lt}
-use Rattle.std.proofs.lemmas.List.{get_or-replicate, length-replicate, take-append-le}
+use Rattle.std.proofs.lemmas.List.{get_or-replicate, length-replicate}
 use Rattle.tt_lists.specs.Words.{range_below}
 use Rattle.tt_lists.proofs.Sums.{sum_by-same, sum_by-nothing}
 use Rattle.tt_bits.specs.Bits.{has_bit}
@@ -39,9 +39,3 @@ morning-start p g cs weights m counts place cost occupied pending = record {
   occupied = λ day begins. no_word m.occupied g.curricula occupied;
   pending = λ day begins. no_word m.pending g.curricula pending;
 }
-
--- the first elements are those written over the whole list
-pub take_written : (xs rest : List ℕ) (n : ℕ) → n ≡ length xs → take n (xs ++ rest) ≡ xs
-take_written xs rest n e =
-    let short : n ≤ length xs = omega arith in
-    take-append-le n xs rest short ∙ take_all n xs (omega arith)

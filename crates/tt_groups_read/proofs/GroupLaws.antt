@@ -4,8 +4,6 @@ use Rattle.std.specs.Prelude.{map}
 use Rattle.tt_text.specs.Tokens.{Placed}
 use Rattle.tt_text.specs.Texts.{is_text}
 use Rattle.tt_text.specs.Numbers.{number_of}
-use Rattle.tt_text.specs.declared.feed.FeedFault.{FeedFault}
-use Rattle.tt_text.specs.declared.numbers.NumberFault.{NumberFault}
 use Rattle.tt_text.specs.Pieces.{Piece, Text, Number, Index}
 use Rattle.tt_text.specs.Feeds.{Stream, stopped}
 use Rattle.tt_text.specs.Reading.{◌>>=◌}
@@ -23,7 +21,7 @@ use Rattle.tt_proof_read.specs.declared.format.TheConstants.{MAX_POINTS}
 use Rattle.tt_proof_read.specs.declared.sizes.Sizes.{Sizes}
 use Rattle.tt_proof_read.proofs.Small.{AreSmall}
 use Rattle.tt_proof_read.proofs.Taking.{Took, took_then, took_split, took_piece, took_same, first_of_pieces, one_took, one_reads}
-use Rattle.tt_proof_read.proofs.TokenLaws.{word_took, word_reads}
+use Rattle.tt_proof_read.proofs.TokenLaws.{word_took, word_reads, priced_ok}
 use Rattle.tt_groups_read.specs.Reading.{points_at, bound_at, opening_of, opening_at, opened, header_at, curricula_form, courses_form, list_at, claim_at, group_word_of, nothing_at, group_then, group_at}
 use Rattle.tt_groups_read.specs.Spelling.{claim_pieces, header_pieces, IsClaim}
 use Rattle.tt_groups_read.specs.declared.claim.GroupClaim.{GroupClaim}
@@ -33,13 +31,9 @@ use Rattle.tt_groups_read.specs.declared.groups.GroupWord.TheVariants as group_w
 use Rattle.tt_groups_read.specs.declared.header.Opening.{Opening}
 use Rattle.tt_groups_read.specs.declared.header.Opening.TheVariants as opening
 use Rattle.tt_groups_read.proofs.ListLaws.{list_pieces, list_took, list_reads}
+use Rattle.tt_proof_read.proofs.ProofLaws.{no_more_took}
 
 -- ---- points
-
--- points that were read are a number
-priced_ok : (at : ℕ) (r : Result ℕ NumberFault) (n : ℕ) → priced_as at r ≡ Ok n → r ≡ Ok n
-priced_ok at (Ok m) n e = cc
-priced_ok at (Err f) n e = absurd cc
 
 -- points that were read are spelled
 pub points_took : (s : Stream) (x : ℕ × Stream) → points_at s ≡ Ok x → Took s (Number x.0 ∷ []) x.1 × (x.0 ≤ MAX_POINTS)
@@ -119,12 +113,6 @@ unfolding opening_at
 header_reads n s after within took =
     let f = first_of_pieces (Text (codes "CTTG")) (fixed word.One ∷ fixed word.Bound ∷ Number n ∷ []) s after took in
     rw (f.is, is_text_of f.token.text (codes "CTTG") f.piece, bound_reads n f.mid after within f.rest) refl
-
--- if no token is refused, there is none
-no_more_took : (ts : List Placed) (stop : Result ℕ FeedFault) (x : Stream) → no_more ts stop ≡ Ok x → (ts ≡ []) × ((m : ℕ) × (stop ≡ Ok m))
-no_more_took [] (Ok m) x e = (refl, (m, refl))
-no_more_took [] (Err f) x e = absurd cc
-no_more_took (t ∷ ts) stop x e = absurd cc
 
 -- ---- a claim
 

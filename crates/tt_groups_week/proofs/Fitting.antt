@@ -1,12 +1,10 @@
 -- If the amounts of a day fit, its lectures add their index to the place, and the courses' digits pay nothing.
-use Rattle.std.proofs.Common.{◌≡◌, ℕ, ◌+◌, ◌*◌, ◌<◌, ◌≤◌, Bool, true, false, ◌&&◌, List, [], ◌∷◌, set, below_more, refl, sym, subst, length, ◌∙◌, ap, arith, inl, inr, min, ◌-◌}
+use Rattle.std.proofs.Common.{◌≡◌, ℕ, ◌+◌, ◌*◌, ◌<◌, ◌≤◌, Bool, true, List, set, below_more, sym, subst, length, ◌∙◌, ap, arith, inl, inr, min, ◌-◌}
 use Rattle.std.specs.Prelude.{sum_by, slice_index}
 use Rattle.std.specs.List.{list_all}
 use Rattle.std.proofs.lemmas.Bool.{cases_lt, le-leb, leb-true}
 use Rattle.tt_lists.specs.Words.{range_below}
-use Rattle.std.proofs.lemmas.List.Folds.{list_all-append}
 use Rattle.std.proofs.lemmas.List.{get_or-set_same, get_or-set_other}
-use Rattle.tt_lists.proofs.Below.{range_below_more}
 use Rattle.tt_lists.proofs.Range.{all_below, at_below}
 use Rattle.tt_lists.proofs.Sums.{sum_by-plus, sum_by-nothing}
 use Rattle.tt_lists.proofs.Tests.{sum_by-same_below}
@@ -16,14 +14,6 @@ use Rattle.tt_groups_week.specs.Digits.{digit}
 use Rattle.tt_groups_week.specs.Steps.{raised, has_room, moved, paid_at}
 use Rattle.tt_groups_week.specs.declared.state.State.{State}
 use Rattle.tt_groups_week.proofs.Moving.{room_of_further, room_of_fitting, fitting_of_room}
-
-and_true : (b : Bool) → (b && true) ≡ b
-and_true true = refl
-and_true false = refl
-
--- another number
-pub list_all-more : (p : ℕ → Bool) (i : ℕ) → list_all p (range_below (i + 1)) ≡ (list_all p (range_below i) && p i)
-list_all-more p i = ap (list_all p) (range_below_more i) ∙ list_all-append p (range_below i) (i ∷ []) ∙ ap (λ b. list_all p (range_below i) && b) (and_true (p i))
 
 -- a property of each element before j and of a new element at j holds for each element up to j
 pub set-more : (P : ℕ → ℕ → Type 0) (xs : List ℕ) (j v : ℕ) → j < length xs → ((k : ℕ) → k < j → P k (slice_index xs k)) → P j v → (k : ℕ) → k < j + 1 → P k (slice_index (set xs j v) k)

@@ -1,9 +1,9 @@
 -- The fold over the days of a group.
-use Rattle.std.proofs.Common.{◌≡◌, ℕ, ◌+◌, ◌<◌, ◌≤◌, true, inl, inr, List, ◌++◌, length, take, take_all, get_or, set, replicate, get_or-set_other, Some, ap, ◌∙◌, sym, subst, arith, Vec}
+use Rattle.std.proofs.Common.{◌≡◌, ℕ, ◌+◌, ◌<◌, ◌≤◌, true, inl, inr, List, length, get_or, set, replicate, get_or-set_other, Some, ap, ◌∙◌, sym, subst, arith, Vec}
 use Rattle.std.specs.Global.{Global}
 use Rattle.std.specs.Prelude.{All, Contains, slice_index}
 use Rattle.std.proofs.lemmas.Bool.{cases_lt}
-use Rattle.std.proofs.lemmas.List.{take-append-le, get_or-replicate}
+use Rattle.std.proofs.lemmas.List.{get_or-replicate}
 use Rattle.tt_instance_data.specs.Problem.{Problem}
 use Rattle.tt_groups.specs.Group.{Group, IsGroupBound}
 use Rattle.tt_groups_week.specs.WeekLists.{is_full, IsWeekList, IsHighList, Suits, AreMovesOn, AreReached}
@@ -14,12 +14,6 @@ use Rattle.tt_groups.specs.Plans.{Week, IsPlan, base_cost, spent}
 use Rattle.tt_groups_week.specs.Steps.{step_of, IsMadeFrom}
 use Rattle.tt_groups_week.proofs.Listing.{list_start, list_next, list_end}
 use Rattle.tt_groups_week.proofs.Reaching.{IsReachedPlace, reached_next, reached_plan}
-
--- the first elements are those written over the whole list
-pub take_written : (xs rest : List ℕ) (n : ℕ) → n ≡ length xs → take n (xs ++ rest) ≡ xs
-take_written xs rest n e =
-    let short : n ≤ length xs = omega arith in
-    take-append-le n xs rest short ∙ take_all n xs (omega arith)
 
 module _ (p : Problem) (g : Group) (cs sizes weights : List ℕ) (courses b : ℕ) (lists : List (Vec Move Global)) (of_day : List ℕ) (s : Suits p g cs sizes weights courses b lists of_day) where
   -- the table has at least as many places as the sizes give

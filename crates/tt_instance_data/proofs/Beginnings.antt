@@ -94,17 +94,17 @@ begins_shared at bytes other h = share at (tokens_of bytes) (tokens_of other) h.
 -- -- what a fault at a token says
 
 -- a later token begins at the offset
-any_later : (at : ℕ) (t : Placed) (ts : List Placed) → Any (λ x. x.at ≡ at) ts → Any (λ x. x.at ≡ at) (t ∷ ts)
+pub any_later : (at : ℕ) (t : Placed) (ts : List Placed) → Any (λ x. x.at ≡ at) ts → Any (λ x. x.at ≡ at) (t ∷ ts)
 any_later at t ts h = (suc h.0, h.1, omega (arith, h.2), h.3, h.4)
 
 -- a token in front of the others: it begins at the offset, or the claim for the others holds
-stands_step : (at : ℕ) (t : Placed) (ts : List Placed) → (t.at ≡ at) ⊎ (t.at ≢ at) → NoneAt at ts ⊎ Any (λ x. x.at ≡ at) ts → NoneAt at (t ∷ ts) ⊎ Any (λ x. x.at ≡ at) (t ∷ ts)
+pub stands_step : (at : ℕ) (t : Placed) (ts : List Placed) → (t.at ≡ at) ⊎ (t.at ≢ at) → NoneAt at ts ⊎ Any (λ x. x.at ≡ at) ts → NoneAt at (t ∷ ts) ⊎ Any (λ x. x.at ≡ at) (t ∷ ts)
 stands_step at t ts (inl e) rest = inr (0, t, omega arith, refl, e)
 stands_step at t ts (inr n) (inl none) = inl (n, none)
 stands_step at t ts (inr n) (inr h) = inr (any_later at t ts h)
 
 -- either no token begins at the offset or some token does
-stands_or_none : (at : ℕ) (ts : List Placed) → NoneAt at ts ⊎ Any (λ t. t.at ≡ at) ts
+pub stands_or_none : (at : ℕ) (ts : List Placed) → NoneAt at ts ⊎ Any (λ t. t.at ≡ at) ts
 stands_or_none at [] = inl tt
 stands_or_none at (t ∷ ts) = stands_step at t ts (cases_eq t.at at) (stands_or_none at ts)
 

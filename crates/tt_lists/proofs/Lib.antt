@@ -1,5 +1,6 @@
 pub mod All
 pub mod Apart
+pub mod Beginnings
 pub mod Below
 pub mod Counting
 pub mod Cuts
@@ -7,6 +8,7 @@ pub mod Distinct
 pub mod Filters
 pub mod Finding
 pub mod Given
+pub mod Grid
 pub mod Growing
 pub mod Members
 pub mod Numbers

@@ -26,3 +26,15 @@ pub taken_twice : (b g h : Bool) → ((b && not g) && not h) ≡ (b && not (g ||
 taken_twice true true h = refl
 taken_twice true false h = refl
 taken_twice false g h = refl
+
+-- one condition of two that both have
+pub and-over : (a b z : Bool) → ((a && z) || (b && z)) ≡ ((a || b) && z)
+and-over true true true = refl
+and-over true true false = refl
+and-over true false true = refl
+and-over true false false = refl
+and-over false b z = refl
+
+pub not-not : (b : Bool) → not (not b) ≡ b
+not-not true = refl
+not-not false = refl

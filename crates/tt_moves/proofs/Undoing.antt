@@ -22,7 +22,7 @@ set_again t i j y z apart =
     ap (λ l. set l j (entry_at t j)) (set_comm (set t i y) j i z (entry_at t i) (λ e. apart (sym e)) ∙ ap (λ l. set l j z) (set-set t i y (entry_at t i) ∙ set-get_or t i no_entry))
     ∙ set-set t j z (entry_at t j) ∙ set-get_or t j no_entry
 
-with_itself : (t : List Cell) (i : ℕ) → stepped t (Swap i i) ≡ t
+pub with_itself : (t : List Cell) (i : ℕ) → stepped t (Swap i i) ≡ t
 with_itself t i = set-set t i (entry_at t i) (entry_at t i) ∙ set-get_or t i no_entry
 
 swapped_back : (t : List Cell) (i j : ℕ) → i < length t → j < length t → stepped (stepped t (Swap i j)) (Swap i j) ≡ t

@@ -20,6 +20,7 @@ use Rattle.tt_lists.proofs.Members.{member_from_any}
 use Rattle.tt_instance_data.proofs.Exclusion.{eqb-turn}
 use Rattle.tt_rules.proofs.Feasible.{once_at, one_in, no_collision}
 use Rattle.tt_moves_chain.specs.Chains.{exclude}
+use Rattle.tt_instance_data.proofs.Cells.{at_itself}
 
 abbrev pub same_period : Cell → Cell → Bool
 same_period x y = (x.day == y.day) && (x.period == y.period)
@@ -70,9 +71,6 @@ module _ {X : Type 0} where
       suc_below : (i n : ℕ) → i < n → suc i < suc n
       suc_below i n h = omega arith
 
-at_own : (x : Cell) → is_at (slot_of x) x ≡ true
-at_own x = and_from (x.day == x.day) (x.period == x.period) (eq-eqb x.day x.day refl) (eq-eqb x.period x.period refl)
-
 at_other : (x y : Cell) → same_period x y ≡ true → is_at (slot_of x) y ≡ true
 at_other x y e = let h = and_parts (x.day == y.day) (x.period == y.period) e in and_from (y.day == x.day) (y.period == x.period) (eqb-turn x.day y.day h.0) (eqb-turn x.period y.period h.1)
 
@@ -85,11 +83,11 @@ free_from_feasible p t ok i j d h k ne same e =
     elim (or_cases ((x.room == y.room) || (x.course == y.course)) (conflict p x.course y.course) e) [
       | inl g ↦ elim (or_cases (x.room == y.room) (x.course == y.course) g) [
         | inl m ↦
-            let two = two_pass (λ z. is_in x.room z && is_at (slot_of x) z) t i j d h k ne (and_from (is_in x.room x) (is_at (slot_of x) x) (eq-eqb x.room x.room refl) (at_own x)) (and_from (is_in x.room y) (is_at (slot_of x) y) (eqb-turn x.room y.room m) (at_other x y same)) in
+            let two = two_pass (λ z. is_in x.room z && is_at (slot_of x) z) t i j d h k ne (and_from (is_in x.room x) (is_at (slot_of x) x) (eq-eqb x.room x.room refl) (at_itself x)) (and_from (is_in x.room y) (is_at (slot_of x) y) (eqb-turn x.room y.room m) (at_other x y same)) in
             let one = one_in p t ok x r in
             absurd (omega arith)
         | inr m ↦
-            let two = two_pass (λ z. is_of x.course z && is_at (slot_of x) z) t i j d h k ne (and_from (is_of x.course x) (is_at (slot_of x) x) (eq-eqb x.course x.course refl) (at_own x)) (and_from (is_of x.course y) (is_at (slot_of x) y) (eqb-turn x.course y.course m) (at_other x y same)) in
+            let two = two_pass (λ z. is_of x.course z && is_at (slot_of x) z) t i j d h k ne (and_from (is_of x.course x) (is_at (slot_of x) x) (eq-eqb x.course x.course refl) (at_itself x)) (and_from (is_of x.course y) (is_at (slot_of x) y) (eqb-turn x.course y.course m) (at_other x y same)) in
             let one = once_at p t ok x.course x r in
             absurd (omega arith)
       ]
@@ -139,7 +137,7 @@ module _ (p : Problem) (t : List Cell) (ok : IsTimetable p t) (free : IsFree p t
       (recursion_from_All (λ e. one_if (is_of c e) ≤ sum_by (λ s. one_if (is_of c e && is_at s e)) (all_slots p)) t (λ k d h.
       let e = get_or t k d in
       let r = ok k d h in
-      once_at_least (is_of c e) (λ s. is_at s e) 1 (all_slots p) (any_slot p (λ s. is_at s e) e.day e.period r.day r.period (at_own e)))) in
+      once_at_least (is_of c e) (λ s. is_at s e) 1 (all_slots p) (any_slot p (λ s. is_at s e) e.day e.period r.day r.period (at_itself e)))) in
       let at_most = sum_by-le many (λ s. one_if (list_any (λ e. is_of c e && is_at s e) t)) (all_slots p) (each (λ s. many s ≤ one_if (list_any (λ e. is_of c e && is_at s e) t)) (λ s. count_if (λ e. is_of c e && is_at s e) (once c s)) (all_slots p)) in
       omega arith
 

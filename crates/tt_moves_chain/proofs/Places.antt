@@ -1,11 +1,10 @@
 -- Marked places, as a list of numbers.
-use Rattle.std.proofs.Common.{◌≡◌, ℕ, zero, suc, ◌+◌, ◌<◌, ◌≤◌, Bool, true, false, cond, ◌&&◌, ◌||◌, List, [], ◌∷◌, ◌++◌, length, get_or, refl, sym, ap, ◌∙◌, subst, arith, inl, inr, eq-eqb, eqb-true, add-zero, append-nil}
-use Rattle.std.specs.Prelude.{◌==◌, nat_lt, filter, All, Contains}
-use Rattle.std.specs.List.{list_any, range_with_len}
+use Rattle.std.proofs.Common.{◌≡◌, ℕ, ◌+◌, ◌<◌, Bool, true, false, ◌&&◌, ◌||◌, List, length, get_or, refl, sym, ap, ◌∙◌, subst, arith, inl, inr, eq-eqb, eqb-true}
+use Rattle.std.specs.Prelude.{◌==◌, nat_lt, filter, All}
 use Rattle.std.specs.List.Sorted.{IsStrictlyIncreasing}
 use Rattle.std.proofs.lemmas.Bool.{cases_lt, cases_Bool, lt-ltb, and_parts, and_from, and_left, or_cases, or_left, or_right, both_ways}
 use Rattle.std.proofs.lemmas.List.{get_or_past, get_or_default}
-use Rattle.std.proofs.lemmas.List.Elements.{filter-append, All-filter}
+use Rattle.std.proofs.lemmas.List.Elements.{All-filter}
 use Rattle.std.proofs.lemmas.List.Folds.{list_any_at}
 use Rattle.std.proofs.lemmas.List.FromFn.{length-range_with_len, get_or-range_with_len}
 use Rattle.std.proofs.lemmas.List.Kept.{IsStrictlyIncreasing-filter, AllPairs-from_increasing}
@@ -20,32 +19,8 @@ use Rattle.tt_instance_data.specs.declared.cell.Cell.{Cell}
 use Rattle.tt_instance_data.specs.declared.cell.Slot.{Slot}
 use Rattle.tt_occupancy.specs.Filled.{no_entry, entry_at}
 use Rattle.tt_moves_chain.specs.Answers.{is_shut, IsFirstShut}
-use Rattle.tt_moves_chain.specs.Chains.{exclude, linked, other, IsClosed, IsChain, IsOpen}
+use Rattle.tt_moves_chain.specs.Chains.{exclude, other, IsClosed, IsChain, IsOpen}
 use Rattle.tt_moves_chain.specs.Marks.{marked, IsSpread}
-
--- -- another number
-
-range_next : (a n : ℕ) → range_with_len a (suc n) ≡ range_with_len a n ++ (a + n) ∷ []
-range_next a zero = ap (λ k. k ∷ []) (sym (add-zero a))
-range_next a (suc n) =
-    let e : (a + 1) + n ≡ a + suc n = omega arith in
-    ap (λ l. a ∷ l) (range_next (a + 1) n) ∙ ap (λ k. a ∷ (range_with_len (a + 1) n ++ k ∷ [])) e
-
-numbers_next : (i : ℕ) → range_below (i + 1) ≡ range_below i ++ i ∷ []
-numbers_next i =
-    let e : i + 1 ≡ suc i = omega arith in
-    let z : 0 + i ≡ i = omega arith in
-    ap range_below e ∙ range_next 0 i ∙ ap (λ k. range_below i ++ k ∷ []) z
-
-module _ (q : ℕ → Bool) (i : ℕ) where
-  pub filter_next : q i ≡ true → filter q (range_below (i + 1)) ≡ filter q (range_below i) ++ i ∷ []
-  filter_next e =
-      ap (filter q) (numbers_next i) ∙ filter-append q (range_below i) (i ∷ []) ∙ ap (λ b. filter q (range_below i) ++ cond b (i ∷ []) []) e
-
-  pub filter_skip : q i ≡ false → filter q (range_below (i + 1)) ≡ filter q (range_below i)
-  filter_skip e =
-      ap (filter q) (numbers_next i) ∙ filter-append q (range_below i) (i ∷ [])
-      ∙ ap (λ b. filter q (range_below i) ++ cond b (i ∷ []) []) e ∙ append-nil (filter q (range_below i))
 
 -- -- the marked places
 

@@ -1,22 +1,20 @@
 -- If no Move and no Swap of an entry with one after it lowers the pair, no step does.
-use Rattle.std.proofs.Common.{◌≡◌, ℕ, ◌<◌, ◌≢◌, List, ◌∙◌, subst, arith, inl, inr}
+use Rattle.std.proofs.Common.{◌≡◌, ℕ, ◌<◌, ◌≢◌, List, subst, arith, inl, inr}
 use Rattle.std.proofs.lemmas.Bool.{cases_lt, cases_eq}
-use Rattle.std.proofs.lemmas.List.{set_comm, set-set, set-get_or}
+use Rattle.std.proofs.lemmas.List.{set_comm}
 use Rattle.tt_instance_data.specs.declared.cell.Cell.{Cell}
 use Rattle.tt_occupancy.specs.Filled.{Filled}
 use Rattle.tt_moves.specs.Changes.{IsBelow}
-use Rattle.tt_moves.specs.Steps.{no_entry, entry_at, in_place_of, stepped}
+use Rattle.tt_moves.specs.Steps.{entry_at, in_place_of, stepped}
 use Rattle.tt_moves.specs.declared.step.Step.TheVariants.{Move, Swap}
 use Rattle.tt_moves_descend.specs.Descent.{IsSettled}
 use Rattle.tt_moves_descend.specs.Scan.{NoMove, NoSwap}
 use Rattle.tt_moves_descend.proofs.Descents.{IsBelow-irrefl}
+use Rattle.tt_moves.proofs.Undoing.{with_itself}
 
 swap_turned : (t : List Cell) (i j : ℕ) → i ≢ j → stepped t (Swap i j) ≡ stepped t (Swap j i)
 swap_turned t i j apart =
     set_comm t i j (in_place_of (entry_at t i) (entry_at t j)) (in_place_of (entry_at t j) (entry_at t i)) apart
-
-swap_itself : (t : List Cell) (i : ℕ) → stepped t (Swap i i) ≡ t
-swap_itself t i = set-set t i (entry_at t i) (entry_at t i) ∙ set-get_or t i no_entry
 
 pub settled_where_none : (o : Filled) → NoMove o → NoSwap o → IsSettled o.problem o.entries
 settled_where_none o moves swaps (Move e r d s) can low = moves e can.0 r can.1 d can.2 s can.3 low
@@ -25,7 +23,7 @@ settled_where_none o moves swaps (Swap i j) can low = elim (cases_lt i j) [
   | inr after ↦
       elim (cases_eq i j) [
         | inl same ↦
-            let is = subst (λ n. stepped o.entries (Swap i n) ≡ o.entries) same (swap_itself o.entries i) in
+            let is = subst (λ n. stepped o.entries (Swap i n) ≡ o.entries) same (with_itself o.entries i) in
             IsBelow-irrefl o.problem o.entries (subst (λ z. IsBelow o.problem z o.entries) is low)
         | inr apart ↦
             let behind : j < i = omega arith in

@@ -13,7 +13,7 @@ use Rattle.tt_table.specs.Table.{IsTimetable}
 use Rattle.tt_rules.specs.Soft.{is_isolated}
 use Rattle.tt_occupancy_tallies.specs.Neighbours.{entries_at, has_entry_at, has_neighbour, joined_before, joined_after}
 use Rattle.tt_occupancy_tallies.specs.Weight.{alone, joined, all_joined}
-use Rattle.tt_occupancy_tallies.proofs.Chosen.{sum_by-filter, any_counted}
+use Rattle.tt_occupancy_tallies.proofs.Chosen.{any_counted}
 use Rattle.tt_occupancy_tallies.proofs.Neighbours.{isolated_by_periods, joined_by_periods}
 use Rattle.tt_occupancy_tallies.specs.Counts.{in_period}
 use Rattle.tt_occupancy_tallies.specs.Tallies.{IsTally, of_curriculum}
@@ -21,6 +21,7 @@ use Rattle.tt_occupancy_tallies.specs.declared.week.Week.{Week}
 use Rattle.tt_occupancy.specs.NeighbourCounts.{AreNeighbourCounts, IsIsolationChange}
 use Rattle.tt_occupancy.specs.declared.neighbour_counts.NeighbourCounts.{NeighbourCounts}
 use Rattle.tt_occupancy.specs.declared.isolation_change.IsolationChange.{IsolationChange}
+use Rattle.tt_lists.proofs.Filters.{sum_by-of_filter}
 
 -- no entry in range is past the day's end
 pub none_taken : (p : Problem) (u : List Cell) (q d s : ℕ) → IsTimetable p u → p.periods ≤ s → 0 ≡ entries_at p u q d s
@@ -101,7 +102,7 @@ module _ (p : Problem) (u : List Cell) (x : Cell) (rows : List ℕ) (are : rows 
       let member = λ (q : ℕ). in_curriculum p q x.course in
       let f = λ (q : ℕ). cond (not (has_neighbour p u q x.day x.period)) 1 0 in
       isolation_change.alone
-      ∙ ap (sum_by f) are ∙ sum_by-filter f member (all_curricula p)
+      ∙ ap (sum_by f) are ∙ sum_by-of_filter f member (all_curricula p)
       ∙ sum_by-same (λ q. cond (member q) (f q) 0) (λ q. cond (member q) (cond (is_isolated p u q x) 1 0) 0) (all_curricula p)
       (λ q. ap (λ b. cond (member q) (cond b 1 0) 0) (sym (isolated_by_periods p u q x)))
 
@@ -110,6 +111,6 @@ module _ (p : Problem) (u : List Cell) (x : Cell) (rows : List ℕ) (are : rows 
       let member = λ (q : ℕ). in_curriculum p q x.course in
       let f = λ (q : ℕ). joined_before p u q x.day x.period + joined_after p u q x.day x.period in
       isolation_change.joined
-      ∙ ap (sum_by f) are ∙ sum_by-filter f member (all_curricula p)
+      ∙ ap (sum_by f) are ∙ sum_by-of_filter f member (all_curricula p)
       ∙ sum_by-same (λ q. cond (member q) (f q) 0) (λ q. cond (member q) (joined p u x q) 0) (all_curricula p)
       (λ q. ap (λ n. cond (member q) n 0) (sym (joined_by_periods p u x q)))

@@ -11,10 +11,10 @@ use Rattle.tt_instance_data.specs.declared.cell.Slot.{Slot}
 use Rattle.tt_instance_data.specs.declared.cell.Cell.{Cell}
 use Rattle.tt_rules.specs.Hard.{entries_of, periods_of, lectures_off, lectures_count, conflicts_count, availability_count, entries_in, occupancy_count}
 use Rattle.tt_rules.specs.Soft.{capacity_count, days_of, days_cost, days_count, stability_cost, stability_count}
-use Rattle.tt_lists.proofs.Sums.{one_if, one_if_true, one_if_false, count_by-cons, sum_by-same, sum_by-le, count_if_any, any_if_count, one_if_any, spread_down, once_at_most, each}
-use Rattle.tt_instance_data.proofs.Places.{count_slots}
+use Rattle.tt_lists.proofs.Sums.{one_if, one_if_true, one_if_false, count_by-cons, sum_by-same, count_if_any, any_if_count}
 use Rattle.tt_occupancy_tallies.specs.Weight.{repeats, shares, barred, against}
 use Rattle.tt_occupancy_tallies.proofs.Differ.{sum_by-differ, differ_below, once_below, once_slot}
+use Rattle.tt_rules.proofs.Feasible.{periods-le_entries}
 
 -- -- counts of places that have an entry
 
@@ -39,16 +39,6 @@ places_kept at c u x places other =
     (λ s. ap one_if (ap (λ b. b || list_any (λ e. is_of c e && at s e) u) (and_left (is_of c x) (at s x) other)))
 
 -- ---- lectures
-
--- no course is taught in more periods than it has entries
-pub periods-le-entries : (p : Problem) (t : List Cell) (c : ℕ) → periods_of p t c ≤ entries_of t c
-periods-le-entries p t c =
-    let some_at = λ (s : Slot). one_if (list_any (λ e. is_of c e && is_at s e) t) in
-    let all_at = λ (s : Slot). count_by (λ e. is_of c e && is_at s e) t in
-    let a = sum_by-le some_at all_at (all_slots p) (each (λ s. some_at s ≤ all_at s) (λ s. one_if_any (λ e. is_of c e && is_at s e) t) (all_slots p)) in
-    let spread = spread_down (λ e. one_if (is_of c e)) (λ s e. one_if (is_of c e && is_at s e)) t (all_slots p)
-    (each (λ e. sum_by (λ s. one_if (is_of c e && is_at s e)) (all_slots p) ≤ one_if (is_of c e)) (λ e. once_at_most (is_of c e) (λ s. is_at s e) 1 (all_slots p) (count_slots p e)) t) in
-    omega (arith, a, spread)
 
 -- -- another entry
 
@@ -82,7 +72,7 @@ module _ (p : Problem) (u : List Cell) (x : Cell) (ok : InRange p x) where
   lectures_off_added : lectures_off p (x ∷ u) x.course ≡ (max (lectures p x.course) (entries_of u x.course + 1) - min (lectures p x.course) (entries_of u x.course + 1)) + (entries_of u x.course - periods_of p u x.course) + one_if (repeats u x)
   lectures_off_added =
       let k = periods_added in
-      let at_most = periods-le-entries p u x.course in
+      let at_most = periods-le_entries p u x.course in
       let c = x.course in
       ap (λ i. (max (lectures p c) i - min (lectures p c) i) + (i - periods_of p (x ∷ u) c)) entries_added
       ∙ omega (arith, k, at_most, by_test (repeats u x))

@@ -4,25 +4,19 @@ use Rattle.std.specs.Prelude.{◌==◌, ◌⊎◌, count_by, filter, All}
 use Rattle.std.proofs.lemmas.Bool.{cases_eq, and_from}
 use Rattle.std.proofs.lemmas.List.Elements.{All-filter, All-weaker}
 use Rattle.std.proofs.lemmas.List.Sums.{length-filter, count_by-le-length}
-use Rattle.std.proofs.lemmas.List.FromFn.{length-range_with_len, get_or-range_with_len}
+use Rattle.std.proofs.lemmas.List.FromFn.{length-range_with_len}
 use Rattle.tt_lists.specs.Words.{range_below}
 use Rattle.tt_lists.proofs.Sums.{one_if, one_if-le, sum_by-same, sum_by-at_places, count_by-cons}
 use Rattle.tt_instance_data.specs.Problem.{Problem}
 use Rattle.tt_instance_data.specs.Cells.{InRange, slot, is_at}
 use Rattle.tt_instance_data.specs.declared.cell.Cell.{Cell}
 use Rattle.tt_occupancy_tallies.proofs.Differ.{once_below}
-use Rattle.tt_occupancy_tallies.proofs.Chosen.{sum_by-filter}
 use Rattle.tt_occupancy_tallies.specs.Counts.{in_period}
 use Rattle.tt_occupancy_tallies.specs.Tallies.{IsTally}
 use Rattle.tt_occupancy_tallies.specs.declared.week.Week.{Week}
 use Rattle.tt_occupancy_tallies.proofs.Tallies.{tally_room}
-
--- each number below n is below n
-each_below : (n : ℕ) → All (λ r. r < n) (range_below n)
-each_below n k d h =
-    let l : k < n = subst (λ z. k < z) (length-range_with_len 0 n) h in
-    let e = get_or-range_with_len 0 n k d l in
-    omega arith
+use Rattle.tt_lists.proofs.Filters.{sum_by-of_filter}
+use Rattle.tt_lists.proofs.Below.{each_below}
 
 -- a row's term in a period, as the conjunction of both tests
 pub row_and_period : (a b : Bool) → cond b (one_if a) 0 ≡ one_if (a && b)
@@ -41,7 +35,7 @@ module _ (passes : ℕ → Bool) (n : ℕ) (rows : List ℕ) (are : rows ≡ fil
   passing_once i h =
       let all = range_below n in
       let o = ap (count_by (λ r. r == i)) are in
-      let a = sum_by-filter (λ r. one_if (r == i)) passes all in
+      let a = sum_by-of_filter (λ r. one_if (r == i)) passes all in
       let b = sum_by-same (λ r. cond (passes r) (one_if (r == i)) 0) (λ r. cond (i == r) (one_if (passes i)) 0) all (λ r. at r (cases_eq i r)) in
       let c = sum_by-at_places (λ r. i == r) (one_if (passes i)) all in
       let k = ap (λ z. z * one_if (passes i)) (once_below i n h) in

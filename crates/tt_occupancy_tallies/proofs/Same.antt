@@ -1,8 +1,7 @@
 -- Timetables with the same entries, in any order, have the same score.
-use Rattle.std.proofs.Common.{◌≡◌, ℕ, ◌+◌, ◌-◌, ◌*◌, Bool, true, not, ◌&&◌, List, sym, ap, ◌∙◌, arith, inl, inr}
+use Rattle.std.proofs.Common.{◌≡◌, ℕ, ◌+◌, ◌-◌, ◌*◌, Bool, not, ◌&&◌, List, ap, ◌∙◌, arith}
 use Rattle.std.specs.Prelude.{sum_by, count_by, min, max}
 use Rattle.std.specs.List.{list_any}
-use Rattle.std.proofs.lemmas.Bool.{cases_Bool, false_from_ne_true, both_ways}
 use Rattle.tt_instance_data.specs.Problem.{Problem}
 use Rattle.tt_instance_data.specs.Cells.{slot_of, next_to, all_courses, all_rooms, all_curricula, all_days, all_slots, is_of, is_at, is_in, is_on}
 use Rattle.tt_instance_data.specs.Courses.{lectures, min_days, in_curriculum, unavailable, excess}
@@ -14,15 +13,12 @@ use Rattle.tt_lists.proofs.Sums.{one_if, sum_by-same}
 use Rattle.tt_rules.proofs.Feasible.{collide-turn}
 use Rattle.tt_occupancy_tallies.specs.Bag.{SameBag}
 use Rattle.tt_occupancy_tallies.proofs.Bags.{bag_any, bag_pairs}
+use Rattle.tt_lists.proofs.Truth.{same_truth}
 
-same_if : (a b : Bool) → (a ≡ true → b ≡ true) → (b ≡ true → a ≡ true) → a ≡ b
-same_if a b f g = elim (cases_Bool a) [
-  | inl e ↦ e ∙ sym (f e)
-  | inr e ↦ e ∙ sym (false_from_ne_true b (λ t. both_ways a e (g t)))
 ]
 
 pub collide-sym : (p : Problem) (x y : Cell) → collide p x y ≡ collide p y x
-collide-sym p x y = same_if (collide p x y) (collide p y x) (collide-turn p x y) (collide-turn p y x)
+collide-sym p x y = same_truth (collide p x y) (collide p y x) (collide-turn p x y) (collide-turn p y x)
 
 module _ (p : Problem) (s t : List Cell) (same : SameBag s t) where
   -- the places of a kind that have an entry of the course

@@ -1,9 +1,8 @@
 -- Lists of the elements that pass a test.
-use Rattle.std.proofs.Common.{◌≡◌, ℕ, ◌+◌, ◌<◌, Bool, true, false, cond, List, [], ◌∷◌, ◌++◌, length, sym, ap, ◌∙◌, arith}
+use Rattle.std.proofs.Common.{◌≡◌, ℕ, ◌+◌, ◌<◌, Bool, true, false, cond, List, [], ◌∷◌, ◌++◌, length, sym, ap, ◌∙◌}
 use Rattle.std.specs.Prelude.{◌==◌, All, filter}
 use Rattle.std.proofs.lemmas.List.{append-nil}
 use Rattle.std.proofs.lemmas.List.Elements.{filter-append, All-filter, All-nil}
-use Rattle.std.proofs.lemmas.List.FromFn.{length-range_with_len, get_or-range_with_len}
 use Rattle.tt_instance_data.specs.Problem.{Problem}
 use Rattle.tt_instance_data.specs.Cells.{all_courses}
 use Rattle.tt_instance_data.specs.Courses.{in_curriculum}
@@ -11,7 +10,7 @@ use Rattle.tt_page_plan.specs.Kinds.{own_courses, teacher_of}
 use Rattle.tt_table.specs.declared.kind.Kind.{Kind}
 use Rattle.tt_table.specs.declared.kind.Kind.TheVariants.{Room, Teacher, Curriculum}
 use Rattle.tt_lists.specs.Words.{range_below}
-use Rattle.tt_lists.proofs.Below.{range_below_more}
+use Rattle.tt_lists.proofs.Below.{range_below_more, each_below}
 
 -- ---- elements that pass a test
 
@@ -36,13 +35,7 @@ number_left_out p i old fail before =
 
 -- ---- the courses whose unavailable periods a week shows
 
-each_number : (m : ℕ) → All (λ c. c < m) (range_below m)
-each_number m i d h =
-    let short : i < m = rw (← length-range_with_len 0 m) h in
-    let same = get_or-range_with_len 0 m i d short in
-    omega (arith, short, same)
-
 pub own_courses_there : (p : Problem) (kind : Kind) (n : ℕ) → All (λ c. c < length p.courses) (own_courses p kind n)
 own_courses_there p Room r = All-nil (λ c. c < length p.courses)
-own_courses_there p Teacher k = All-filter (λ c. teacher_of p c == k) (λ c. c < length p.courses) (all_courses p) (each_number (length p.courses))
-own_courses_there p Curriculum q = All-filter (in_curriculum p q) (λ c. c < length p.courses) (all_courses p) (each_number (length p.courses))
+own_courses_there p Teacher k = All-filter (λ c. teacher_of p c == k) (λ c. c < length p.courses) (all_courses p) (each_below (length p.courses))
+own_courses_there p Curriculum q = All-filter (in_curriculum p q) (λ c. c < length p.courses) (all_courses p) (each_below (length p.courses))

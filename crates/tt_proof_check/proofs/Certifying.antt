@@ -27,7 +27,8 @@ use Rattle.tt_proof_check.specs.declared.fault.Verdict.{Verdict}
 use Rattle.tt_proof_check.specs.declared.fault.Verdict.TheVariants.{Yes, Breaks}
 use Rattle.tt_proof_check.specs.declared.fault.CertifyFault.{CertifyFault}
 use Rattle.tt_proof_check.specs.declared.fault.CertifyFault.TheVariants as fault
-use Rattle.tt_proof_check.proofs.Files.{FailsFiles, one_instance, one_table, only_memory}
+use Rattle.tt_proof_check.proofs.Files.{FailsFiles, one_table, only_memory}
+use Rattle.tt_instance.proofs.Laws.{spelled_once}
 
 -- ---- before the score is known
 
@@ -126,14 +127,14 @@ module _ (i s : List ℕ) (p : Problem) (t : List Cell) (spelled : Spells i p) (
 
   certified_here : (bytes : List ℕ) (c b : ℕ) → Certifies i s bytes c b → Certified p t bytes c b
   certified_here bytes c b h =
-      let same : h.solves.problem ≡ p = one_instance i h.solves.problem p h.solves.both.spelled spelled in
+      let same : h.solves.problem ≡ p = spelled_once i h.solves.problem p h.solves.both.spelled spelled in
       let there : SpellsTable p s h.solves.table × Certified p h.solves.table bytes c b =
       subst (λ (q : Problem). SpellsTable q s h.solves.table × Certified q h.solves.table bytes c b) same (h.solves.both.solved, record { feasible = h.solves.feasible; costs = h.solves.costs; proved = h.proved }) in
       at_table (λ (u : List Cell). Certified p u bytes c b) h.solves.table there.0 there.1
 
   broken_here : BreaksARule i s → 0 < hard p t
   broken_here k =
-      let same : k.problem ≡ p = one_instance i k.problem p k.both.spelled spelled in
+      let same : k.problem ≡ p = spelled_once i k.problem p k.both.spelled spelled in
       let there : SpellsTable p s k.table × (0 < hard p k.table) =
       subst (λ (q : Problem). SpellsTable q s k.table × (0 < hard q k.table)) same (k.both.solved, k.some) in
       at_table (λ (u : List Cell). 0 < hard p u) k.table there.0 there.1
@@ -184,7 +185,7 @@ module _ (i s : List ℕ) (p : Problem) (t : List Cell) (spelled : Spells i p) (
 
     pub yes_found : (q : Option (List ℕ)) (b : ℕ) → broken_by score ≡ 0 → ((bytes : List ℕ) → q ≡ Some bytes → IsProved p bytes (AtLeast b)) → HoldsOfAll p (AtLeast b) → IsYes i s q (costs_of score) b
     yes_found q b e proved holds =
-        let all : BoundsAll i b = λ other spells. subst (λ (x : Problem). HoldsOfAll x (AtLeast b)) (one_instance i p other spelled spells) holds in
+        let all : BoundsAll i b = λ other spells. subst (λ (x : Problem). HoldsOfAll x (AtLeast b)) (spelled_once i p other spelled spells) holds in
         let within : b ≤ costs_of score = subst (λ (n : ℕ). b ≤ n) (sym (cost_is p t score is)) (holds t (is_feasible e)) in
         record { solves = solves_here e; certified = reported q proved; bounds = all; within = within }
       where

@@ -1,12 +1,12 @@
 -- The bytes of an instance and of a solution, and the results of reading them.
-use Rattle.std.proofs.Common.{◌≡◌, ℕ, List, Ok, Err, refl, sym, subst}
+use Rattle.std.proofs.Common.{◌≡◌, ℕ, List, Err, refl, subst}
 use Rattle.tt_instance_data.specs.Problem.{Problem}
 use Rattle.tt_instance.specs.Reading.{instance_of, Fails}
 use Rattle.tt_instance_data.specs.Spelling.{Spells}
 use Rattle.tt_instance_data.specs.declared.cell.Cell.{Cell}
 use Rattle.tt_instance.specs.declared.fault.InstanceFault.{InstanceFault}
 use Rattle.tt_instance.specs.declared.fault.InstanceFault.TheVariants as instance
-use Rattle.tt_instance.proofs.Laws.{is_read, spelled_instance}
+use Rattle.tt_instance.proofs.Laws.{is_read, spelled_instance, spelled_once}
 use Rattle.tt_table.specs.Reading.{solution_of, Fails as FailsTable}
 use Rattle.tt_table.specs.Spelling.{SpellsBoth, SpellsTable}
 use Rattle.tt_table.specs.declared.fault.SolutionFault.{SolutionFault}
@@ -15,13 +15,6 @@ use Rattle.tt_table.proofs.EntryLaws.{solution_read}
 use Rattle.tt_proof_check.specs.Verdicts.{fault_from_instance, fault_from_solution, FailsSolution}
 use Rattle.tt_proof_check.specs.declared.fault.CertifyFault.{CertifyFault}
 use Rattle.tt_proof_check.specs.declared.fault.CertifyFault.TheVariants as fault
-
--- bytes spell at most one instance
-pub one_instance : (bytes : List ℕ) (p q : Problem) → Spells bytes p → Spells bytes q → p ≡ q
-one_instance bytes p q a b =
-    let e : Ok p ≡ instance_of bytes = sym (is_read bytes p a) in
-    let f = is_read bytes q b in
-    cc
 
 -- bytes spell at most one timetable of an instance
 pub one_table : (bytes i : List ℕ) (p : Problem) (t u : List Cell) → Spells i p → SpellsTable p bytes t → SpellsTable p bytes u → t ≡ u
@@ -52,7 +45,7 @@ tells_solution i s p f spelled h = record { problem = p; spelled = spelled; fail
 pub only_memory : (i s : List ℕ) (p : Problem) (t : List Cell) (f : CertifyFault) → SpellsBoth i s p t → FailsFiles i s f → f ≡ fault.OutOfMemory
 only_memory i s p t (fault.Instance f) both h = let e = is_read i p both.spelled in absurd cc
 only_memory i s p t (fault.Solution f) both h =
-    let same : h.problem ≡ p = one_instance i h.problem p h.spelled both.spelled in
+    let same : h.problem ≡ p = spelled_once i h.problem p h.spelled both.spelled in
     let e = solution_read p s t (spelled_instance i p both.spelled).within both.solved in
     let g : solution_of p s ≡ Err f = subst (λ (q : Problem). solution_of q s ≡ Err f) same h.fails in
     absurd cc

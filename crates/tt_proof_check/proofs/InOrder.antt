@@ -23,6 +23,7 @@ use Rattle.tt_proof_check.proofs.Counting.{take_next, split_at}
 use Rattle.tt_proof_check.proofs.Reading.{whole_places}
 use Rattle.tt_proof_check.proofs.Soundness.{proof_sound}
 use Rattle.tt_proof_check.proofs.Walking.{Walked, walked_due, walked_next, walked_tree, fails_at, too_deep, deep_tree}
+use Rattle.tt_lists.proofs.Tested.{each_append}
 
 -- whether the nodes before the one at i have been checked
 abbrev pub Midway : Problem → Bound → List Node → ℕ → List Fact → Type 0
@@ -61,14 +62,10 @@ midway_end p b nodes tree i past path m =
 
 -- -- the converse: if a tree derives the bound, each node passes
 
-join_parts : {X : Type 0} (P : X → Type 0) (xs ys : List X) → AllByRecursion P xs → AllByRecursion P ys → AllByRecursion P (xs ++ ys)
-join_parts P [] ys a b = b
-join_parts P (x ∷ xs) ys a b = (a.0, join_parts P xs ys a.1 b)
-
 right_on : (p : Problem) (b : Bound) (tree : Tree) (path : List Fact) → Derives p b path tree → AllByRecursion (λ x. IsRightOn p b x.path x.node) (on_paths path tree)
 right_on p b (Tip leaf) path d = (d, tt)
 right_on p b (Fork g x y) path d =
-    (tt, join_parts (λ z. IsRightOn p b z.path z.node) (on_paths (with_fact path g true) x) (on_paths (with_fact path g false) y) (right_on p b x (with_fact path g true) d.0) (right_on p b y (with_fact path g false) d.1))
+    (tt, each_append (λ z. IsRightOn p b z.path z.node) (on_paths (with_fact path g true) x) (on_paths (with_fact path g false) y) (right_on p b x (with_fact path g true) d.0) (right_on p b y (with_fact path g false) d.1))
 
 pub tree_passes : (p : Problem) (b : Bound) (tree : Tree) → IsShallow tree → Derives p b [] tree → All (Passes p b) (on_paths [] tree)
 tree_passes p b tree shallow d =

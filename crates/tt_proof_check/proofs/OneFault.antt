@@ -10,7 +10,7 @@ use Rattle.tt_instance_data.specs.Problem.{Problem}
 use Rattle.tt_instance.specs.Reading.{instance_of}
 use Rattle.tt_instance_data.specs.Spelling.{Spells}
 use Rattle.tt_instance.specs.declared.fault.InstanceFault.{InstanceFault}
-use Rattle.tt_instance.proofs.Laws.{is_read}
+use Rattle.tt_instance.proofs.Laws.{is_read, spelled_once}
 use Rattle.tt_table.specs.Reading.{solution_of}
 use Rattle.tt_table.specs.declared.fault.SolutionFault.{SolutionFault}
 use Rattle.tt_facts_path.specs.declared.facts.Fact.{Fact}
@@ -35,7 +35,7 @@ use Rattle.tt_proof_check.specs.Streams.{IsEnvironmental, stream_of, sizes_of, F
 use Rattle.tt_proof_check.specs.Explains.{Passes, FailsAt, IsDeepAt}
 use Rattle.tt_proof_check.specs.Verdicts.{FailsSolution, FailsProof, IsFirstFault, IsEnvironmentalRefusal}
 use Rattle.tt_proof_check.proofs.Determined.{begins_whole, same_header, compare, same_place}
-use Rattle.tt_proof_check.proofs.Files.{one_instance, only_memory}
+use Rattle.tt_proof_check.proofs.Files.{only_memory}
 use Rattle.tt_proof_check.proofs.InOrder.{at_place, tree_passes}
 use Rattle.tt_proof_check.proofs.TextFaults.{on_false, silent_is, fails_silently}
 use Rattle.tt_proof_check.proofs.Texts.{node_silent, place_read}
@@ -302,7 +302,7 @@ AreOneRefusal f g = (f ≡ g) ⊎ (IsEnvironmentalRefusal f ⊎ IsEnvironmentalR
 
 proofs_refused : (i s bytes : List ℕ) (f g : CheckFault) → FailsProof i s (Some bytes) f → FailsProof i s (Some bytes) g → AreOneRefusal (fault.Proof f) (fault.Proof g)
 proofs_refused i s bytes f g h k =
-    let same : k.problem ≡ h.problem = one_instance i k.problem h.problem k.both.spelled h.both.spelled in
+    let same : k.problem ≡ h.problem = spelled_once i k.problem h.problem k.both.spelled h.both.spelled in
     elim (one_fault h.problem (stream_of bytes) f g h.fails (subst (λ (q : Problem). IsProofFault q (stream_of bytes) g) same k.fails)) [
       | inl e ↦ inl (ap fault.Proof e)
       | inr (inl a) ↦ inr (inl a)
@@ -311,7 +311,7 @@ proofs_refused i s bytes f g h k =
 
 solutions_refused : (i s : List ℕ) (f g : SolutionFault) → FailsSolution i s f → FailsSolution i s g → fault.Solution f ≡ fault.Solution g
 solutions_refused i s f g h k =
-    let same : k.problem ≡ h.problem = one_instance i k.problem h.problem k.spelled h.spelled in
+    let same : k.problem ≡ h.problem = spelled_once i k.problem h.problem k.spelled h.spelled in
     let a = h.fails in
     let c : solution_of h.problem s ≡ Err g = subst (λ (q : Problem). solution_of q s ≡ Err g) same k.fails in
     cc

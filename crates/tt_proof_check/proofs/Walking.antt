@@ -20,6 +20,7 @@ use Rattle.tt_proof_check.specs.Steps.{Steps, Stops}
 use Rattle.tt_proof_check.specs.Explains.{Passes, FailsAt, IsDeepAt}
 use Rattle.tt_proof_check.proofs.Places.{pending-push}
 use Rattle.tt_proof_check.proofs.Reading.{Stack, root, next_stack, stack_after, at, places_of, stack_after-push, places_of-push, length-places_of, whole_places, stack_whole, tree_goes_on, no_tree_goes_on, no_tree_yet, get-behind}
+use Rattle.tt_lists.proofs.Members.{each_of_append}
 
 -- the open places if the node of a path is due, or if none is
 abbrev pub stack_of : Bool → List Fact → Stack
@@ -79,14 +80,10 @@ stops_as p q b c path n stop e d h = subst (λ (x : Bound). Stops q x path n sto
 
 -- ---- the end
 
-each_part : {X : Type 0} (P : X → Type 0) (xs ys : List X) → AllByRecursion P (xs ++ ys) → AllByRecursion P xs × AllByRecursion P ys
-each_part P [] ys a = (tt, a)
-each_part P (x ∷ xs) ys a = let b = each_part P xs ys a.1 in ((a.0, b.0), b.1)
-
 derives_on : (p : Problem) (b : Bound) (tree : Tree) (path : List Fact) → AllByRecursion (Passes p b) (on_paths path tree) → Derives p b path tree
 derives_on p b (Tip leaf) path a = a.0.1
 derives_on p b (Fork g x y) path a =
-    let h = each_part (Passes p b) (on_paths (with_fact path g true) x) (on_paths (with_fact path g false) y) a.1 in
+    let h = each_of_append (Passes p b) (on_paths (with_fact path g true) x) (on_paths (with_fact path g false) y) a.1 in
     (derives_on p b x (with_fact path g true) h.0, derives_on p b y (with_fact path g false) h.1)
 
 -- a tree whose nodes pass derives the bound, and is not too deep

@@ -14,7 +14,7 @@ use Rattle.tt_text.proofs.Unlimited.{unlimited}
 use Rattle.tt_instance_data.specs.Problem.{Problem}
 use Rattle.tt_instance_data.specs.Beginnings.{BeginsAs}
 use Rattle.tt_instance_data.specs.Limits.{IsInstance}
-use Rattle.tt_instance_data.proofs.Beginnings.{begins_shared}
+use Rattle.tt_instance_data.proofs.Beginnings.{begins_shared, stands_or_none}
 use Rattle.tt_instance_data.proofs.Shared.{NoneAt, Shared, Apart, Next, other_offset}
 use Rattle.tt_leaf_data.specs.declared.leaf.Bound.{Bound}
 use Rattle.tt_proof_read.specs.Beginnings.{token_offset, FailsNext, NodesFail, ReadingFails}
@@ -27,7 +27,7 @@ use Rattle.tt_proof_read.specs.declared.fault.TextFault.{TextFault}
 use Rattle.tt_proof_read.specs.declared.node.Node.{Node}
 use Rattle.tt_proof_read.specs.declared.node.Node.TheVariants as node
 use Rattle.tt_proof_read.specs.declared.sizes.Sizes.{Sizes}
-use Rattle.tt_proof_read.proofs.LongTokens.{any_later, long_token, long_shared, long_stands}
+use Rattle.tt_proof_read.proofs.LongTokens.{long_token, long_shared, long_stands}
 use Rattle.tt_proof_read.proofs.ProofLaws.{spelled_reads}
 use Rattle.tt_proof_read.proofs.Sharing.{EndsElsewhere, NoneIn, SharedIn, StaysAt, Meets, NoneLeft, SharedLeft}
 use Rattle.tt_proof_read.proofs.SharedNodes.{node_alike, header_alike, end_alike}
@@ -181,17 +181,6 @@ unfolding stream_from
 stream_shared at bytes us shared = shared_while at (ends_before (fault_from MAX_BYTES 0 0 bytes)) (tokens_of bytes) us shared
 
 -- ---- what a fault that lies at a token says
-
--- the first token lies there, or what is said of the others holds
-stands_step : (at : ℕ) (t : Placed) (ts : List Placed) → (t.at ≡ at) ⊎ (t.at ≢ at) → NoneAt at ts ⊎ Any (λ x. x.at ≡ at) ts → NoneAt at (t ∷ ts) ⊎ Any (λ x. x.at ≡ at) (t ∷ ts)
-stands_step at t ts (inl e) rest = inr (0, t, omega arith, refl, e)
-stands_step at t ts (inr n) (inl none) = inl (n, none)
-stands_step at t ts (inr n) (inr h) = inr (any_later at t ts h)
-
--- no token lies there, or some token does
-stands_or_none : (at : ℕ) (ts : List Placed) → NoneAt at ts ⊎ Any (λ t. t.at ≡ at) ts
-stands_or_none at [] = inl tt
-stands_or_none at (t ∷ ts) = stands_step at t ts (cases_eq t.at at) (stands_or_none at ts)
 
 module _ (at : ℕ) (sizes : Sizes) (bytes : List ℕ) (e : TextFault) (fails : ReadingFails sizes (stream_of_bytes bytes) e) (there : token_offset e ≡ Some at) where
   -- that token is in the bytes

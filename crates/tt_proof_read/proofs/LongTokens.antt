@@ -1,5 +1,5 @@
 -- A stream that ends at a token which is too long: the bytes have this token.
-use Rattle.std.proofs.Common.{◌≡◌, ◌⊎◌, inl, inr, ℕ, suc, ◌+◌, ◌-◌, ◌<◌, ◌≤◌, Bool, true, false, cond, List, [], ◌∷◌, length, take, Option, Some, None, Err, refl, sym, subst, arith}
+use Rattle.std.proofs.Common.{◌≡◌, ◌⊎◌, inl, inr, ℕ, ◌+◌, ◌-◌, ◌<◌, ◌≤◌, Bool, true, false, cond, List, [], ◌∷◌, length, take, Option, Some, None, Err, refl, sym, subst, arith}
 use Rattle.std.specs.Prelude.{Any, nat_le}
 use Rattle.std.specs.List.{prefix_len, AllByRecursion}
 use Rattle.std.proofs.lemmas.Bool.{leb-true}
@@ -8,6 +8,7 @@ use Rattle.tt_text.specs.Tokens.{is_separator, in_token, Placed, tokens_from, to
 use Rattle.tt_text.specs.Feeds.{Fault, fault_from, stop_of, stream_from}
 use Rattle.tt_text.specs.declared.feed.FeedFault.TheVariants.{TokenTooLong, TooManyBytes}
 use Rattle.tt_instance_data.proofs.Shared.{NoneAt, Shared, Apart, Next}
+use Rattle.tt_instance_data.proofs.Beginnings.{any_later}
 
 -- a token of more than 32 bytes lies at this offset
 abbrev pub HasLong : ℕ → List Placed → Type 0
@@ -135,9 +136,6 @@ long_shared a ts us (Apart none) h short = long_not a ts none h
     long_not a (t ∷ ts) none (inr later) = long_not a ts none.1 later
 long_shared a ts us (Next n shared) (inl here) short = omega (arith, here.1, short.0)
 long_shared a ts us (Next {ts = rest} {us = others} n shared) (inr later) short = long_shared a rest others shared later short.1
-
-pub any_later : (at : ℕ) (t : Placed) (ts : List Placed) → Any (λ x. x.at ≡ at) ts → Any (λ x. x.at ≡ at) (t ∷ ts)
-any_later at t ts h = (suc h.0, h.1, omega (arith, h.2), h.3, h.4)
 
 -- a token lies there
 pub long_stands : (a : ℕ) (ts : List Placed) → HasLong a ts → Any (λ t. t.at ≡ a) ts

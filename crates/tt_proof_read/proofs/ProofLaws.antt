@@ -65,7 +65,7 @@ header_reads v b s after low high within took =
 -- ---- the end
 
 -- if no token is refused, none is left
-no_more_took : (ts : List Placed) (stop : Result ℕ FeedFault) (x : Stream) → no_more ts stop ≡ Ok x → (ts ≡ []) × ((m : ℕ) × (stop ≡ Ok m))
+pub no_more_took : (ts : List Placed) (stop : Result ℕ FeedFault) (x : Stream) → no_more ts stop ≡ Ok x → (ts ≡ []) × ((m : ℕ) × (stop ≡ Ok m))
 no_more_took [] (Ok m) x e = (refl, (m, refl))
 no_more_took [] (Err f) x e = absurd cc
 no_more_took (t ∷ ts) stop x e = absurd cc

@@ -129,7 +129,7 @@ new_number_ok at before n m e = let h = refusal_ok (has_number before n) (fault.
 -- ---- prices
 
 -- a token that was read as a price is a number
-priced_ok : (at : ℕ) (r : Result ℕ NumberFault) (u : ℕ) → priced_as at r ≡ Ok u → r ≡ Ok u
+pub priced_ok : (at : ℕ) (r : Result ℕ NumberFault) (u : ℕ) → priced_as at r ≡ Ok u → r ≡ Ok u
 priced_ok at (Ok m) u e = cc
 priced_ok at (Err f) u e = absurd cc
 

@@ -10,7 +10,7 @@ use Rattle.std.proofs.lemmas.List.Folds.{list_any-append, list_all-append}
 use Rattle.std.proofs.lemmas.Grind.{flat_map-append}
 use Rattle.tt_lists.specs.Words.{has_number}
 use Rattle.tt_lists.proofs.Below.{all_pass}
-use Rattle.tt_lists.proofs.Twos.{list_all-swap, each_two-push}
+use Rattle.tt_lists.proofs.Twos.{list_all-swap, each_two-push, neither}
 use Rattle.tt_instance_data.specs.Problem.{Problem}
 use Rattle.tt_instance_data.specs.Limits.{IsInstance}
 use Rattle.tt_leaf_rules.specs.Claims.{Target, WorkingDays, Compactness}
@@ -23,6 +23,7 @@ use Rattle.tt_proof_sum.specs.GroupsFaults.{Pass, is_unclaimed, FirstClaimed, Is
 use Rattle.tt_proof_sum.specs.Sums.{is_among, are_apart, group_targets, targets_of_claims, Part, claims_of}
 use Rattle.tt_proof_sum.specs.Tables.{State, owner, first_claim, begun, group_places, first_owner, Marks, IsTableOf}
 use Rattle.tt_proof_sum.proofs.Joining.{has_place, claim_below, unclaimed, claims_it}
+use Rattle.tt_lists.proofs.All.{list_all-same}
 
 -- ---- the first owner of places
 
@@ -205,15 +206,11 @@ module _ (before b : State) (parts : List Part) (claims : List GroupClaim) (of :
 abbrev targets_in : GroupClaim → List Target
 targets_in k = group_targets k.group
 
-not_or : (a b : Bool) → not (a || b) ≡ (not a && not b)
-not_or true b = refl
-not_or false b = refl
-
 -- a target is in none of the claims
 in_none : (claims : List GroupClaim) (y : Target) → not (is_among (targets_of_claims claims) y) ≡ list_all (λ k. not (is_among (targets_in k) y)) claims
 in_none [] y = refl
 in_none (k ∷ ks) y =
-    ap not (list_any-append _ (targets_in k) (targets_of_claims ks)) ∙ not_or (is_among (targets_in k) y) (is_among (targets_of_claims ks) y) ∙ ap (λ z. not (is_among (targets_in k) y) && z) (in_none ks y)
+    ap not (list_any-append _ (targets_in k) (targets_of_claims ks)) ∙ neither (is_among (targets_in k) y) (is_among (targets_of_claims ks) y) ∙ ap (λ z. not (is_among (targets_in k) y) && z) (in_none ks y)
 
 both_all : {X : Type 0} (f g : X → Bool) (xs : List X) → list_all (λ x. f x && g x) xs ≡ true → (list_all f xs ≡ true) × (list_all g xs ≡ true)
 both_all f g [] e = (refl, refl)
@@ -222,10 +219,6 @@ both_all f g (x ∷ xs) e =
     let k = and_parts (f x) (g x) h.0 in
     let r = both_all f g xs h.1 in
     (and_from (f x) (list_all f xs) k.0 r.0, and_from (g x) (list_all g xs) k.1 r.1)
-
-same_all : {X : Type 0} (f g : X → Bool) (xs : List X) → ((x : X) → f x ≡ g x) → list_all f xs ≡ list_all g xs
-same_all f g [] e = refl
-same_all f g (x ∷ xs) e = ap (λ b. b && list_all f xs) (e x) ∙ ap (λ b. g x && b) (same_all f g xs e)
 
 -- the targets of claims and of another claim
 more_targets : (claims : List GroupClaim) (k : GroupClaim) → targets_of_claims (claims ++ k ∷ []) ≡ targets_of_claims claims ++ targets_in k
@@ -238,7 +231,7 @@ more_places claims k = ap (map place) (more_targets claims k) ∙ map-append pla
 own_apart : (claims : List GroupClaim) (k : GroupClaim) → list_all (λ y. not (is_among (targets_of_claims claims) y)) (targets_in k) ≡ true → list_all (λ c. are_apart (targets_in c) (targets_in k)) claims ≡ true
 own_apart claims k e =
     list_all-swap (λ c y. not (is_among (targets_in c) y)) claims (targets_in k)
-    ∙ sym (same_all (λ y. not (is_among (targets_of_claims claims) y)) (λ y. list_all (λ c. not (is_among (targets_in c) y)) claims) (targets_in k) (in_none claims)) ∙ e
+    ∙ sym (list_all-same (λ y. not (is_among (targets_of_claims claims) y)) (λ y. list_all (λ c. not (is_among (targets_in c) y)) claims) (targets_in k) (in_none claims)) ∙ e
 
 -- targets without an owner are in none of the claims
 own_unclaimed : (a b : State) (claims : List GroupClaim) → Marks a (map place (targets_of_claims claims)) b → 0 < a.proof → (ys : List Target) → AllByRecursion (λ y. place y < 32768) ys → first_owner b (map place ys) ≡ None

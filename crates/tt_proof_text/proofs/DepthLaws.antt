@@ -13,6 +13,7 @@ use Rattle.tt_proof_read.specs.declared.node.Node.TheVariants.{Split, Leaf}
 use Rattle.tt_proof_read.specs.Trees.{Tree, Tip, Fork, AllLeaves, preorder, with_fact, IsPreorder}
 use Rattle.tt_proof_read.proofs.Depth.{root_low}
 use Rattle.tt_proof_text.specs.Within.{AreShallow}
+use Rattle.std.proofs.Math.Bool.{and-true}
 
 -- the depth after a leaf
 abbrev pub next_depth : List ℕ → ℕ
@@ -38,10 +39,6 @@ regrouped : (a b c d : Bool) → (a && (b && (c && d))) ≡ ((a && (b && c)) && 
 regrouped true true c d = refl
 regrouped true false c d = refl
 regrouped false b c d = refl
-
-and_true : (a : Bool) → (a && true) ≡ a
-and_true true = refl
-and_true false = refl
 
 -- a tree followed by other nodes: the tree starts at the first depth, and the other nodes at the next ones
 shallow-tree : (tree : Tree) (d : ℕ) (ds : List ℕ) (rest : List Node) → are_shallow d ds (preorder tree ++ rest) ≡ (is_shallow_tree d tree && are_shallow (next_depth ds) (later_depths ds) rest)
@@ -76,7 +73,7 @@ paths_shallow (Fork g first second) path d e h =
     (and_from _ _ (paths_shallow first (with_fact path g true) (d + 1) (longer path g true d e) h.0) (paths_shallow second (with_fact path g false) (d + 1) (longer path g false d e) h.1))
 
 whole : (tree : Tree) → are_shallow 0 [] (preorder tree) ≡ is_shallow_tree 0 tree
-whole tree = ap (are_shallow 0 []) (sym (append-nil (preorder tree))) ∙ shallow-tree tree 0 [] [] ∙ and_true (is_shallow_tree 0 tree)
+whole tree = ap (are_shallow 0 []) (sym (append-nil (preorder tree))) ∙ shallow-tree tree 0 [] [] ∙ and-true (is_shallow_tree 0 tree)
 
 shallow_from : (nodes : List Node) → are_shallow 0 [] nodes ≡ true → AreShallow nodes
 shallow_from nodes h = λ tree e. shallow_paths tree [] 0 refl (lit≤ tt) (sym (whole tree) ∙ ap (are_shallow 0 []) e ∙ h)

@@ -1,8 +1,7 @@
 -- Lines of pieces, written piece by piece.
-use Rattle.std.proofs.Common.{◌≡◌, ℕ, ◌+◌, ◌<◌, ◌≤◌, All, OnOk, Result, Ok, Err, get_or, subst, List, [], ◌∷◌, ◌++◌, length, map, take, refl, sym, ap, ◌∙◌, append_assoc}
+use Rattle.std.proofs.Common.{◌≡◌, ℕ, ◌+◌, ◌<◌, ◌≤◌, OnOk, Result, Ok, Err, get_or, List, [], ◌∷◌, ◌++◌, length, map, take, refl, sym, ap, ◌∙◌, append_assoc}
 use Rattle.std.specs.List.{flat_map}
 use Rattle.std.proofs.lemmas.List.{append-nil, take_all, take_more, flat_map_more}
-use Rattle.std.proofs.lemmas.List.Elements.{All-push}
 use Rattle.std.proofs.lemmas.Grind.{flat_map-append}
 use Rattle.tt_text.specs.Pieces.{Piece, Text}
 use Rattle.tt_text.specs.Lines.{text_of, line_text, lines_text}
@@ -63,14 +62,6 @@ pub one_more : {X A : Type 0} (f : X → List A) (xs : List X) (i : ℕ) (d x : 
 one_more {X} f xs i d x old out more below is so_far now =
     let longer = sym (take_more xs i d below) in
     now ∙ rw (so_far, is) (flat_map_more f old (take i xs) (get_or xs i d)) ∙ ap (λ (ys : List X). old ++ flat_map f ys) longer
-
--- a property holds for the elements so far and another one
-pub All_more : {X : Type 0} (P : X → Type 0) (xs : List X) (i : ℕ) (d x : X) → i < length xs → x ≡ get_or xs i d → All P (take i xs) → P x → All P (take (i + 1) xs)
-All_more {X} P xs i d x below is so_far here = subst (All P) (sym (take_more xs i d below)) (All-push P (take i xs) (get_or xs i d) so_far (subst P is here))
-
--- at the end, the property holds for all elements
-pub All_done : {X : Type 0} (P : X → Type 0) (xs : List X) (i : ℕ) → length xs ≤ i → All P (take i xs) → All P xs
-All_done P xs i le so_far = subst (All P) (take_all i xs le) so_far
 
 pub on_ok : {T E P : Type 0} (r : Result T E) → P → OnOk r P
 on_ok (Ok x) fact = fact

@@ -21,6 +21,7 @@ use Rattle.tt_report.specs.Reports.{course_text, room_text, course_and_room, is_
 use Rattle.tt_report.specs.declared.blocks.Block.{Block}
 use Rattle.tt_report.specs.declared.blocks.Block.TheVariants as of
 use Rattle.tt_table.specs.declared.kind.Kind.TheVariants.{Room, Teacher, Curriculum}
+use Rattle.tt_text.proofs.Texts.{rows_text}
 
 -- another number
 pub texts_more : {Y : Type 0} (f : ℕ → List Y) (i : ℕ) → flat_map f (range_below (i + 1)) ≡ flat_map f (range_below i) ++ f i
@@ -60,10 +61,6 @@ lines_text-of_flat_map f (x ∷ xs) = both (f x) (flat_map f xs) ∙ ap (λ z. l
     both : (ls ms : List (List Piece)) → lines_text (ls ++ ms) ≡ lines_text ls ++ lines_text ms
     both [] ms = refl
     both (l ∷ ls) ms = ap (λ z. line_text l ++ z) (both ls ms) ∙ sym (append_assoc (line_text l) (lines_text ls) (lines_text ms))
-
-pub lines_text-of_map : {X : Type 0} (f : X → List Piece) (xs : List X) → lines_text (map f xs) ≡ flat_map (λ x. line_text (f x)) xs
-lines_text-of_map f [] = refl
-lines_text-of_map f (x ∷ xs) = ap (λ z. line_text (f x) ++ z) (lines_text-of_map f xs)
 
 pub flat_map-of_flat_map : {X Y Z : Type 0} (f : Y → List Z) (g : X → List Y) (xs : List X) → flat_map f (flat_map g xs) ≡ flat_map (λ x. flat_map f (g x)) xs
 flat_map-of_flat_map f g [] = refl
@@ -160,7 +157,7 @@ module _ {W : Type 0} (C : W → Option (List ℕ)) (F : W → Bool) where
 block_is : (p : Problem) (t : List Cell) (head : List Piece) (f : Slot → List Piece) → lines_text (head ∷ map f (all_slots p)) ≡ line_text head ++ flat_map (λ d. flat_map (λ s. line_text (f (slot d s))) (range_below p.periods)) (all_days p)
 block_is p t head f =
     ap (λ z. line_text head ++ z)
-    (lines_text-of_map f (all_slots p)
+    (rows_text f (all_slots p)
     ∙ flat_map-of_flat_map (λ s. line_text (f s)) (λ d. map (slot d) (range_below p.periods)) (all_days p)
     ∙ flat_map-same (λ d. flat_map (λ s. line_text (f s)) (map (slot d) (range_below p.periods))) (λ d. flat_map (λ s. line_text (f (slot d s))) (range_below p.periods)) (all_days p)
     (λ d. flat_map-of_map (λ s. line_text (f s)) (slot d) (range_below p.periods)))

@@ -1,9 +1,9 @@
 -- The stream of bytes that begin with a gap, with a token, or with a byte that passes a limit.
-use Rattle.std.proofs.Common.{◌≡◌, ℕ, zero, suc, ◌+◌, ◌-◌, ◌<◌, ◌≤◌, Bool, true, false, not, cond, leb, ltb, List, [], ◌∷◌, ◌++◌, length, take, drop, min, Option, Some, None, Ok, Err, refl, sym, ap, subst, ◌∙◌, add-zero, length-append, drop-cons, get_or, arith}
+use Rattle.std.proofs.Common.{◌≡◌, ℕ, zero, suc, ◌+◌, ◌-◌, ◌<◌, ◌≤◌, Bool, true, false, cond, leb, ltb, List, [], ◌∷◌, ◌++◌, length, take, drop, min, Option, Some, None, Ok, Err, refl, sym, ap, subst, ◌∙◌, add-zero, length-append, drop-cons, get_or, arith}
 use Rattle.std.specs.Prelude.{take_while}
 use Rattle.std.specs.List.{prefix_len, list_all}
 use Rattle.std.proofs.lemmas.Bool.Decides.{nat_tests}
-use Rattle.std.proofs.lemmas.Bool.{lt-leb, lt-ltb, le-ltb, le-leb, and_parts}
+use Rattle.std.proofs.lemmas.Bool.{lt-leb, lt-ltb, le-ltb, le-leb, and_parts, not-true}
 use Rattle.std.proofs.lemmas.List.{take_min, take-take, drop-drop, length-drop, length-take}
 use Rattle.std.proofs.lemmas.List.Sums.{prefix_len-le-length}
 use Rattle.std.proofs.lemmas.List.Folds.{length-prefix_len}
@@ -39,10 +39,6 @@ pub fault-nothing : (most n k : ℕ) → fault_from most n k [] ≡ None
 unfolding fault_from
 fault-nothing most n k = refl
 
-pub not_false : (b : Bool) → not b ≡ true → b ≡ false
-not_false true e = absurd cc
-not_false false e = refl
-
 gap_fault : (most n : ℕ) (g xs : List ℕ) → list_all is_separator g ≡ true → n + length g ≤ most → fault_from most n 0 (g ++ xs) ≡ fault_from most (n + length g) 0 xs
 gap_fault most n [] xs all h = ap (λ (m : ℕ). fault_from most m 0 xs) (sym (add-zero n))
 gap_fault most n (b ∷ g) xs all h =
@@ -63,7 +59,7 @@ token_fault : (most n k : ℕ) (t xs : List ℕ) → list_all in_token t ≡ tru
 token_fault most n k [] xs all h s = ap (λ (m : ℕ). fault_from most m k xs) (sym (add-zero n)) ∙ ap (λ (m : ℕ). fault_from most (n + 0) m xs) (sym (add-zero k))
 token_fault most n k (b ∷ t) xs all h s =
     let parts = and_parts (in_token b) (list_all in_token t) all in
-    let first = fault-inside most n k b (t ++ xs) (not_false (is_separator b) parts.0) (omega arith) (omega arith) in
+    let first = fault-inside most n k b (t ++ xs) (not-true (is_separator b) parts.0) (omega arith) (omega arith) in
     let more = token_fault most (n + 1) (k + 1) t xs parts.1 (omega arith) (omega arith) in
     let same : (n + 1) + length t ≡ n + length (b ∷ t) = omega arith in
     let same_k : (k + 1) + length t ≡ k + length (b ∷ t) = omega arith in
@@ -216,11 +212,11 @@ long_run most n k (b ∷ []) xs all h len some =
     let here : k ≡ 32 = omega arith in
     let byte : n ≡ n + length (b ∷ []) - 1 = omega arith in
     let is : n - 32 ≡ n - k = omega arith in
-    ap (λ (m : ℕ). fault_from most n m (b ∷ xs)) here ∙ fault-long most n b xs (not_false (is_separator b) parts.0) (omega arith)
+    ap (λ (m : ℕ). fault_from most n m (b ∷ xs)) here ∙ fault-long most n b xs (not-true (is_separator b) parts.0) (omega arith)
     ∙ ap (λ (m : ℕ). Some (record { byte = n; fault = TokenTooLong m })) is ∙ ap (λ (m : ℕ). Some (record { byte = m; fault = TokenTooLong (n - k) })) byte
 long_run most n k (b ∷ c ∷ t) xs all h len some =
     let parts = and_parts (in_token b) (list_all in_token (c ∷ t)) all in
-    let first = fault-inside most n k b ((c ∷ t) ++ xs) (not_false (is_separator b) parts.0) (omega arith) (omega arith) in
+    let first = fault-inside most n k b ((c ∷ t) ++ xs) (not-true (is_separator b) parts.0) (omega arith) (omega arith) in
     let more = long_run most (n + 1) (k + 1) (c ∷ t) xs parts.1 (omega arith) (omega arith) (omega arith) in
     let byte : (n + 1) + length (c ∷ t) - 1 ≡ n + length (b ∷ c ∷ t) - 1 = omega arith in
     let is : (n + 1) - (k + 1) ≡ n - k = omega arith in

@@ -2,14 +2,14 @@
 use Rattle.std.proofs.Common.{◌≡◌, ℕ, zero, suc, ◌+◌, ◌<◌, ◌≤◌, Bool, true, false, ltb, List, [], ◌∷◌, ◌++◌, length, take, drop, Some, Ok, Err, refl, sym, ap, subst, ◌∙◌, add-zero, append_assoc, append-nil, length-append, arith}
 use Rattle.std.specs.List.{list_all, prefix_len}
 use Rattle.std.proofs.lemmas.List.{drop-drop, drop_all, length-drop, take-append-drop, take-append-le, drop-append-le, length-take-le}
-use Rattle.std.proofs.lemmas.Bool.{le-ltb, and_parts}
+use Rattle.std.proofs.lemmas.Bool.{le-ltb, and_parts, not-true}
 use Rattle.std.proofs.Math.Seq.{drop-append_seam}
 use Rattle.tt_text.specs.Tokens.{is_separator, in_token, Placed}
 use Rattle.tt_text.specs.Feeds.{stream_from, ends_before, with_token, stopped}
 use Rattle.tt_text.specs.CutShort.{cut_short}
 use Rattle.tt_text.specs.Found.{AtGap, IsScan, FindsToken, FindsMore, MayFollow, has_token}
 use Rattle.tt_text.specs.declared.feed.FeedFault.TheVariants.{Read, TokenTooLong, TooManyBytes}
-use Rattle.tt_text.proofs.Feeding.{not_false, while-no, stream-gap, stream-nothing, stream-token, stream-last, stream-long, stream-past}
+use Rattle.tt_text.proofs.Feeding.{while-no, stream-gap, stream-nothing, stream-token, stream-last, stream-long, stream-past}
 
 -- a run whose bytes all pass goes on with the run of the bytes after it
 run_of : (p : ℕ → Bool) (xs ys : List ℕ) → list_all p xs ≡ true → prefix_len p (xs ++ ys) ≡ length xs + prefix_len p ys
@@ -18,7 +18,7 @@ run_of p (x ∷ xs) ys all = let parts = and_parts (p x) (list_all p xs) all in 
 
 no_gap : (t : List ℕ) → list_all in_token t ≡ true → prefix_len is_separator t ≡ 0
 no_gap [] all = refl
-no_gap (b ∷ t) all = let parts = and_parts (in_token b) (list_all in_token t) all in let e = not_false (is_separator b) parts.0 in rw e refl
+no_gap (b ∷ t) all = let parts = and_parts (in_token b) (list_all in_token t) all in let e = not-true (is_separator b) parts.0 in rw e refl
 
 whole_partial : (g t : List ℕ) → list_all is_separator g ≡ true → list_all in_token t ≡ true → has_token (g ++ t) ≡ false
 whole_partial g t seps token =

@@ -8,8 +8,9 @@ use Rattle.tt_facts_path.specs.Facts.{agrees}
 use Rattle.tt_facts_cells.specs.Rooms.{has_room}
 use Rattle.tt_facts_cells.specs.Words.{width}
 use Rattle.tt_facts_cells.specs.Tables.{is_open}
-use Rattle.tt_facts_cells.proofs.Reading.{all_block, all_next, spare-cell}
+use Rattle.tt_facts_cells.proofs.Reading.{all_block, spare-cell}
 use Rattle.tt_facts_cells.proofs.asking.common_rooms.Goals as goal
+use Rattle.tt_lists.proofs.Below.{list_all-more}
 
 pub loop-block-preserved : goal.loop-block-preserved
 loop-block-preserved c = λ r.
@@ -22,7 +23,7 @@ loop-block-preserved c = λ r.
     ∙ ap (λ b. b && has_room c.common_of.result r) (c.loop-block.invariant r)
     ∙ ap (λ b. list_all block (range_below n) && b) (c.common_of.ensures r
     ∙ all_bits (λ k. not (has_bit word k) || (n * 64 + k == r)) (λ k. not (open_at n k) || (n * 64 + k == r)) (λ k h. ap (λ b. not b || (n * 64 + k == r)) (c.open_word-word.ensures k h)))
-    ∙ sym (all_next block n)
+    ∙ sym (list_all-more block n)
 
 pub returns : goal.returns
 returns c = λ r.

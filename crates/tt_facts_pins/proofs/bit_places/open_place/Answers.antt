@@ -1,6 +1,6 @@
 use Rattle.tt_facts_pins.specs.FactTable.{fact_rows}
-use Rattle.tt_facts_pins.proofs.Grid.{within_row}
 use Rattle.tt_facts_pins.proofs.bit_places.open_place.Goals as goal
+use Rattle.tt_lists.proofs.Grid.{within_row}
 
 pub returns-clause-within : goal.returns-clause-within
 returns-clause-within c =

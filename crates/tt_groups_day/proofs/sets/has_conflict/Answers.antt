@@ -1,11 +1,10 @@
 use Rattle.std.proofs.Common.{sym, ap, ◌∙◌, ◌&&◌, eq-eqb, ne_eqb}
 use Rattle.std.specs.Prelude.{slice_index}
-use Rattle.std.proofs.lemmas.Bool.{and_from}
+use Rattle.std.proofs.lemmas.Bool.{and_from, and_right}
 use Rattle.tt_lists.proofs.Below.{any_more}
 use Rattle.tt_lists.proofs.Numbers.{any_below}
 use Rattle.tt_instance_data.specs.Courses.{conflict}
 use Rattle.tt_groups_day.specs.Sets.{has_course}
-use Rattle.tt_groups_day.proofs.Choosing.{cut_right}
 use Rattle.tt_groups_day.proofs.sets.has_conflict.Goals as goal
 use Rattle.tt_groups_day.proofs.sets.has_conflict.Goals.{else-set-other-eq1-via-then-set-other-eq1+else-conflict, else-set-other-eq1-via-else-set-other-eq1}
 
@@ -25,7 +24,7 @@ loop-other-preserved c =
     any_more (λ i. has_course set i && conflict c.args.instance.now (slice_index cs c.args.number) (slice_index cs i)) j c.loop-other.invariant
     (elim c.else-set-other-eq1.branch [
       | else-set-other-eq1-via-then-set-other-eq1+else-conflict w ↦
-          cut_right (has_course set j) (conflict c.args.instance.now (slice_index cs c.args.number) (slice_index cs j)) (sym w.conflict.ensures ∙ w.if-conflict.false)
+          and_right (has_course set j) (conflict c.args.instance.now (slice_index cs c.args.number) (slice_index cs j)) (sym w.conflict.ensures ∙ w.if-conflict.false)
       | else-set-other-eq1-via-else-set-other-eq1 w ↦
           ap (λ b. b && conflict c.args.instance.now (slice_index cs c.args.number) (slice_index cs j)) (ne_eqb (slice_index set.courses j) 1 w.if-set-other-eq1.false)
     ])

@@ -9,9 +9,10 @@ use Rattle.tt_groups_week.specs.WeekLists.{IsHighList}
 use Rattle.tt_groups_week.specs.declared.moves.Move.{Move}
 use Rattle.tt_groups_week.proofs.Reaching.{IsReachedPlace, reached_first}
 use Rattle.tt_groups_week.proofs.Relaxing.{Relaxed}
-use Rattle.tt_groups_week.proofs.Suiting.{take_written, suits_start, suits_next, suits_end, suits_reached, suits_fails, low_at_first}
+use Rattle.tt_groups_week.proofs.Suiting.{suits_start, suits_next, suits_end, suits_reached, suits_fails, low_at_first}
 use Rattle.tt_groups_week.proofs.Weights.{places_positive}
 use Rattle.tt_groups_week.proofs.week.week_holds.Goals as goal
+use Rattle.tt_lists.proofs.Beginnings.{take_written}
 
 pub index_mut-requires : goal.index_mut-requires
 index_mut-requires c = omega (arith, c.in_ok-table.ensures.len, places_positive c.args.digits.now.sizes.items c.args.digits.now.are.some, c.args.digits.now.are.counted)

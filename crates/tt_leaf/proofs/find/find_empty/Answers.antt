@@ -3,8 +3,8 @@ use Rattle.std.proofs.lemmas.Option.{get_or_from_slice_get}
 use Rattle.tt_facts_path.specs.declared.facts.Fact.{Fact}
 use Rattle.tt_leaf_rules.specs.Leaves.{IsRight}
 use Rattle.tt_leaf_data.specs.declared.leaf.Leaf.TheVariants.{Empty}
-use Rattle.tt_leaf.proofs.Steps.{All_more, All_done}
 use Rattle.tt_leaf.proofs.find.find_empty.Goals as goal
+use Rattle.tt_lists.proofs.Beginnings.{All_more, All_done}
 
 pub loop-index-preserved : goal.loop-index-preserved
 loop-index-preserved g c =

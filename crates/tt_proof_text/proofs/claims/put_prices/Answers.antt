@@ -2,8 +2,9 @@ use Rattle.std.proofs.Common.{arith, refl}
 use Rattle.std.proofs.lemmas.Grind.{common_steps}
 use Rattle.tt_proof_text.specs.Numbers.{IsNarrowPair}
 use Rattle.tt_proof_text.specs.Written.{priced_pieces}
-use Rattle.tt_proof_text.proofs.TextLaws.{rows_written, All_more}
+use Rattle.tt_proof_text.proofs.TextLaws.{rows_written}
 use Rattle.tt_proof_text.proofs.claims.put_prices.Goals as goal
+use Rattle.tt_lists.proofs.Beginnings.{All_more}
 
 pub loop-number-preserved : goal.loop-number-preserved
 loop-number-preserved c = record {

@@ -3,8 +3,9 @@ use Rattle.std.proofs.lemmas.Result.{IfOk-equal}
 use Rattle.tt_proof_read.specs.Spelling.{course_piece}
 use Rattle.tt_proof_text.specs.Numbers.{IsNarrow}
 use Rattle.tt_proof_text.specs.Written.{tail_text}
-use Rattle.tt_proof_text.proofs.TextLaws.{pieces_written, pieces_behind, one_more, All_more}
+use Rattle.tt_proof_text.proofs.TextLaws.{pieces_written, pieces_behind, one_more}
 use Rattle.tt_proof_text.proofs.fields.put_courses.Goals as goal
+use Rattle.tt_lists.proofs.Beginnings.{All_more}
 
 pub loop-course-preserved : goal.loop-course-preserved
 loop-course-preserved c = record {

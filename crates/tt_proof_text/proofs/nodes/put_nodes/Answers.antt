@@ -1,8 +1,9 @@
 use Rattle.tt_text.specs.Lines.{line_text}
 use Rattle.tt_proof_text.specs.Numbers.{IsNarrowNode}
 use Rattle.tt_proof_text.specs.Written.{node_pieces}
-use Rattle.tt_proof_text.proofs.TextLaws.{lines_written, one_more, All_more}
+use Rattle.tt_proof_text.proofs.TextLaws.{lines_written, one_more}
 use Rattle.tt_proof_text.proofs.nodes.put_nodes.Goals as goal
+use Rattle.tt_lists.proofs.Beginnings.{All_more}
 
 pub loop-node-preserved : goal.loop-node-preserved
 loop-node-preserved c = record {
