@@ -25,6 +25,7 @@ use Rattle.tt_groups_day.specs.Choosing.{has_conflict, with_course, with_next, I
 use Rattle.tt_groups_day.specs.Sets.{has_course, IsWordOf, index_by, IsCourseSet, IsComplete}
 use Rattle.tt_groups_day.specs.declared.morning.CourseSet.{CourseSet}
 use Rattle.tt_bits.proofs.Growing.{has_bit-either}
+use Rattle.tt_groups_day.proofs.Starting.{zeros}
 
 -- a mapped element is in the mapped list
 member_map : {X Y : Type 0} (h : X → Y) (ys : List X) (x : X) → Contains ys x → Contains (map h ys) (h x)
@@ -222,18 +223,13 @@ module _ (p : Problem) (g : Group) (cs weights : List ℕ) (n met : ℕ) (below 
 
 -- ---- the list of all sets
 
-none_in : (n i : ℕ) → slice_index (replicate n 0) i ≡ 0
-none_in zero i = refl
-none_in (suc n) zero = refl
-none_in (suc n) (suc i) = none_in n i
-
 -- the set of no courses
 abbrev pub no_course_set : CourseSet
 no_course_set = record { courses = replicate 16 0; index = 0; curricula = 0 }
 
 module _ (p : Problem) (g : Group) (cs weights : List ℕ) where
   none_there : (i : ℕ) → slice_index (replicate 16 0) i ≡ 0
-  none_there i = none_in 16 i
+  none_there i = zeros 16 i
 
   pub first_choice : IsChoice p g cs weights 0 no_course_set
   first_choice = record {

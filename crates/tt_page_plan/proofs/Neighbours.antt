@@ -9,6 +9,7 @@ use Rattle.tt_instance_data.specs.Problem.{Problem}
 use Rattle.tt_instance_data.specs.Cells.{InRange, slot, slot_of, is_at, next_to}
 use Rattle.tt_instance_data.specs.declared.cell.Cell.{Cell}
 use Rattle.tt_page_plan.specs.Sides.{is_right_before, is_right_after}
+use Rattle.tt_lists.proofs.Twos.{neither as both_fail}
 
 -- a test that no element passes
 none_pass : {X : Type 0} (xs : List X) → list_any (λ x. false) xs ≡ false
@@ -28,10 +29,6 @@ parted true true false true = refl
 parted true true false false = refl
 parted true false a b = refl
 parted false d a b = refl
-
-both_fail : (a b : Bool) → not (a || b) ≡ (not a && not b)
-both_fail true b = refl
-both_fail false b = refl
 
 module _ (p : Problem) (chosen : Cell → Bool) (t : List Cell) (e : Cell) where
   -- no entry comes before the first period

@@ -12,8 +12,9 @@ use Rattle.tt_text.specs.Tokens.{is_separator, in_token, Placed, tokens_from}
 use Rattle.tt_text.specs.Feeds.{Fault, fault_from, ends_before, stop_of, stream_with, stream_from, with_token, stopped}
 use Rattle.tt_text.specs.Found.{AtGap, IsScan}
 use Rattle.tt_text.specs.declared.feed.FeedFault.TheVariants.{TokenTooLong, TooManyBytes}
-use Rattle.tt_text.proofs.Runs.{tokens-begins, ended}
+use Rattle.tt_text.proofs.Runs.{tokens-begins, ended, run_passes}
 use Rattle.tt_text.proofs.Written.{tokens-written, after_separator}
+use Rattle.tt_text.proofs.Places.{over_gap, all_run, nothing_more}
 
 -- -- the place of the fault
 
@@ -47,13 +48,6 @@ gap_fault most n (b ∷ g) xs all h =
     let more = gap_fault most (n + 1) g xs parts.1 (omega arith) in
     let same : (n + 1) + length g ≡ n + length (b ∷ g) = omega arith in
     first ∙ more ∙ ap (λ (m : ℕ). fault_from most m 0 xs) same
-
-gap_tokens : (n : ℕ) (g xs : List ℕ) → list_all is_separator g ≡ true → tokens_from false n (g ++ xs) ≡ tokens_from false (n + length g) xs
-gap_tokens n [] xs all = ap (λ (m : ℕ). tokens_from false m xs) (sym (add-zero n))
-gap_tokens n (b ∷ g) xs all =
-    let parts = and_parts (is_separator b) (list_all is_separator g) all in
-    let same : (n + 1) + length g ≡ n + length (b ∷ g) = omega arith in
-    after_separator n b (g ++ xs) parts.0 ∙ gap_tokens (n + 1) g xs parts.1 ∙ ap (λ (m : ℕ). tokens_from false m xs) same
 
 token_fault : (most n k : ℕ) (t xs : List ℕ) → list_all in_token t ≡ true → n + length t ≤ most → k + length t ≤ 32 → fault_from most n k (t ++ xs) ≡ fault_from most (n + length t) (k + length t) xs
 token_fault most n k [] xs all h s = ap (λ (m : ℕ). fault_from most m k xs) (sym (add-zero n)) ∙ ap (λ (m : ℕ). fault_from most (n + 0) m xs) (sym (add-zero k))
@@ -139,7 +133,7 @@ stream_is most n xs fault end ts a b c = ap (λ f. stream_with f (n + length xs)
 pub stream-gap : (most n : ℕ) (g xs : List ℕ) → list_all is_separator g ≡ true → n + length g ≤ most → stream_from most n (g ++ xs) ≡ stream_from most (n + length g) xs
 stream-gap most n g xs all h =
     let len : n + length (g ++ xs) ≡ (n + length g) + length xs = omega (arith, length-append g xs) in
-    stream_is most n (g ++ xs) _ _ _ (gap_fault most n g xs all h) len (gap_tokens n g xs all)
+    stream_is most n (g ++ xs) _ _ _ (gap_fault most n g xs all h) len (over_gap n g xs all)
     ∙ sym (stream_is most (n + length g) xs _ _ _ refl refl refl)
 
 pub stream-nothing : (most n : ℕ) → stream_from most n [] ≡ stopped (Ok n)
@@ -165,10 +159,6 @@ stream-token most n b t xs all some short h e =
     ∙ with_first fault end token (tokens_from false (m + 1) xs) intime
     ∙ ap (with_token token) (sym (stream_is most m (b ∷ xs) fault end _ after refl (after_separator m b xs e)))
 
-all_prefix : (t : List ℕ) → list_all in_token t ≡ true → prefix_len in_token t ≡ length t
-all_prefix [] all = refl
-all_prefix (b ∷ t) all = let parts = and_parts (in_token b) (list_all in_token t) all in rw parts.0 (ap (λ (m : ℕ). 1 + m) (all_prefix t parts.1) ∙ omega arith)
-
 take_length : (t : List ℕ) → take (length t) t ≡ t
 take_length [] = refl
 take_length (b ∷ t) = ap (λ l. b ∷ l) (take_length t)
@@ -177,13 +167,9 @@ drop_length : (t : List ℕ) → drop (length t) t ≡ []
 drop_length [] = refl
 drop_length (b ∷ t) = drop_length t
 
-nothing_more : (n : ℕ) → tokens_from false n [] ≡ []
-unfolding tokens_from
-nothing_more n = refl
-
 tokens-last : (n : ℕ) (t : List ℕ) → list_all in_token t ≡ true → 0 < length t → tokens_from false n t ≡ record { text = t; at = n } ∷ []
 tokens-last n t all some =
-    let len = all_prefix t all in
+    let len = all_run t all in
     tokens-begins n t (omega (arith, len, some)) ∙ rw (len, take_length t, drop_length t, nothing_more (n + length t)) refl
 
 -- a token at the end of the bytes
@@ -243,18 +229,6 @@ stream-past most n b t xs all short here =
 
 -- ---- a scan
 
-all_prefix_of : (p : ℕ → Bool) (xs : List ℕ) → list_all p (take (prefix_len p xs) xs) ≡ true
-all_prefix_of p [] = refl
-all_prefix_of p (x ∷ xs) = all_step p x xs (p x) refl (all_prefix_of p xs)
-  where
-    all_step : (p : ℕ → Bool) (x : ℕ) (xs : List ℕ) (v : Bool) → p x ≡ v → list_all p (take (prefix_len p xs) xs) ≡ true → list_all p (take (prefix_len p (x ∷ xs)) (x ∷ xs)) ≡ true
-    all_step p x xs true e h =
-        let n : prefix_len p (x ∷ xs) ≡ suc (prefix_len p xs) = rw e (omega arith) in
-        ap (λ (m : ℕ). list_all p (take m (x ∷ xs))) n ∙ rw e h
-    all_step p x xs false e h =
-        let n : prefix_len p (x ∷ xs) ≡ zero = rw e refl in
-        ap (λ (m : ℕ). list_all p (take m (x ∷ xs))) n
-
 stops_step : (n b : ℕ) (bs : List ℕ) (v : Bool) → is_separator b ≡ v → prefix_len in_token (b ∷ take n bs) < suc n
     → (prefix_len in_token (take n bs) < n → AtGap (drop (prefix_len in_token (take n bs)) bs)) → AtGap (drop (prefix_len in_token (b ∷ take n bs)) (b ∷ bs))
 stops_step n b bs true e h more =
@@ -286,11 +260,11 @@ scan_is bytes begun front gap most len gap_is gap_le begun_is most_is front_is l
     let size : length front ≡ min 33 (length begun) = ap length front33 ∙ length-take 33 begun in
     let run : len ≡ prefix_len in_token (take 33 begun) = len_is ∙ ap (prefix_len in_token) front33 in
     let within_front : take len begun ≡ take len (take 33 begun) = sym (take-take len 33 begun (omega arith)) in
-    let whole : list_all in_token (take len (take 33 begun)) ≡ true = rw run (all_prefix_of in_token (take 33 begun)) in
+    let whole : list_all in_token (take len (take 33 begun)) ≡ true = rw run (run_passes in_token (take 33 begun)) in
     record {
       within = omega arith;
       at_most = omega arith;
-      separators = rw gap_is (all_prefix_of is_separator bytes);
+      separators = rw gap_is (run_passes is_separator bytes);
       token = ap (λ (l : List ℕ). list_all in_token (take len l)) (sym begun_is) ∙ ap (list_all in_token) within_front ∙ whole;
       stops = λ (s : len ≤ 32). subst AtGap (drop-drop len gap bytes) (subst (λ (l : List ℕ). AtGap (drop len l)) begun_is (subst (λ (m : ℕ). AtGap (drop m begun)) (sym run) (run_stops 33 begun (omega (arith, s, run)))));
       begins = λ (s : len ≡ 0).
@@ -340,7 +314,7 @@ plain_scan_is bytes gap end gap_is end_is more short after =
     record {
       within = omega arith;
       at_most = omega arith;
-      separators = rw gap_is (all_prefix_of is_separator bytes);
+      separators = rw gap_is (run_passes is_separator bytes);
       token = rw len_is (plain_run (drop gap bytes));
       stops = λ (s : end - gap ≤ 32). at_gap;
       begins = λ (s : end - gap ≡ 0).

@@ -11,21 +11,21 @@ use Rattle.tt_text.proofs.Written.{after_separator, tokens-written}
 
 -- -- each token of a text is read
 
-over_gap : (at : ℕ) (gap rest : List ℕ) → list_all is_separator gap ≡ true → tokens_from false at (gap ++ rest) ≡ tokens_from false (at + length gap) rest
+pub over_gap : (at : ℕ) (gap rest : List ℕ) → list_all is_separator gap ≡ true → tokens_from false at (gap ++ rest) ≡ tokens_from false (at + length gap) rest
 over_gap at [] rest all = ap (λ (n : ℕ). tokens_from false n rest) (sym (add-zero at))
 over_gap at (s ∷ gap) rest all =
     let h = and_parts (is_separator s) (list_all is_separator gap) all in
     let same : at + 1 + length gap ≡ at + suc (length gap) = omega arith in
     after_separator at s (gap ++ rest) h.0 ∙ over_gap (at + 1) gap rest h.1 ∙ ap (λ (n : ℕ). tokens_from false n rest) same
 
-nothing_more : (at : ℕ) → tokens_from false at [] ≡ []
+pub nothing_more : (at : ℕ) → tokens_from false at [] ≡ []
 unfolding tokens_from
 nothing_more at = refl
 
 only_gap : (at : ℕ) (gap : List ℕ) → list_all is_separator gap ≡ true → tokens_from false at gap ≡ []
 only_gap at gap all = ap (tokens_from false at) (sym (append-nil gap)) ∙ over_gap at gap [] all ∙ nothing_more (at + length gap)
 
-all_run : (text : List ℕ) → list_all in_token text ≡ true → prefix_len in_token text ≡ length text
+pub all_run : (text : List ℕ) → list_all in_token text ≡ true → prefix_len in_token text ≡ length text
 all_run [] all = refl
 all_run (b ∷ bs) all =
     let h = and_parts (in_token b) (list_all in_token bs) all in
