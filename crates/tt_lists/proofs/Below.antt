@@ -8,6 +8,8 @@ use Rattle.tt_lists.specs.Words.{range_below}
 use Rattle.tt_lists.proofs.Numbers.{any_below}
 use Rattle.std.specs.Prelude.{All, filter}
 use Rattle.std.proofs.Math.Bool.{and-true}
+use Rattle.std.proofs.lemmas.List.Elements.{filter-append}
+use Rattle.std.proofs.lemmas.List.{append-nil}
 
 pub range_below_more : (i : ℕ) → range_below (i + 1) ≡ range_below i ++ i ∷ []
 range_below_more i =
