@@ -15,7 +15,6 @@ use Rattle.tt_occupancy_tallies.specs.Bag.{SameBag}
 use Rattle.tt_occupancy_tallies.proofs.Bags.{bag_any, bag_pairs}
 use Rattle.tt_lists.proofs.Truth.{same_truth}
 
-]
 
 pub collide-sym : (p : Problem) (x y : Cell) → collide p x y ≡ collide p y x
 collide-sym p x y = same_truth (collide p x y) (collide p y x) (collide-turn p x y) (collide-turn p y x)
