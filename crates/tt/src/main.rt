@@ -3,9 +3,19 @@
 
 use std::io::{ErrorKind, Write};
 use std::process::ExitCode;
-use std::rt::Env;
-use std::{env, io};
+use std::rt::{Env, Files};
+use std::{env, fs, io};
 use tt_app_answers::AppFault;
+
+/// A folder that every system has.
+const ROOT: &str = "/";
+
+/// Opens a folder three times. A file that is opened gets the lowest number that is free, so these get the numbers of the standard streams that
+/// are closed, and no file of a command gets what is printed. Nothing can be read from them or written to them.
+fn hold_numbers<R: Files>(rt: &R) -> [Option<R::File>; 3] {
+    let open = || fs::open(rt, ROOT).ok();
+    [open(), open(), open()]
+}
 
 /// Returns the words of the command line, without the program's own name.
 fn words<R: Env + AllocGlobal>(rt: &R) -> io::Result<Vec<String>> {
@@ -26,9 +36,11 @@ fn refused<E: Write>(fault: io::Error, err: &mut E) -> u8 {
 }
 
 fn main(rt: HostRuntime) -> ExitCode {
+    let held = hold_numbers(&rt);
     let status = match words(&rt) {
         Ok(words) => tt_app_run::run(&rt, &words, &mut rt.stdout(), &mut rt.stderr()),
         Err(fault) => refused(fault, &mut rt.stderr()),
     };
+    drop(held);
     ExitCode::from(status)
 }
