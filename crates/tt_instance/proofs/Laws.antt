@@ -8,7 +8,6 @@ use Rattle.tt_instance_data.specs.Spelling.{Spells}
 use Rattle.tt_text.proofs.Steps.{ok_is}
 pub use Rattle.tt_instance.proofs.TokenLaws.{spelled_instance, is_instance}
 pub use Rattle.tt_instance.proofs.WholeLaws.{is_spelled, is_read}
-pub use Rattle.tt_instance.proofs.WrittenLaws.{written_again}
 
 -- the instance that a reader returns is spelled by the bytes
 pub found_in : (bytes : List ℕ) (r : Result Problem InstanceFault) → Gives (λ i. i) r (instance_of bytes) → IfOk r (λ p. Spells bytes p)

@@ -17,8 +17,6 @@ pub mod RoomLaws
 pub mod SectionLaws
 pub mod SeriesLaws
 pub mod Steps
-pub mod Texts
 pub mod TokenLaws
 pub mod UnavailabilityLaws
 pub mod WholeLaws
-pub mod WrittenLaws

@@ -2,7 +2,6 @@ pub mod Beginnings
 pub mod Counted
 pub mod Reading
 pub mod Words
-pub mod Writing
 pub use Rattle.tt_instance_data.specs.Cells
 pub use Rattle.tt_instance_data.specs.Courses
 pub use Rattle.tt_instance_data.specs.Limits

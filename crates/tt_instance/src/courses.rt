@@ -8,7 +8,9 @@ ghost use Rattle.tt_instance_data.specs.Seen.{courses_seen};
 use crate::fault::InstanceFault;
 use crate::fields::{read_limited, read_token};
 use std::alloc::Global;
-use tt_instance_data::{CourseList, CourseRow, MAX_LECTURES, MAX_MIN_DAYS, MAX_SEATS, Names};
+use tt_instance_data::{
+    CourseList, CourseRow, MAX_LECTURES, MAX_MIN_DAYS, MAX_SEATS, NameHasher, Names,
+};
 use tt_text::Tokens;
 
 /// Reads another course after those of the list.
@@ -51,6 +53,7 @@ pub fn read_courses<'a>(
     alloc: Global,
     tokens: &mut Tokens<'a>,
     end: usize,
+    hasher: NameHasher,
     count: u32,
 ) -> Result<CourseList<'a>, InstanceFault>
     requires { count < 2 ^ 31 }
@@ -61,8 +64,8 @@ pub fn read_courses<'a>(
 {
     let mut list = CourseList {
         rows: Vec::new(alloc),
-        ids: Names::new(alloc),
-        teachers: Names::new(alloc),
+        ids: Names::new(alloc, hasher),
+        teachers: Names::new(alloc, hasher),
         lectures: 0,
     };
     for _ in 0..count {

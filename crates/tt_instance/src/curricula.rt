@@ -8,7 +8,9 @@ ghost use Rattle.tt_instance_data.specs.Seen.{curricula_seen};
 use crate::fault::InstanceFault;
 use crate::fields::{read_course_name, read_limited, read_token};
 use std::alloc::Global;
-use tt_instance_data::{CurriculumList, CurriculumRow, MAX_MEMBERS, Marks, MemberList, Names};
+use tt_instance_data::{
+    CurriculumList, CurriculumRow, MAX_MEMBERS, Marks, MemberList, NameHasher, Names,
+};
 use tt_text::Tokens;
 
 /// Reads another member and adds it if it is new.
@@ -90,6 +92,7 @@ pub fn read_curricula<'a>(
     tokens: &mut Tokens<'a>,
     end: usize,
     ids: &Names<'_>,
+    hasher: NameHasher,
     count: u32,
 ) -> Result<CurriculumList<'a>, InstanceFault>
     requires { length ids.now < 2 ^ 32 }
@@ -99,7 +102,7 @@ pub fn read_curricula<'a>(
 {
     let mut list = CurriculumList {
         rows: Vec::new(alloc),
-        ids: Names::new(alloc),
+        ids: Names::new(alloc, hasher),
     };
     for _ in 0..count {
         read_curriculum(alloc, tokens, end, ids, &mut list)?;

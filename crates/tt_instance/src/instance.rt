@@ -1,16 +1,14 @@
-//! Reads an instance, and writes it.
+//! Reads an instance.
 
 ghost use Rattle.std.specs.Prelude.{◌≡◌, IfOk, Ok};
 ghost use Rattle.tt_instance_data.specs.Problem.{Problem};
 ghost use Rattle.tt_instance_data.specs.Spelling.{Spells};
 ghost use Rattle.tt_instance.specs.Reading.{Gives, instance_of};
-ghost use Rattle.tt_instance.specs.Writing.{instance_text};
 
 use crate::conflicts::conflict_rows;
 use crate::fault::InstanceFault;
 use crate::parts::read_parts;
-use crate::writing::write_parts;
-use std::alloc::{AllocError, Global};
+use std::alloc::Global;
 use tt_instance_data::Instance;
 
 /// Reads the instance and its tables.
@@ -36,12 +34,4 @@ pub fn read_instance<'a>(alloc: Global, bytes: &'a [u8]) -> Result<Instance<'a>,
     ensures one { (p q : Problem) → Spells bytes.now p → Spells bytes.now q → p ≡ q }
 {
     read_all(alloc, bytes)
-}
-
-/// Returns the canonical text of an instance: `read_instance` of it gives this instance again.
-pub fn write_instance(alloc: Global, instance: &Instance<'_>) -> Result<Vec<u8>, AllocError>
-    ensures text { IfOk result (λ t. t.items ≡ instance_text instance.now) }
-    ensures again { IfOk result (λ t. Spells t.items instance.now) }
-{
-    write_parts(alloc, instance.parts())
 }

@@ -12,11 +12,10 @@ mod instance;
 mod parts;
 mod rooms;
 mod unavailabilities;
-mod writing;
 
 pub use fault::{InstanceFault, Word};
 pub use faulty::faulty_beginnings_spell_none;
-pub use instance::{read_instance, write_instance};
+pub use instance::read_instance;
 pub use tt_instance_data::{
     Cell, Instance, MAX_CELLS, MAX_COURSES, MAX_CURRICULA, MAX_DAYS, MAX_LECTURES, MAX_MEMBERS,
     MAX_MIN_DAYS, MAX_PERIODS, MAX_ROOMS, MAX_SEATS, MAX_SLOTS, MAX_UNAVAILABILITIES, Slot,

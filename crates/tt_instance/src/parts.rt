@@ -15,7 +15,7 @@ use crate::rooms::read_rooms;
 use crate::unavailabilities::read_unavailabilities;
 use std::alloc::Global;
 use tt_instance_data::{
-    CourseList, CurriculumList, MAX_COURSES, MAX_PERIODS, Names, Parts, RoomList,
+    CourseList, CurriculumList, MAX_COURSES, MAX_PERIODS, NameHasher, Names, Parts, RoomList,
     UnavailabilityList,
 };
 use tt_text::Tokens;
@@ -26,6 +26,7 @@ fn read_places<'a>(
     alloc: Global,
     tokens: &mut Tokens<'a>,
     end: usize,
+    hasher: NameHasher,
     header: Header,
 ) -> Result<(CourseList<'a>, RoomList<'a>), InstanceFault>
     requires { header.courses ≤ MAX_COURSES }
@@ -37,9 +38,9 @@ fn read_places<'a>(
     ensures at_most { IfOk result (λ s. length s.0.ids ≤ MAX_COURSES) }
 {
     read_word(tokens, end, Word::CoursesPart)?;
-    let courses = read_courses(alloc, tokens, end, header.courses)?;
+    let courses = read_courses(alloc, tokens, end, hasher, header.courses)?;
     read_word(tokens, end, Word::RoomsPart)?;
-    let rooms = read_rooms(alloc, tokens, end, header.rooms)?;
+    let rooms = read_rooms(alloc, tokens, end, hasher, header.rooms)?;
     Ok((courses, rooms))
 }
 
@@ -50,6 +51,7 @@ fn read_groups<'a>(
     tokens: &mut Tokens<'a>,
     end: usize,
     ids: &Names<'_>,
+    hasher: NameHasher,
     header: Header,
 ) -> Result<(CurriculumList<'a>, UnavailabilityList), InstanceFault>
     requires at_most { length ids.now < 2 ^ 32 }
@@ -63,7 +65,7 @@ fn read_groups<'a>(
     ensures unavailabilities { IfOk result (λ s. IsBarred (length ids.now) header.days s.1) }
 {
     read_word(tokens, end, Word::CurriculaPart)?;
-    let curricula = read_curricula(alloc, tokens, end, ids, header.curricula)?;
+    let curricula = read_curricula(alloc, tokens, end, ids, hasher, header.curricula)?;
     read_word(tokens, end, Word::UnavailabilityPart)?;
     let unavailabilities = read_unavailabilities(alloc, tokens, end, ids, header)?;
     read_word(tokens, end, Word::End)?;
@@ -81,8 +83,16 @@ pub fn read_parts<'a>(alloc: Global, bytes: &'a [u8]) -> Result<Parts<'a>, Insta
     read_word(&mut tokens, end, Word::Name)?;
     let name = read_name(alloc, &mut tokens, end)?;
     let header = read_header(&mut tokens, end)?;
-    let (courses, rooms) = read_places(alloc, &mut tokens, end, header)?;
-    let (curricula, unavailabilities) = read_groups(alloc, &mut tokens, end, &courses.ids, header)?;
+    let hasher = NameHasher::keyed_by(bytes);
+    let (courses, rooms) = read_places(alloc, &mut tokens, end, hasher, header)?;
+    let (curricula, unavailabilities) = read_groups(
+        alloc,
+        &mut tokens,
+        end,
+        &courses.ids,
+        hasher,
+        header,
+    )?;
     Ok(Parts {
         name,
         days: header.days,

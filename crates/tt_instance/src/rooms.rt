@@ -8,7 +8,7 @@ ghost use Rattle.tt_instance_data.specs.Seen.{rooms_seen};
 use crate::fault::InstanceFault;
 use crate::fields::{read_limited, read_token};
 use std::alloc::Global;
-use tt_instance_data::{MAX_SEATS, Names, RoomList, RoomRow};
+use tt_instance_data::{MAX_SEATS, NameHasher, Names, RoomList, RoomRow};
 use tt_text::Tokens;
 
 /// Reads another room after those of the list.
@@ -40,6 +40,7 @@ pub fn read_rooms<'a>(
     alloc: Global,
     tokens: &mut Tokens<'a>,
     end: usize,
+    hasher: NameHasher,
     count: u32,
 ) -> Result<RoomList<'a>, InstanceFault>
     ensures read { Gives (λ l. (rooms_seen l.rows.items, tokens.new)) result
@@ -48,7 +49,7 @@ pub fn read_rooms<'a>(
 {
     let mut list = RoomList {
         rows: Vec::new(alloc),
-        ids: Names::new(alloc),
+        ids: Names::new(alloc, hasher),
     };
     for _ in 0..count {
         read_room(tokens, end, &mut list)?;

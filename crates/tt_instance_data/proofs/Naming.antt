@@ -1,15 +1,44 @@
--- The numbers of names: the places at which a list has them.
-use Rattle.std.proofs.Common.{◌≡◌, ℕ, ◌+◌, ◌≤◌, ◌<◌, eqb, ltb, arith, Bool, true, false, cond, List, [], ◌∷◌, ◌++◌, length, Option, Some, None, IfSome, is_some, not, inl, inr, refl, sym, ap, subst, ◌∙◌}
+-- Names behind references are the names that a contract sees.
+use Rattle.std.proofs.Common.{◌≡◌, ℕ, ◌+◌, ◌≤◌, ◌<◌, eqb, ltb, arith, Bool, true, false, cond, nat_eq, List, [], ◌∷◌, ◌++◌, map, length, Some, Bor, refl, sym, ap, subst, ◌∙◌}
+use Rattle.std.specs.Prelude.{position}
 use Rattle.std.specs.List.{list_any, position_or_len}
-use Rattle.std.specs.Cmp.Lexicographic.{same_text}
-use Rattle.std.proofs.lemmas.List.{length-append}
+use Rattle.std.specs.Cmp.Lexicographic.{pointwise}
+use Rattle.std.proofs.lemmas.List.{map_push, length-map, length-append}
 use Rattle.std.proofs.lemmas.List.Folds.{position_or_len_push}
-use Rattle.std.proofs.lemmas.List.Sums.{prefix_len-le-length}
-use Rattle.std.proofs.lemmas.Bool.{ltb-true, ltb-false, lt-ltb, le-ltb, ne_eqb, eq-eqb, cases_lt}
+use Rattle.std.proofs.lemmas.Bool.{ltb-true, lt-ltb, ne_eqb}
 use Rattle.std.proofs.lemmas.Bool.Decides.{nat_tests}
 use Rattle.std.proofs.lemmas.Cmp.{nat_list_eq_equiv}
 use Rattle.std.proofs.lemmas.Option.{cond_some}
+use Rattle.indexmap.specs.IndexSet.{insert_key}
 use Rattle.tt_text.specs.Texts.{is_text, has_name, index_of_name, with_name}
+
+-- whether the text behind a reference is this one
+abbrev pub is_behind : List ℕ → Bor (List ℕ) → Bool
+is_behind name k = pointwise nat_eq name k.now
+
+-- whether one of the references has this name behind it
+pub any_behind : (name : List ℕ) (ks : List (Bor (List ℕ))) → list_any (is_behind name) ks ≡ has_name (map (λ k. k.now) ks) name
+any_behind name [] = refl
+any_behind name (k ∷ ks) = rw (any_behind name ks) refl
+
+-- the first reference that has this name behind it
+first_behind : (name : List ℕ) (ks : List (Bor (List ℕ))) → position_or_len (is_behind name) ks ≡ position_or_len (is_text name) (map (λ k. k.now) ks)
+first_behind name [] = refl
+first_behind name (k ∷ ks) = rw (first_behind name ks) refl
+
+-- the number of a name
+pub position_behind : (name : List ℕ) (ks : List (Bor (List ℕ))) → position (is_behind name) ks ≡ index_of_name (map (λ k. k.now) ks) name
+position_behind name ks = let same : length (map (λ (k : Bor (List ℕ)). k.now) ks) ≡ length ks = simp length-map in rw (first_behind name ks, same) refl
+
+-- the names after a reference is inserted, for both cases: its name was present or not
+names_put : (name : Bor (List ℕ)) (ks : List (Bor (List ℕ))) (v : Bool) → list_any (is_behind name.now) ks ≡ v
+    → map (λ k. k.now) (cond v ks (ks ++ name ∷ [])) ≡ cond v (map (λ k. k.now) ks) (map (λ k. k.now) ks ++ name.now ∷ [])
+names_put name ks true e = refl
+names_put name ks false e = map_push (λ (k : Bor (List ℕ)). k.now) ks name
+
+-- the names after a reference is inserted
+pub names_with : (name : Bor (List ℕ)) (ks : List (Bor (List ℕ))) → map (λ k. k.now) (insert_key (λ x y. pointwise nat_eq x.now y.now) ks name) ≡ with_name (map (λ k. k.now) ks) name.now
+names_with name ks = names_put name ks (list_any (is_behind name.now) ks) refl ∙ ap (λ (v : Bool). cond v (map (λ k. k.now) ks) (map (λ k. k.now) ks ++ name.now ∷ [])) (any_behind name.now ks)
 
 -- the length in both cases: the name was present or not
 longer : (v : Bool) (names : List (List ℕ)) (name : List ℕ) → length (cond v names (names ++ name ∷ [])) ≤ length names + 1
@@ -39,6 +68,14 @@ first_with false name names = first_push name names
 pub index_is : (names : List (List ℕ)) (name : List ℕ) (i : ℕ) → i < length names → position_or_len (is_text name) names ≡ i → index_of_name names name ≡ Some i
 index_is names name i lt is = rw (is, lt-ltb i (length names) lt) refl
 
+-- the number that a set of names gives to a name that it inserts
+pub number_behind : (name : Bor (List ℕ)) (ks new : List (Bor (List ℕ))) (i : ℕ) → map (λ k. k.now) new ≡ with_name (map (λ k. k.now) ks) name.now → i < length new
+    → i ≡ position_or_len (is_behind name.now) ks → index_of_name (map (λ k. k.now) new) name.now ≡ Some i
+number_behind name ks new i are lt is =
+    let old : List (List ℕ) = map (λ k. k.now) ks in
+    index_is (map (λ k. k.now) new) name.now i (omega (arith, length-map new (λ (k : Bor (List ℕ)). k.now)))
+    (ap (position_or_len (is_text name.now)) are ∙ first_with (has_name old name.now) name.now old ∙ sym (first_behind name.now ks) ∙ sym is)
+
 -- the first place after another name is inserted, for both cases: that name was present or not
 first_stays : (v : Bool) (names : List (List ℕ)) (name other : List ℕ) (i : ℕ) → i < length names → position_or_len (is_text name) names ≡ i
     → (i < length (cond v names (names ++ other ∷ []))) × (position_or_len (is_text name) (cond v names (names ++ other ∷ [])) ≡ i)
@@ -59,101 +96,3 @@ index_of_name-with_name names name other i is =
     let h = index_parts names name i is in
     let k = first_stays (has_name names other) names name other i h.0 h.1 in
     index_is (with_name names other) name i k.0 k.1
-
--- ---- whether a name is in the list
-
--- an element passes exactly if the first place that passes is within the list; one element more
-any_at : {X : Type 0} (p : X → Bool) (x : X) (xs : List X) (v : Bool) → p x ≡ v → list_any p xs ≡ ltb (position_or_len p xs) (length xs)
-    → list_any p (x ∷ xs) ≡ ltb (position_or_len p (x ∷ xs)) (length (x ∷ xs))
-any_at p x xs true e before =
-    let own : list_any p (x ∷ xs) ≡ true = rw e refl in
-    let place : position_or_len p (x ∷ xs) ≡ 0 = rw e refl in
-    own ∙ sym (lt-ltb (position_or_len p (x ∷ xs)) (length (x ∷ xs)) (omega (arith, place)))
-any_at p x xs false e before =
-    let own : list_any p (x ∷ xs) ≡ list_any p xs = rw e refl in
-    let place : position_or_len p (x ∷ xs) ≡ 1 + position_or_len p xs = rw e refl in
-    own ∙ before ∙ shifted (position_or_len p xs) (length xs) (position_or_len p (x ∷ xs)) (length (x ∷ xs)) place (omega arith)
-  where
-    shifted : (a b m n : ℕ) → m ≡ 1 + a → n ≡ 1 + b → ltb a b ≡ ltb m n
-    shifted a b m n m_is n_is = elim (cases_lt a b) [
-      | inl lt ↦ lt-ltb a b lt ∙ sym (lt-ltb m n (omega (arith, lt, m_is, n_is)))
-      | inr le ↦ le-ltb a b le ∙ sym (le-ltb m n (omega (arith, le, m_is, n_is)))
-    ]
-
-any_place : {X : Type 0} (p : X → Bool) (xs : List X) → list_any p xs ≡ ltb (position_or_len p xs) (length xs)
-any_place p [] = refl
-any_place p (x ∷ xs) = any_at p x xs (p x) refl (any_place p xs)
-
--- a name is in the list exactly if it has a number
-pub has_number : (names : List (List ℕ)) (name : List ℕ) → has_name names name ≡ is_some (index_of_name names name)
-has_number names name = any_place (is_text name) names ∙ both (ltb (position_or_len (is_text name) names) (length names)) (position_or_len (is_text name) names)
-  where
-    both : (v : Bool) (i : ℕ) → v ≡ is_some (cond v (Some i) None)
-    both true i = refl
-    both false i = refl
-
--- a name that is in the list isn't added
-pub known : (names : List (List ℕ)) (name : List ℕ) (v : Bool) → has_name names name ≡ v → v ≡ true → names ≡ with_name names name
-known names name true e h = rw e refl
-known names name false e h = absurd cc
-
--- a new name is added at the end
-pub added : (names : List (List ℕ)) (name : List ℕ) → has_name names name ≡ false → with_name names name ≡ names ++ name ∷ []
-added names name e = rw e refl
-
--- the number of a name is below the length of the list
-pub number_within : (names : List (List ℕ)) (name : List ℕ) (r : Option ℕ) → r ≡ index_of_name names name → IfSome r (λ i. i < length names)
-number_within names name None is = tt
-number_within names name (Some i) is = (index_parts names name i (sym is)).0
-
--- ---- a name that is added at the end
-
--- the first place of a name that isn't in the list
-last_place : (names : List (List ℕ)) (name : List ℕ) → has_name names name ≡ false → position_or_len (is_text name) names ≡ length names
-last_place names name new = omega (
-  arith,
-  ltb-false (position_or_len (is_text name) names) (length names) (sym (any_place (is_text name) names) ∙ new),
-  prefix_len-le-length (λ x. not (is_text name x)) names,
-)
-
--- the numbers of names after a new one was added, for both cases: it is the name or another
-added_number : (names : List (List ℕ)) (key name : List ℕ) (v : Bool) → has_name names key ≡ false → is_text key name ≡ v
-    → cond v (Some (length names)) (index_of_name names name) ≡ index_of_name (names ++ key ∷ []) name
-added_number names key name true new e =
-    let same : key ≡ name = same_text key name (sym e) in
-    let place : position_or_len (is_text key) (names ++ key ∷ []) ≡ length names = first_push key names ∙ last_place names key new in
-    sym (ap (index_of_name (names ++ key ∷ [])) (sym same) ∙ index_is (names ++ key ∷ []) key (length names) (omega (arith, length-append names (key ∷ []))) place)
-added_number names key name false new e =
-    let apart : is_text name key ≡ false = sym (nat_list_eq_equiv.symm key name) ∙ e in
-    after (position_or_len (is_text name) names) refl apart
-  where
-    after : (k : ℕ) → position_or_len (is_text name) names ≡ k → is_text name key ≡ false → index_of_name names name ≡ index_of_name (names ++ key ∷ []) name
-    after k is apart = elim (cases_lt k (length names)) [
-      | inl lt ↦
-          let n = first_stays false names name key k lt is in
-          index_is names name k lt is ∙ sym (index_is (names ++ key ∷ []) name k n.0 n.1)
-      | inr le ↦
-          let here : eqb (position_or_len (is_text name) names) (length names) ≡ true = eq-eqb _ _ (omega (arith, is, le, prefix_len-le-length (λ x. not (is_text name x)) names)) in
-          let there : position_or_len (is_text name) (names ++ key ∷ []) ≡ length names + 1 =
-          position_or_len_push (is_text name) names key ∙ rw (here, apart) refl in
-          rw (
-            le-ltb (position_or_len (is_text name) names) (length names) (omega (arith, is, le)),
-            le-ltb (position_or_len (is_text name) (names ++ key ∷ [])) (length (names ++ key ∷ [])) (omega (arith, there, length-append names (key ∷ []))),
-          ) refl
-    ]
-
--- the numbers of names after a new one was added
-pub number_added : (names : List (List ℕ)) (key name : List ℕ) → has_name names key ≡ false
-    → cond (is_text key name) (Some (length names)) (index_of_name names name) ≡ index_of_name (names ++ key ∷ []) name
-number_added names key name new = added_number names key name (is_text key name) new refl
-
--- the number of a new name
-pub own_number : (names : List (List ℕ)) (name : List ℕ) → has_name names name ≡ false → index_of_name (names ++ name ∷ []) name ≡ Some (length names)
-own_number names name new = sym (added_number names name name true new (nat_list_eq_equiv.refl name))
-
--- the same, where the numbers before and after are read from a table
-pub number_after : (names : List (List ℕ)) (key name : List ℕ) (n : ℕ) (old new : Option ℕ) (v : Bool) → new ≡ cond v (Some n) old → v ≡ is_text key name → old ≡ index_of_name names name
-    → n ≡ length names → has_name names key ≡ false → new ≡ index_of_name (names ++ key ∷ []) name
-number_after names key name n old new v is own before last fresh =
-    is ∙ ap (λ (b : Bool). cond b (Some n) old) own ∙ ap (λ (r : Option ℕ). cond (is_text key name) (Some n) r) before
-    ∙ ap (λ (k : ℕ). cond (is_text key name) (Some k) (index_of_name names name)) last ∙ number_added names key name fresh

@@ -3,9 +3,9 @@ pub mod Cells
 pub mod Columns
 pub mod Courses
 pub mod Flags
+pub mod Hashing
 pub mod Indexed
 pub mod Limits
-pub mod Numbers
 pub mod Problem
 pub mod Seen
 pub mod Spelling

@@ -6,6 +6,7 @@ mod cell;
 mod instance;
 mod limit;
 mod marks;
+mod name_hasher;
 mod names;
 mod parts;
 mod rows;
@@ -18,6 +19,7 @@ pub use limit::{
     MAX_PERIODS, MAX_ROOMS, MAX_SEATS, MAX_SLOTS, MAX_UNAVAILABILITIES,
 };
 pub use marks::Marks;
+pub use name_hasher::NameHasher;
 pub use names::Names;
 pub use parts::Parts;
 pub use rows::{

@@ -1,39 +1,34 @@
 //! Names, numbered in the order in which they first appear.
 
-ghost use Rattle.std.specs.Prelude.{◌≡◌, ◌+◌, ◌<◌, ◌≤◌, not, false, length, slice_get, Some, [], IfOk, IfSome, OnErr, OnOk};
+ghost use Rattle.std.specs.Prelude.{◌≡◌, ◌+◌, ◌<◌, ◌≤◌, not, length, slice_get, Some, [], IfOk, IfSome, OnErr, OnOk};
 ghost use Rattle.tt_text.specs.Texts.{has_name, index_of_name, with_name};
 
+use crate::name_hasher::NameHasher;
+use indexmap::IndexSet;
 use std::alloc::{AllocError, Global};
-use std::collections::BTreeMap;
 use std::marker::Model;
 
-/// Different names, in the order in which they first appeared, and the number of each. A tree and no hashes: no choice of names makes a
-/// search slow.
+/// Different names, in the order in which they first appeared, and the number of each.
 #[derive(Drop)]
 pub struct Names<'a> {
-    names: Vec<&'a [u8]>,
-    numbers: BTreeMap<&'a [u8], usize>,
+    set: IndexSet<&'a [u8], NameHasher>,
 }
 
 impl<'a> Model for Names<'a> {
-    ghost use Rattle.std.specs.Prelude.{List, ℕ};
-    ghost use Rattle.tt_instance_data.specs.Numbers.{names_seen, AreNumbers};
+    ghost use Rattle.std.specs.Prelude.{List, ℕ, map};
 
     ghost Value = { List (List ℕ) };
 
-    ghost view = { λ a. names_seen a.names.items };
-
-    ghost invariant = { λ a. AreNumbers (names_seen a.names.items) a.numbers };
+    ghost view = { λ a. map (λ k. k.now) a.set.keys };
 }
 
 impl<'a> Names<'a> {
-    /// Creates an empty list of names.
-    pub fn new(alloc: Global) -> Self
+    /// Creates an empty list of names, which are found by these hashes.
+    pub fn new(alloc: Global, hasher: NameHasher) -> Self
         ensures { result ≡ [] }
     {
         Names {
-            names: Vec::new(alloc),
-            numbers: BTreeMap::new(alloc),
+            set: IndexSet::with_hasher(alloc, hasher),
         }
     }
 
@@ -41,7 +36,7 @@ impl<'a> Names<'a> {
     pub fn len(&self) -> usize
         ensures { result ≡ length self.now }
     {
-        self.names.len()
+        self.set.len()
     }
 
     /// Returns the number of a name.
@@ -49,7 +44,7 @@ impl<'a> Names<'a> {
         ensures index { result ≡ index_of_name self.now name.now }
         ensures within { IfSome result (λ i. i < length self.now) }
     {
-        self.numbers.get(name).copied()
+        self.set.get_index_of(name)
     }
 
     /// Returns the name with this number.
@@ -57,23 +52,9 @@ impl<'a> Names<'a> {
         requires { number < length self.now }
         ensures { slice_get self.now number ≡ Some result.now }
     {
-        self.names[number]
-    }
-
-    /// Adds a name that is new.
-    fn add(&mut self, name: &'a [u8]) -> Result<(), AllocError>
-        requires { has_name self.old name.now ≡ false }
-        ensures names { OnOk result (self.new ≡ with_name self.old name.now) }
-        ensures err { OnErr result (self.new ≡ self.old) }
-    {
-        let number = self.names.len();
-        self.names.push(name)?;
-        match self.numbers.insert(name, number) {
-            Ok(_) => Ok(()),
-            Err(failed) => {
-                self.names.pop();
-                Err(failed.into())
-            }
+        match self.set.get_index(number) {
+            Some(name) => name,
+            None => unreachable!(),
         }
     }
 
@@ -83,11 +64,7 @@ impl<'a> Names<'a> {
         ensures names { OnOk result (self.new ≡ with_name self.old name.now) }
         ensures err { OnErr result (self.new ≡ self.old) }
     {
-        if self.find(name).is_some() {
-            return Ok(false);
-        }
-        self.add(name)?;
-        Ok(true)
+        Ok(self.set.insert(name)?)
     }
 
     /// Returns the number of a name, and adds the name if it is new.
@@ -98,11 +75,7 @@ impl<'a> Names<'a> {
         ensures len { OnOk result (length self.new ≤ length self.old + 1) }
         ensures err { OnErr result (self.new ≡ self.old) }
     {
-        if let Some(number) = self.find(name) {
-            return Ok(number);
-        }
-        let number = self.names.len();
-        self.add(name)?;
-        Ok(number)
+        let (index, _) = self.set.insert_full(name)?;
+        Ok(index)
     }
 }

@@ -2,7 +2,8 @@
 //! without a refusal, or that memory ran out, and then its borrowed arguments are unchanged.
 
 use std::test::Fail;
-use tt_instance::{read_instance, write_instance};
+use tt_instance::read_instance;
+use tt_instance_write::write_instance;
 use tt_leaf_data::{Bound, ClaimList, Leaf};
 use tt_proof_read::{Node, NodeReader, TextFault};
 use tt_proof_text::write_proof;

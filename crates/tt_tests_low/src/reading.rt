@@ -2,8 +2,9 @@
 
 use std::alloc::{AllocError, Global};
 use std::test::Fail;
-use tt_instance::{InstanceFault, read_instance, write_instance};
+use tt_instance::{InstanceFault, read_instance};
 use tt_instance_data::Instance;
+use tt_instance_write::write_instance;
 use tt_tests_samples::{GAP, MINI, TOUR, TRIO, WIDE, edited};
 use tt_text::{Pieces, Source, WholeFault, read_whole};
 

@@ -1,9 +1,0 @@
-use Rattle.std.proofs.Common.{◌≡◌, ◌++◌, take}
-use Rattle.std.specs.List.{flat_map}
-use Rattle.tt_text.specs.Lines.{line_text}
-use Rattle.tt_instance_data.specs.Spelling.{unavailability_pieces}
-use Rattle.tt_instance_data.specs.Seen.{courses_seen, unavailability_seen}
-use Rattle.tt_instance.proofs.writing.put_unavailabilities.Given as goal
-
-abbrev pub invariant-loop-row : goal.invariant-loop-row
-invariant-loop-row l = l.out.items ≡ l.initial.out.items ++ flat_map (λ r. line_text (unavailability_pieces (courses_seen l.courses) (unavailability_seen r))) (take l.row-index l.rows)
