@@ -22,7 +22,7 @@ HEAD = """# The statement
 
 What the headline rests on, whole: the two clauses of `tt_proof_check::certify`, the trait by which they speak of the proof's bytes, and every definition and type that they name, each file after those that it uses. `python3 bench/statement.py --write` makes this document from the sources, and without `--write` that script says whether it is current. [HEADLINE.md](HEADLINE.md) says what it means and why it holds.
 
-A definition under `src/` is a type or a limit of the code, in Rust's syntax; the others are in the language of specifications, where `abbrev pub f : A → B` gives a function's type and the lines below it its values, a `record` is a conjunction of its fields, and `(x : A) × B` says that there is an x. Numbers have no upper limit, and a `-` that would fall below 0 is 0.
+A definition under `src/` is a type, a limit or a weight of the code, in Rust's syntax; the others are in the language of specifications, where `abbrev pub f : A → B` gives a function's type and the lines below it its values, a `record` is a conjunction of its fields, and `(x : A) × B` says that there is an x. Numbers have no upper limit, and a `-` that would fall below 0 is 0.
 """
 # What the standard library's words say that the headline's definitions are written in.
 WORDS = {

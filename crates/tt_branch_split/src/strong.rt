@@ -6,16 +6,13 @@ use crate::course_set::{CourseSet, bit_in, first_course, rivals_in, words_for};
 use crate::neighbours::Neighbours;
 use crate::prospects::{Prospects, bit_of};
 use std::alloc::{AllocError, Global};
-use tt_instance_data::{Instance, Slot};
+use tt_instance_data::{ISOLATED_COST, Instance, Slot};
 
 /// The number of parts of a cost point in which a gain is counted: a sixteenth of a bit of the ways to choose counts 16 parts.
 const POINT: u64 = 12_288;
 
 /// The gain of a child that a leaf closes, in parts.
 const CLOSED: u64 = 64 * POINT;
-
-/// The cost of an isolated lecture.
-const ISOLATED: u64 = 2;
 
 /// The value of a pinned period that may still become isolated, by the number of live members next to it, in
 /// parts: a hundredth of a point, and 0.8 as much for each of them.
@@ -127,7 +124,7 @@ fn isolation(beside: u32, lost: u32) -> ChildEstimate {
     }
     if left == 0 {
         return ChildEstimate {
-            cost: ISOLATED,
+            cost: u64::from(ISOLATED_COST),
             expected: 0,
         };
     }
@@ -163,7 +160,7 @@ fn pin(neighbours: &Neighbours, curriculum: u32, slot: Slot) -> ChildEstimate {
     let beside = neighbours.live_around(curriculum, slot.day, slot.period);
     if beside == 0 {
         return ChildEstimate {
-            cost: ISOLATED,
+            cost: u64::from(ISOLATED_COST),
             expected: 0,
         };
     }

@@ -2,6 +2,7 @@
 use Rattle.std.specs.Prelude.{◌≡◌, ℕ, ◌+◌, ◌-◌, ◌*◌, ◌<◌, min, nat_lt, Bool, true, false, not, ◌&&◌, List, sum_by, count_by}
 use Rattle.std.specs.List.{list_any}
 use Rattle.tt_lists.specs.Words.{range_below}
+use Rattle.tt_instance_data.specs.declared.limit.TheConstants.{ISOLATED_COST, MISSING_DAY_COST}
 use Rattle.tt_instance_data.specs.Problem.{Problem}
 use Rattle.tt_instance_data.specs.Cells.{slot, all_days, is_of, is_at}
 use Rattle.tt_instance_data.specs.Courses.{lectures, min_days, members, conflict, unavailable}
@@ -36,7 +37,7 @@ is_single p day q s = is_taught p day q s && not (nat_lt 0 s && is_taught p day 
 
 -- A day costs a group 2 for each single period of each of its curricula.
 abbrev pub day_cost : Problem → Group → Day → ℕ
-day_cost p g day = sum_by (λ q. 2 * count_by (is_single p day q) (range_below p.periods)) g.curricula
+day_cost p g day = sum_by (λ q. ISOLATED_COST * count_by (is_single p day q) (range_below p.periods)) g.curricula
 
 -- Whether the courses that the group concerns are available where the day d has them, and no period of the day has two that conflict.
 pub record IsDay (p : Problem) (g : Group) (d : ℕ) (day : Day) : Type 0 where
@@ -68,8 +69,8 @@ capped p week d c = min (further p week d c) (slack p c)
 
 -- The base cost is paid in every week, since a course has no more days than lectures.
 abbrev pub base_cost : Problem → Group → ℕ
-base_cost p g = sum_by (λ c. 5 * (min_days p c - lectures p c)) g.courses
+base_cost p g = sum_by (λ c. MISSING_DAY_COST * (min_days p c - lectures p c)) g.courses
 
 -- The cost of the first d days, and 5 for each further lecture on them beyond the slack.
 abbrev pub spent : Problem → Group → Week → ℕ → ℕ
-spent p g week d = sum_by (λ i. day_cost p g (week i)) (range_below d) + sum_by (λ c. 5 * (further p week d c - slack p c)) g.courses
+spent p g week d = sum_by (λ i. day_cost p g (week i)) (range_below d) + sum_by (λ c. MISSING_DAY_COST * (further p week d c - slack p c)) g.courses

@@ -1,6 +1,7 @@
 -- Tables of a group: a lower bound of a day's cost by the lectures of each course on it, and a lower bound of the first days' cost by the
 -- lectures and the further lectures on them. No entry is above the truth; an entry below it only makes the bound weaker.
 use Rattle.std.specs.Prelude.{◌≡◌, ℕ, ◌+◌, ◌-◌, ◌*◌, ◌<◌, ◌≤◌, min, true, sum_by}
+use Rattle.tt_instance_data.specs.declared.limit.TheConstants.{MISSING_DAY_COST}
 use Rattle.tt_instance_data.specs.Problem.{Problem}
 use Rattle.tt_instance_data.specs.Courses.{lectures}
 use Rattle.tt_groups.specs.Group.{Group, concerns}
@@ -24,7 +25,7 @@ pub record IsWeekTable (p : Problem) (g : Group) (b d : ℕ) (v : Vector → Vec
 
 -- The overrun is the cost of the lectures k of another day beyond the slack, after e further lectures.
 abbrev pub overrun : Problem → Group → Vector → Vector → ℕ
-overrun p g e k = sum_by (λ c. 5 * ((e c + (k c - 1)) - slack p c)) g.courses
+overrun p g e k = sum_by (λ c. MISSING_DAY_COST * ((e c + (k c - 1)) - slack p c)) g.courses
 
 -- Whether, from each entry below b, another day leads to an entry of the next table that is no higher than the sum so far.
 pub record Extends (p : Problem) (g : Group) (b : ℕ) (f : Vector → ℕ) (v next : Vector → Vector → ℕ) : Type 0 where

@@ -11,8 +11,7 @@ ghost use Rattle.tt_instance_data.specs.Courses.{in_curriculum};
 ghost use Rattle.tt_instance_data.specs.declared.limit.TheConstants.{MAX_MIN_DAYS};
 
 use tt_groups::Group;
-use tt_instance_data::Instance;
-use tt_rules::DAY_PRICE;
+use tt_instance_data::{Instance, MISSING_DAY_COST};
 
 /// The maximum number of curricula of a group.
 pub const GROUP_CURRICULA: usize = 64;
@@ -80,12 +79,13 @@ pub fn base_cost(instance: &Instance<'_>, group: &Group) -> u64
     requires at_most { length group.now.courses ≤ GROUP_COURSES }
     requires in_range { IsGroupOf instance.now group.now }
     ensures value { result ≡ base_cost instance.now group.now }
-    ensures small { result ≤ DAY_PRICE * MAX_MIN_DAYS * GROUP_COURSES }
+    ensures small { result ≤ MISSING_DAY_COST * MAX_MIN_DAYS * GROUP_COURSES }
 {
     let mut base = 0;
     for course in group.courses() {
         let days = u64::from(instance.min_days(*course));
-        base += DAY_PRICE * days.saturating_sub(u64::from(instance.lectures(*course)));
+        base += u64::from(MISSING_DAY_COST)
+            * days.saturating_sub(u64::from(instance.lectures(*course)));
     }
     base
 }

@@ -1,6 +1,7 @@
 -- The cost of a day, period by period: the next period settles whether a period is single.
 use Rattle.std.specs.Prelude.{ℕ, ◌-◌, ◌*◌, nat_lt, Bool, not, ◌&&◌, sum_by, count_by}
 use Rattle.tt_lists.specs.Words.{range_below}
+use Rattle.tt_instance_data.specs.declared.limit.TheConstants.{ISOLATED_COST}
 use Rattle.tt_instance_data.specs.Problem.{Problem}
 use Rattle.tt_groups.specs.Group.{Group}
 use Rattle.tt_groups.specs.Plans.{Day, is_taught}
@@ -15,4 +16,4 @@ is_settled p day q j = is_pending p day q j && not (is_taught p day q j)
 
 -- The settled cost is 2 for each single period that the first j periods settle.
 abbrev pub settled_cost : Problem → Group → Day → ℕ → ℕ
-settled_cost p g day j = sum_by (λ i. 2 * count_by (λ q. is_settled p day q i) g.curricula) (range_below j)
+settled_cost p g day j = sum_by (λ i. ISOLATED_COST * count_by (λ q. is_settled p day q i) g.curricula) (range_below j)

@@ -7,8 +7,7 @@ ghost use Rattle.tt_groups.specs.Listed.{AreCourses};
 ghost use Rattle.tt_groups_day.specs.Sets.{IsCourseSet, IsMorningOf, IsDayOf, Covers};
 ghost use Rattle.tt_groups_day.specs.declared.sets.TheConstants.{CURRICULA};
 
-/// The cost of a single period, in cost points.
-pub const SINGLE_PRICE: u32 = 2;
+use tt_instance_data::ISOLATED_COST;
 
 /// The maximum number of courses that a group concerns.
 pub const COURSES: usize = 16;
@@ -96,7 +95,7 @@ pub fn more(
     ensures fitting { IfSome result (λ next. (i : ℕ) → i < COURSES → slice_index next.counts i ≤ slice_index most.now i) }
 {
     let settled = morning.pending & !set.curricula;
-    let cost = morning.cost + SINGLE_PRICE * settled.count_ones();
+    let cost = morning.cost + ISOLATED_COST * settled.count_ones();
     if u32::from(bound) <= cost {
         return None;
     }

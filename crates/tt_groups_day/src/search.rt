@@ -8,8 +8,9 @@ ghost use Rattle.tt_groups_day.specs.declared.morning.TheConstants.{COST_LIMIT, 
 ghost use Rattle.tt_instance_data.specs.declared.limit.TheConstants.{MAX_PERIODS};
 
 use crate::fault::DaysFault;
-use crate::morning::{COURSES, CourseSet, Morning, SINGLE_PRICE, more};
+use crate::morning::{COURSES, CourseSet, Morning, more};
 use crate::work::DayWork;
+use tt_instance_data::ISOLATED_COST;
 
 /// The courses that are available in a period, 1 for each.
 #[derive(Clone, Copy, Debug, PartialEq, Eq)]
@@ -32,11 +33,11 @@ fn lower(table: &mut [u8], place: usize, value: u8)
 fn end(bound: u8, morning: &Morning, table: &mut [u8])
     requires { morning.now.cost < COST_LIMIT }
     ensures falls { Falls table.old table.new }
-    ensures there { morning.now.cost + SINGLE_PRICE * count_ones morning.now.pending < bound → slice_index table.new morning.now.place ≤ morning.now.cost + SINGLE_PRICE * count_ones morning.now.pending }
+    ensures there { morning.now.cost + ISOLATED_COST * count_ones morning.now.pending < bound → slice_index table.new morning.now.place ≤ morning.now.cost + ISOLATED_COST * count_ones morning.now.pending }
     ensures only { (k : ℕ) → (slice_index table.new k ≡ slice_index table.old k) ⊎
-        ((k ≡ morning.now.place) × (slice_index table.new k ≡ morning.now.cost + SINGLE_PRICE * count_ones morning.now.pending)) }
+        ((k ≡ morning.now.place) × (slice_index table.new k ≡ morning.now.cost + ISOLATED_COST * count_ones morning.now.pending)) }
 {
-    let cost = morning.cost + SINGLE_PRICE * morning.pending.count_ones();
+    let cost = morning.cost + ISOLATED_COST * morning.pending.count_ones();
     if cost < u32::from(bound) {
         lower(table, morning.place as usize, cost as u8);
     }

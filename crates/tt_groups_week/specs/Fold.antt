@@ -2,6 +2,7 @@
 use Rattle.std.specs.Prelude.{◌≡◌, ℕ, ◌+◌, ◌-◌, ◌*◌, ◌<◌, ◌≤◌, nat_le, Bool, List, length, sum_by, slice_index, All, Contains}
 use Rattle.std.specs.List.Sorted.{IsNonDecreasingBy}
 use Rattle.tt_lists.specs.Words.{range_below}
+use Rattle.tt_instance_data.specs.declared.limit.TheConstants.{MISSING_DAY_COST}
 use Rattle.tt_groups.specs.declared.entry.DayEntry.{DayEntry}
 use Rattle.tt_groups_week.specs.Digits.{digit}
 use Rattle.tt_groups_week.specs.declared.moves.Move.{Move}
@@ -13,7 +14,7 @@ index_of weights courses amounts = sum_by (λ j. slice_index amounts j * slice_i
 
 -- An amount pays at least 5 for each further lecture beyond the whole slack.
 abbrev pub floor_at : List ℕ → List ℕ → ℕ → ℕ
-floor_at sizes amounts j = 5 * (slice_index amounts j - (slice_index sizes j - 1))
+floor_at sizes amounts j = MISSING_DAY_COST * (slice_index amounts j - (slice_index sizes j - 1))
 
 -- The floor of a day is a lower bound of what its amounts pay at any place.
 abbrev pub floor_of : List ℕ → List ℕ → ℕ

@@ -3,6 +3,7 @@
 use Rattle.std.specs.Prelude.{◌≡◌, ℕ, ◌+◌, ◌-◌, ◌*◌, ◌<◌, ◌≤◌, min, nat_lt, nat_le, Bool, not, ◌&&◌, List, length, Contains, sum_by, slice_index, Option, Some, None, if◌then◌else◌}
 use Rattle.std.specs.List.{list_all}
 use Rattle.tt_lists.specs.Words.{range_below}
+use Rattle.tt_instance_data.specs.declared.limit.TheConstants.{MISSING_DAY_COST}
 use Rattle.tt_groups.specs.declared.entry.DayEntry.{DayEntry}
 use Rattle.tt_groups_week.specs.Digits.{digit}
 use Rattle.tt_groups_week.specs.declared.moves.Move.{Move}
@@ -23,7 +24,7 @@ module _ (sizes weights : List ℕ) (courses : ℕ) (amounts : List ℕ) (place 
 
   -- A digit pays 5 for each further lecture beyond the slack.
   abbrev pub paid_at : ℕ → ℕ
-  paid_at j = 5 * (raised j - (slice_index sizes j - 1))
+  paid_at j = MISSING_DAY_COST * (raised j - (slice_index sizes j - 1))
 
   -- The step reaches a place and pays for it, if there is room for all lectures.
   abbrev pub step_of : Option Step

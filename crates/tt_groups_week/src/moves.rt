@@ -9,9 +9,7 @@ ghost use Rattle.tt_groups_week.specs.declared.digits.TheConstants.{MAX_AMOUNT};
 use crate::digits::Digits;
 use std::alloc::{AllocError, Global};
 use tt_groups::DayEntry;
-
-/// The cost of a further lecture beyond the slack, in cost points.
-pub const LECTURE_PRICE: u32 = 5;
+use tt_instance_data::MISSING_DAY_COST;
 
 /// An entry of a day, the amount that its lectures add to a place, and a lower bound of the cost of its further lectures.
 #[derive(Clone, Copy, Debug, PartialEq, Eq)]
@@ -35,11 +33,11 @@ fn index_of(digits: &Digits, entry: &DayEntry) -> u32
 /// Returns a lower bound of the cost of a day's further lectures, at any place.
 fn floor_of(digits: &Digits, entry: &DayEntry) -> u32
     ensures value { result ≡ floor_of digits.now.sizes.items entry.now.amounts }
-    ensures small { result ≤ LECTURE_PRICE * MAX_AMOUNT * DIGITS }
+    ensures small { result ≤ MISSING_DAY_COST * MAX_AMOUNT * DIGITS }
 {
     let mut floor = 0;
     for j in 0..digits.sizes.len() {
-        floor += LECTURE_PRICE * u32::from(entry.amounts[j]).saturating_sub(digits.size(j) - 1);
+        floor += MISSING_DAY_COST * u32::from(entry.amounts[j]).saturating_sub(digits.size(j) - 1);
     }
     floor
 }

@@ -9,8 +9,9 @@ ghost use Rattle.tt_groups_week.specs.Steps.{step_of};
 ghost use Rattle.tt_groups_week.specs.declared.digits.TheConstants.{MAX_AMOUNT};
 
 use crate::digits::Digits;
-use crate::moves::{LECTURE_PRICE, Move};
+use crate::moves::Move;
 use tt_groups::DIGITS;
+use tt_instance_data::MISSING_DAY_COST;
 
 /// A place, the lectures that each course has left at it (no other digit has a limit), its digits, and their weighted sum.
 #[derive(Clone, Copy, Debug, PartialEq, Eq)]
@@ -81,7 +82,7 @@ pub fn advance(digits: &Digits, state: &State, by: &Move) -> Option<Step>
     requires index { by.now.index ≡ index_of digits.now.weights.items digits.now.courses by.now.entry.amounts }
     requires floor { by.now.floor ≡ floor_of digits.now.sizes.items by.now.entry.amounts }
     ensures value { result ≡ step_of digits.now.sizes.items digits.now.weights.items digits.now.courses by.now.entry.amounts state.now.place }
-    ensures small { IfSome result (λ r. r.pay ≤ 2 * (LECTURE_PRICE * MAX_AMOUNT * DIGITS)) }
+    ensures small { IfSome result (λ r. r.pay ≤ 2 * (MISSING_DAY_COST * MAX_AMOUNT * DIGITS)) }
 {
     if !fits(&by.entry.amounts, &state.left) {
         return None;
@@ -97,7 +98,7 @@ pub fn advance(digits: &Digits, state: &State, by: &Move) -> Option<Step>
         let further = state.digits[j];
         let kept = (further + amount).min(top);
         place += ((kept - further) * digits.weight(j)) as usize;
-        pay += LECTURE_PRICE * (further + amount - kept - amount.saturating_sub(top));
+        pay += MISSING_DAY_COST * (further + amount - kept - amount.saturating_sub(top));
     }
     Some(Step { place, pay })
 }

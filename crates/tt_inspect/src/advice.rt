@@ -8,7 +8,7 @@ use crate::shown::{Counted, Name, Noun};
 use crate::summary::{most_seats, periods_of_week, places};
 use std::alloc::AllocError;
 use std::fmt;
-use tt_instance_data::Instance;
+use tt_instance_data::{Instance, MISSING_DAY_COST};
 
 /// Courses no two of which can have lectures at the same time, and why.
 #[derive(Clone, Copy)]
@@ -186,7 +186,7 @@ fn put_days(text: &mut String, instance: &Instance<'_>, course: u32) -> Result<(
     let name = Name {
         bytes: instance.course_id(course),
     };
-    let cost = u64::from(lacking).saturating_mul(5);
+    let cost = u64::from(lacking).saturating_mul(u64::from(MISSING_DAY_COST));
     let wanted = Counted(u64::from(wanted), Noun::Day);
     let most = MostDays { lectures, days };
     writeln!(

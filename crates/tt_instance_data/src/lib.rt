@@ -15,8 +15,9 @@ pub use barred::{is_barred, mark_place};
 pub use cell::{Cell, Slot};
 pub use instance::Instance;
 pub use limit::{
-    MAX_CELLS, MAX_COURSES, MAX_CURRICULA, MAX_DAYS, MAX_LECTURES, MAX_MEMBERS, MAX_MIN_DAYS,
-    MAX_PERIODS, MAX_ROOMS, MAX_SEATS, MAX_SLOTS, MAX_UNAVAILABILITIES,
+    ISOLATED_COST, MAX_CELLS, MAX_COURSES, MAX_CURRICULA, MAX_DAYS, MAX_LECTURES, MAX_MEMBERS,
+    MAX_MIN_DAYS, MAX_PERIODS, MAX_ROOMS, MAX_SEATS, MAX_SLOTS, MAX_UNAVAILABILITIES,
+    MISSING_DAY_COST,
 };
 pub use marks::Marks;
 pub use name_hasher::NameHasher;

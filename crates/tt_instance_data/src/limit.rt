@@ -1,4 +1,4 @@
-//! The limits of an instance. They are the project's own: the competition sets none.
+//! The limits of an instance, which are the project's own, since the competition sets none; and the competition's weights.
 
 /// The maximum number of courses.
 pub const MAX_COURSES: u32 = 2048;
@@ -35,3 +35,9 @@ pub const MAX_MIN_DAYS: u32 = 512;
 
 /// The maximum number of students of a course, and of seats of a room.
 pub const MAX_SEATS: u32 = 1_000_000;
+
+/// The cost of each day by which a course is below its minimum, in cost points: the competition's weight.
+pub const MISSING_DAY_COST: u32 = 5;
+
+/// The cost of an isolated entry of a curriculum, in cost points: the competition's weight.
+pub const ISOLATED_COST: u32 = 2;

@@ -2,6 +2,7 @@
 use Rattle.std.specs.Prelude.{ℕ, ◌+◌, ◌-◌, ◌*◌, min, max, ◌==◌, nat_le, Bool, true, not, ◌&&◌, ◌||◌, List, [], ◌∷◌, map, filter, flat_map, sum_by, count_by, if◌then◌else◌}
 use Rattle.std.specs.List.{list_any, list_all}
 use Rattle.tt_lists.specs.Words.{range_below}
+use Rattle.tt_instance_data.specs.declared.limit.TheConstants.{ISOLATED_COST, MISSING_DAY_COST}
 use Rattle.tt_instance_data.specs.Problem.{Problem}
 use Rattle.tt_instance_data.specs.Cells.{slot, cell, next_to, is_of, all_rooms, all_days, all_slots}
 use Rattle.tt_instance_data.specs.Courses.{lectures, min_days, members, excess}
@@ -96,14 +97,14 @@ abbrev pub value_of : Problem → List Fact → Claim → ℕ
 value_of p path (Capacity c u) =
     lectures p c * u - sum_by (discount p path c u) (all_slots p)
 value_of p path (Days c) =
-    5 * (min_days p c - min (lectures p c) (live_days p path c))
+    MISSING_DAY_COST * (min_days p c - min (lectures p c) (live_days p path c))
 value_of p path (Compact q) =
-    2 * count_by (λ s. pinned p path (Curriculum q) s && is_alone p path q s) (all_slots p)
+    ISOLATED_COST * count_by (λ s. pinned p path (Curriculum q) s && is_alone p path q s) (all_slots p)
 value_of p path (Stable c) = count_by (pinned_room p path c) (all_rooms p) - 1
 value_of p path (Prices courses rooms) =
     sum_by (λ k. lectures p k.0 * k.1) courses - sum_by (λ k. k.1 * open_in p path courses k.0) rooms
 value_of p path (Stacked c) =
-    5 * (min_days p c - min (live_days p path c) (pinned_days p path c + (lectures p c - pinned_periods p path (Course c))))
+    MISSING_DAY_COST * (min_days p c - min (live_days p path c) (pinned_days p path c + (lectures p c - pinned_periods p path (Course c))))
 
 -- The targets of all claims, in the order of the claims.
 abbrev pub claimed : List Claim → List Target

@@ -8,8 +8,7 @@ ghost use Rattle.tt_instance_data.specs.declared.limit.TheConstants.{MAX_DAYS, M
 use crate::pinned::pinned_periods;
 use tt_bits::is_empty;
 use tt_facts_path::{Path, Who};
-use tt_instance_data::MAX_PERIODS;
-use tt_rules::DAY_PRICE;
+use tt_instance_data::{MAX_PERIODS, MISSING_DAY_COST};
 
 #[tactic(auto, using(tt_lists::proofs::Numbers::count_more))]
 fn live_days<'i, P: Path<'i>>(path: &P, course: u32) -> u32
@@ -30,11 +29,11 @@ fn live_days<'i, P: Path<'i>>(path: &P, course: u32) -> u32
 pub fn days_value<'i, P: Path<'i>>(path: &P, course: u32) -> u64
     requires { course < length (P.problem path.now).courses }
     ensures value { result ≡ value_of (P.problem path.now) (P.facts path.now) (Days course) }
-    ensures within { result ≤ DAY_PRICE * MAX_MIN_DAYS }
+    ensures within { result ≤ MISSING_DAY_COST * MAX_MIN_DAYS }
 {
     let instance = path.instance();
     let most = instance.lectures(course).min(live_days(path, course));
-    DAY_PRICE * u64::from(instance.min_days(course).saturating_sub(most))
+    u64::from(MISSING_DAY_COST) * u64::from(instance.min_days(course).saturating_sub(most))
 }
 
 fn is_pinned_day<'i, P: Path<'i>>(path: &P, course: u32, day: u32) -> bool
@@ -66,12 +65,12 @@ fn pinned_days<'i, P: Path<'i>>(path: &P, course: u32) -> u32
 pub fn stacked_value<'i, P: Path<'i>>(path: &P, course: u32) -> u64
     requires { course < length (P.problem path.now).courses }
     ensures value { result ≡ value_of (P.problem path.now) (P.facts path.now) (Stacked course) }
-    ensures within { result ≤ DAY_PRICE * MAX_MIN_DAYS }
+    ensures within { result ≤ MISSING_DAY_COST * MAX_MIN_DAYS }
 {
     let instance = path.instance();
     let free = instance
         .lectures(course)
         .saturating_sub(pinned_periods(path, Who::Course(course)));
     let most = live_days(path, course).min(pinned_days(path, course) + free);
-    DAY_PRICE * u64::from(instance.min_days(course).saturating_sub(most))
+    u64::from(MISSING_DAY_COST) * u64::from(instance.min_days(course).saturating_sub(most))
 }

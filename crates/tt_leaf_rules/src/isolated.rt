@@ -13,8 +13,7 @@ ghost use Rattle.tt_instance_data.specs.declared.limit.TheConstants.{MAX_SLOTS};
 use crate::groups::open_on;
 use tt_bits::{count, next, previous, without};
 use tt_facts_path::{Path, Who};
-use tt_instance_data::{MAX_DAYS, MAX_PERIODS};
-use tt_rules::ISOLATED_PRICE;
+use tt_instance_data::{ISOLATED_COST, MAX_DAYS, MAX_PERIODS};
 
 /// Returns the pinned periods of a curriculum on a day that have no live neighbour period, as a set.
 fn isolated_on<'i, P: Path<'i>>(path: &P, curriculum: u32, day: u32) -> u64
@@ -55,7 +54,7 @@ fn isolated_periods<'i, P: Path<'i>>(path: &P, curriculum: u32) -> u32
 pub fn compact_value<'i, P: Path<'i>>(path: &P, curriculum: u32) -> u64
     requires { curriculum < length (P.problem path.now).curricula }
     ensures value { result ≡ value_of (P.problem path.now) (P.facts path.now) (Compact curriculum) }
-    ensures within { result ≤ ISOLATED_PRICE * MAX_SLOTS }
+    ensures within { result ≤ ISOLATED_COST * MAX_SLOTS }
 {
-    ISOLATED_PRICE * u64::from(isolated_periods(path, curriculum))
+    u64::from(ISOLATED_COST) * u64::from(isolated_periods(path, curriculum))
 }

@@ -11,8 +11,8 @@ ghost use Rattle.tt_instance_data.specs.declared.limit.TheConstants.{MAX_MIN_DAY
 ghost use Rattle.tt_table.specs.declared.table.TheConstants.{MAX_ENTRIES};
 
 use crate::cost::EntryCost;
-use crate::limit::{DAY_PRICE, ISOLATED_PRICE};
 use crate::rest::WithoutEntry;
+use tt_instance_data::{ISOLATED_COST, MISSING_DAY_COST};
 use tt_occupancy::one_if;
 use tt_table::Entry;
 
@@ -25,11 +25,11 @@ impl WithoutEntry<'_, '_, '_> {
         ensures value { (u : List Cell) → IsRest self.now u
             → result ≡ days_cost self.now.occupied.now.problem (entry ∷ u) entry.course
             + stability_cost self.now.occupied.now.problem (entry ∷ u) entry.course }
-        ensures at_most { result ≤ DAY_PRICE * MAX_MIN_DAYS + MAX_SLOTS }
+        ensures at_most { result ≤ MISSING_DAY_COST * MAX_MIN_DAYS + MAX_SLOTS }
     {
         let wanted = self.occupied.instance().min_days(entry.course);
         let days = wanted.saturating_sub(self.days_with(entry));
-        DAY_PRICE * days + self.rooms_with(entry).saturating_sub(1)
+        MISSING_DAY_COST * days + self.rooms_with(entry).saturating_sub(1)
     }
 
     /// Returns the cost that an entry of the course left out adds, and the cost that it removes.
@@ -45,8 +45,8 @@ impl WithoutEntry<'_, '_, '_> {
         let excess = students.saturating_sub(instance.capacity(entry.room));
         let isolation_change = self.isolation_change(entry);
         EntryCost {
-            rise: excess + self.spread_cost(entry) + ISOLATED_PRICE * isolation_change.alone,
-            fall: ISOLATED_PRICE * isolation_change.joined,
+            rise: excess + self.spread_cost(entry) + ISOLATED_COST * isolation_change.alone,
+            fall: ISOLATED_COST * isolation_change.joined,
         }
     }
 

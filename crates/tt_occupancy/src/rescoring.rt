@@ -7,6 +7,7 @@ ghost use Rattle.tt_rules.specs.Score.{IsScore};
 ghost use Rattle.tt_occupancy.specs.Weights.{IsExchange, IsExchanged};
 
 use crate::weight::Weight;
+use tt_instance_data::ISOLATED_COST;
 use tt_rules::Score;
 
 /// Returns a count minus one weight plus another.
@@ -33,8 +34,8 @@ pub fn rescored(score: Score, from: Weight, to: Weight) -> Score
     let min_working_days = exchanged(score.min_working_days, from.days, to.days);
     let compactness = exchanged(
         score.compactness,
-        2 * (from.alone + to.joined),
-        2 * (to.alone + from.joined),
+        ISOLATED_COST * (from.alone + to.joined),
+        ISOLATED_COST * (to.alone + from.joined),
     );
     let room_stability = exchanged(score.room_stability, from.rooms, to.rooms);
     Score {

@@ -10,7 +10,7 @@ ghost use Rattle.tt_occupancy.specs.Weights.{IsWeight};
 
 use crate::isolation_change::isolation_change_at;
 use crate::weight::Weight;
-use tt_instance_data::Instance;
+use tt_instance_data::{Instance, MISSING_DAY_COST};
 use tt_occupancy_tallies::Tables;
 use tt_table::Entry;
 
@@ -30,7 +30,7 @@ fn days_with(instance: &Instance<'_>, tables: &Tables, entry: Entry) -> u32
 {
     let is_new = tables.days.get(entry.course, entry.day) == 0;
     let used = u32::from(tables.days.used(entry.course)) + one_if(is_new);
-    5 * instance.min_days(entry.course).saturating_sub(used)
+    MISSING_DAY_COST * instance.min_days(entry.course).saturating_sub(used)
 }
 
 /// Returns the cost of a course's rooms with another entry of it.

@@ -2,6 +2,7 @@
 -- weights.
 use Rattle.std.specs.Prelude.{ℕ, ◌+◌, ◌*◌, Bool, cond, ◌&&◌, List, ◌∷◌, sum_by, count_by}
 use Rattle.std.specs.List.{list_any}
+use Rattle.tt_instance_data.specs.declared.limit.TheConstants.{ISOLATED_COST}
 use Rattle.tt_instance_data.specs.Problem.{Problem}
 use Rattle.tt_instance_data.specs.Cells.{slot_of, next_to, all_curricula, is_of, is_at, is_in}
 use Rattle.tt_instance_data.specs.Courses.{in_curriculum, unavailable, excess}
@@ -44,8 +45,8 @@ all_joined p u x = sum_by (λ q. cond (in_curriculum p q x.course) (joined p u x
 -- the part of the cost that the entry adds
 abbrev pub cost_rise : Problem → List Cell → Cell → ℕ
 cost_rise p u x =
-    excess p x.course x.room + days_cost p (x ∷ u) x.course + 2 * alone p u x + stability_cost p (x ∷ u) x.course
+    excess p x.course x.room + days_cost p (x ∷ u) x.course + ISOLATED_COST * alone p u x + stability_cost p (x ∷ u) x.course
 
 -- the part of the cost that the entry removes
 abbrev pub cost_fall : Problem → List Cell → Cell → ℕ
-cost_fall p u x = 2 * all_joined p u x
+cost_fall p u x = ISOLATED_COST * all_joined p u x

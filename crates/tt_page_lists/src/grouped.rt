@@ -13,7 +13,7 @@ use crate::items::{
     put_course_and_teacher, put_course_items, put_entry_items, put_item_end, put_item_head,
 };
 use crate::rule::Rule;
-use tt_instance_data::Instance;
+use tt_instance_data::{ISOLATED_COST, Instance};
 use tt_page_plan::{Plan, is_isolated, put_week_link, put_when_link};
 use tt_page_text::{Labels, PageText, Part, put, put_token};
 use tt_rules::without_seat;
@@ -245,7 +245,7 @@ fn put_curriculum_item(out: &mut PageText, plan: &Plan<'_, '_>, labels: &Labels,
     requires { curriculum < length plan.now.problem.curricula }
     ensures { out.new ≡ put_text out.old (curriculum_item plan.now.problem plan.now.table labels.now curriculum) }
 {
-    let adds = 2 * isolated_count(plan, curriculum);
+    let adds = u64::from(ISOLATED_COST) * isolated_count(plan, curriculum);
     if adds == 0 {
         return;
     }

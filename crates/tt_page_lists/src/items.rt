@@ -9,7 +9,7 @@ ghost use Rattle.tt_page_text.specs.Puts.{put_text};
 ghost use Rattle.tt_page_lists.specs.Items.{item_head, item_end, course_and_teacher, lectures_detail, days_detail, rooms_detail, course_detail, course_adds, course_item, entry_and_teacher, place_text, unavailable_detail, unavailable_item, is_odd, odds_count, more_text, pair_text, odds_text, pairs_item, entry_item, entry_items};
 
 use crate::rule::Rule;
-use tt_instance_data::Instance;
+use tt_instance_data::{Instance, MISSING_DAY_COST};
 use tt_page_plan::{
     Plan, days_of, entries_of, is_unavailable, lectures_off, missing_days, other_rooms, periods_of,
     put_cell_link, put_course_link, put_teacher_link, put_week_link, teacher_of,
@@ -62,7 +62,7 @@ fn course_adds(plan: &Plan<'_, '_>, rule: Rule, course: u32) -> u64
 {
     match rule {
         Rule::Lectures => lectures_off(plan, course),
-        Rule::WorkingDays => 5 * missing_days(plan, course),
+        Rule::WorkingDays => u64::from(MISSING_DAY_COST) * missing_days(plan, course),
         Rule::RoomStability => other_rooms(plan, course),
         _ => 0,
     }

@@ -1,8 +1,7 @@
 //! The cost of each target in a known timetable.
 
 use std::alloc::{AllocError, Global};
-use tt_instance_data::Instance;
-use tt_rules::{DAY_PRICE, ISOLATED_PRICE};
+use tt_instance_data::{ISOLATED_COST, Instance, MISSING_DAY_COST};
 use tt_table::Entry;
 
 /// The cost of each curriculum and each course in the timetable; without a timetable nothing is known.
@@ -22,7 +21,7 @@ fn day_cost(instance: &Instance<'_>, entries: &[Entry], curriculum: u32, day: u3
         }
     }
     let singles = taught & !(taught << 1) & !(taught >> 1);
-    ISOLATED_PRICE * u64::from(singles.count_ones())
+    u64::from(ISOLATED_COST) * u64::from(singles.count_ones())
 }
 
 /// Returns the cost of a curriculum in a timetable.
@@ -46,7 +45,8 @@ fn course_cost(instance: &Instance<'_>, entries: &[Entry], course: u32) -> u64 {
         }
     }
     let days = u64::from(taught.count_ones());
-    DAY_PRICE.saturating_mul(u64::from(instance.min_days(course)).saturating_sub(days))
+    let missing = u64::from(instance.min_days(course)).saturating_sub(days);
+    u64::from(MISSING_DAY_COST).saturating_mul(missing)
 }
 
 /// Returns the sum of the costs of some numbers.

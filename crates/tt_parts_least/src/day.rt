@@ -1,13 +1,11 @@
 //! A lower bound of a day's cost, by its lectures.
 
 use crate::allowance::Allowance;
-use crate::layout::{LECTURE_PRICE, Layout};
+use crate::layout::Layout;
 use crate::sets::Set;
 use std::alloc::{AllocError, Global};
+use tt_instance_data::{ISOLATED_COST, MISSING_DAY_COST};
 use tt_search_watch::Watch;
-
-/// The cost of a single period, in cost points.
-const SINGLE_PRICE: u32 = 2;
 
 /// The value of a place without an entry.
 pub const NONE: u8 = u8::MAX;
@@ -64,8 +62,8 @@ impl Morning {
         let further = (self.courses & set.courses & layout.tight).count_ones();
         let cost = self
             .cost
-            .wrapping_add(SINGLE_PRICE.wrapping_mul(singles))
-            .wrapping_add(LECTURE_PRICE.wrapping_mul(further));
+            .wrapping_add(ISOLATED_COST.wrapping_mul(singles))
+            .wrapping_add(MISSING_DAY_COST.wrapping_mul(further));
         if limit <= cost {
             return None;
         }
@@ -86,7 +84,7 @@ impl Table {
     fn enter(&mut self, limit: u32, day: &Morning) -> Result<(), AllocError> {
         let cost = day
             .cost
-            .wrapping_add(SINGLE_PRICE * day.pending.count_ones());
+            .wrapping_add(ISOLATED_COST * day.pending.count_ones());
         if limit <= cost {
             return Ok(());
         }

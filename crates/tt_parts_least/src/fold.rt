@@ -3,8 +3,9 @@
 use crate::allowance::Allowance;
 use crate::day::{NONE, Table, Vector};
 use crate::days::Days;
-use crate::layout::{LECTURE_PRICE, Layout};
+use crate::layout::Layout;
 use std::alloc::{AllocError, Global};
+use tt_instance_data::MISSING_DAY_COST;
 use tt_search_watch::Watch;
 
 /// The maximum number of digits of further lectures.
@@ -141,7 +142,7 @@ fn further(layout: &Layout, digits: &[u32; DIGITS], packed: u64) -> (u32, u32) {
         if more > 0 {
             let free = more.min(slack.further.saturating_sub(*digit));
             place = place.wrapping_add(free.wrapping_mul(slack.weight));
-            cost = cost.wrapping_add(LECTURE_PRICE.wrapping_mul(more.saturating_sub(free)));
+            cost = cost.wrapping_add(MISSING_DAY_COST.wrapping_mul(more.saturating_sub(free)));
         }
     }
     (place, cost)

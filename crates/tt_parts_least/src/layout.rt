@@ -1,7 +1,7 @@
 //! The encoding of the lectures of a group.
 
 use std::alloc::{AllocError, Global};
-use tt_instance_data::Instance;
+use tt_instance_data::{Instance, MISSING_DAY_COST};
 
 /// The maximum number of courses that a group concerns.
 const COURSES: usize = 16;
@@ -14,9 +14,6 @@ const STATES: u64 = 1_048_576;
 
 /// The bits of a packed word.
 const WORD: u32 = 64;
-
-/// The cost of a further lecture, in cost points.
-pub const LECTURE_PRICE: u32 = 5;
 
 /// A course that a group concerns: its lectures, their position in a packed word, and the amount that one of them adds to a place.
 #[derive(Clone, Copy)]
@@ -170,7 +167,7 @@ impl Layout {
         if course.lectures <= min_days {
             self.tight |= 1 << (place % 32);
             let missing = u64::from(min_days - course.lectures);
-            let price = missing.saturating_mul(u64::from(LECTURE_PRICE));
+            let price = missing.saturating_mul(u64::from(MISSING_DAY_COST));
             self.base = self.base.saturating_add(price);
             return Ok(true);
         }

@@ -2,6 +2,7 @@
 -- capacity, Minimum working days, Curriculum compactness, Room stability).
 use Rattle.std.specs.Prelude.{ℕ, ◌-◌, ◌*◌, Bool, not, ◌&&◌, List, sum_by, count_by}
 use Rattle.std.specs.List.{list_any}
+use Rattle.tt_instance_data.specs.declared.limit.TheConstants.{ISOLATED_COST, MISSING_DAY_COST}
 use Rattle.tt_instance_data.specs.Problem.{Problem}
 use Rattle.tt_instance_data.specs.Cells.{all_courses, all_rooms, all_curricula, all_days, slot_of, next_to, is_of, is_in, is_on}
 use Rattle.tt_instance_data.specs.Courses.{min_days, in_curriculum, excess}
@@ -17,7 +18,7 @@ days_of p t c = count_by (λ d. list_any (λ e. is_of c e && is_on d e) t) (all_
 
 -- 5 for each day below the minimum.
 abbrev pub days_cost : Problem → List Cell → ℕ → ℕ
-days_cost p t c = 5 * (min_days p c - days_of p t c)
+days_cost p t c = MISSING_DAY_COST * (min_days p c - days_of p t c)
 
 -- Minimum working days.
 abbrev pub days_count : Problem → List Cell → ℕ
@@ -29,7 +30,7 @@ is_isolated p t q e = not (list_any (λ x. in_curriculum p q x.course && next_to
 
 -- 2 for each isolated entry of the curriculum.
 abbrev pub compactness_cost : Problem → List Cell → ℕ → ℕ
-compactness_cost p t q = 2 * count_by (λ e. in_curriculum p q e.course && is_isolated p t q e) t
+compactness_cost p t q = ISOLATED_COST * count_by (λ e. in_curriculum p q e.course && is_isolated p t q e) t
 
 -- Curriculum compactness.
 abbrev pub compactness_count : Problem → List Cell → ℕ

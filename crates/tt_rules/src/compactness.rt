@@ -12,9 +12,8 @@ ghost use Rattle.tt_instance_data.specs.declared.limit.TheConstants.{MAX_COURSES
 ghost use Rattle.tt_rules.specs.declared.marks.TheConstants.{PLACES};
 ghost use Rattle.tt_rules.specs.declared.limit.TheConstants.{MAX_COUNT, MAX_PLACE};
 
-use crate::limit::ISOLATED_PRICE;
 use crate::marks::Marks;
-use tt_instance_data::Instance;
+use tt_instance_data::{ISOLATED_COST, Instance};
 use tt_table::{Entry, Group, Groups};
 
 /// Returns the place of an entry's period, from 1: day by day, with one free place between two days, so
@@ -112,7 +111,7 @@ pub fn cost(instance: &Instance<'_>, by_course: &Groups<'_>) -> u64
 {
     let mut total: u64 = 0;
     for curriculum in 0..instance.curricula() {
-        total += ISOLATED_PRICE * isolated(instance, by_course, curriculum);
+        total += u64::from(ISOLATED_COST) * isolated(instance, by_course, curriculum);
     }
     total
 }

@@ -19,7 +19,6 @@ mod working_days;
 pub use capacity::{students_without_seat, without_seat};
 pub use counts::Score;
 pub use lectures::{entries_of, lectures_off, periods_of};
-pub use limit::{DAY_PRICE, ISOLATED_PRICE};
 pub use scoring::score;
 pub use stability::other_rooms;
 pub use working_days::days_of;

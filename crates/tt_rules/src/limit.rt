@@ -1,4 +1,4 @@
-//! Limits of what is counted, and what is paid for it.
+//! Limits of what is counted.
 
 /// Each of the eight counts is at most this, 2^40: the greatest is that of seats, at most `MAX_ENTRIES * MAX_SEATS`.
 pub const MAX_COUNT: u64 = 1_099_511_627_776;
@@ -6,9 +6,3 @@ pub const MAX_COUNT: u64 = 1_099_511_627_776;
 /// The place of any entry is below this, 2^40, also of one that is out of range: its day and its period are below 2^32, and a day has at most
 /// `MAX_PERIODS` periods.
 pub const MAX_PLACE: usize = 1_099_511_627_776;
-
-/// What a day below a course's minimum costs, in cost points.
-pub const DAY_PRICE: u64 = 5;
-
-/// What an isolated entry costs, in cost points.
-pub const ISOLATED_PRICE: u64 = 2;

@@ -8,8 +8,7 @@ ghost use Rattle.tt_instance_data.specs.declared.limit.TheConstants.{MAX_DAYS, M
 ghost use Rattle.tt_rules.specs.declared.limit.TheConstants.{MAX_COUNT};
 
 use crate::distinct;
-use crate::limit::DAY_PRICE;
-use tt_instance_data::{Instance, MAX_COURSES};
+use tt_instance_data::{Instance, MAX_COURSES, MISSING_DAY_COST};
 use tt_table::Groups;
 
 /// Counts the days on which the course is taught.
@@ -29,12 +28,12 @@ fn cost_of(instance: &Instance<'_>, by_course: &Groups<'_>, course: u32) -> u64
     requires course { course < length instance.now.courses }
     requires in_range { All (InRange instance.now) by_course.now.entries }
     ensures cost { result ≡ days_cost instance.now by_course.now.entries course }
-    ensures at_most { result ≤ DAY_PRICE * MAX_MIN_DAYS }
+    ensures at_most { result ≤ MISSING_DAY_COST * MAX_MIN_DAYS }
 {
     // Brings the instance's limits into the proof.
     prove!(instance.courses() <= MAX_COURSES);
     let days = days_of(instance, by_course, course);
-    DAY_PRICE * u64::from(instance.min_days(course)).saturating_sub(days)
+    u64::from(MISSING_DAY_COST) * u64::from(instance.min_days(course)).saturating_sub(days)
 }
 
 /// Returns the cost of all courses.

@@ -4,6 +4,7 @@ use crate::counts::Counts;
 use crate::instance_data::{Course, InstanceData};
 use crate::place::Place;
 use crate::placed::PlacedLectures;
+use tt_instance_data::{ISOLATED_COST, MISSING_DAY_COST};
 
 /// A lecture to place.
 #[derive(Clone, Copy)]
@@ -71,12 +72,12 @@ fn after(curricula: &Counts, curriculum: u32, slot: u32, periods: u32) -> u16 {
     }
 }
 
-/// Returns the cost that another lecture of a curriculum in the period adds by isolated lectures, plus 4.
+/// Returns the cost that another lecture of a curriculum in the period adds by isolated lectures, plus that of two of them.
 fn isolation(curricula: &Counts, curriculum: u32, slot: u32, periods: u32) -> u32 {
     let has_before = before(curricula, curriculum, slot, periods) > 0;
     let has_after = after(curricula, curriculum, slot, periods) > 0;
     if !has_before && !has_after {
-        return 6;
+        return 3 * ISOLATED_COST;
     }
     let joins_before = has_before
         && before(curricula, curriculum, slot.saturating_sub(1), periods) == 0;
@@ -84,8 +85,8 @@ fn isolation(curricula: &Counts, curriculum: u32, slot: u32, periods: u32) -> u3
         && after(curricula, curriculum, slot.saturating_add(1), periods) == 0;
     match (joins_before, joins_after) {
         (true, true) => 0,
-        (false, false) => 4,
-        _ => 2,
+        (false, false) => 2 * ISOLATED_COST,
+        _ => ISOLATED_COST,
     }
 }
 
@@ -98,7 +99,11 @@ fn period_cost(
 ) -> u32 {
     let day = slot.checked_div(data.periods).unwrap_or(0);
     let is_new = placed.days.get(lecture.number, day) == 0;
-    let mut cost: u32 = if lecture.is_spread || is_new { 0 } else { 5 };
+    let mut cost: u32 = if lecture.is_spread || is_new {
+        0
+    } else {
+        MISSING_DAY_COST
+    };
     for curriculum in &lecture.course.curricula {
         let added = isolation(&placed.curricula, *curriculum, slot, data.periods);
         cost = cost.saturating_add(added);

@@ -2,6 +2,7 @@
 
 use crate::spelling::{DEAR, Speller, Vector, left_after};
 use std::alloc::{AllocError, Global};
+use tt_instance_data::MISSING_DAY_COST;
 use tt_search_group::{Group, MOST_STATES, POINT, put, put_next};
 
 /// The maximum number of vectors of all days together.
@@ -11,7 +12,7 @@ const MOST_VECTORS: usize = 16_384;
 const CROWDED: u32 = 0x7e7e_7e7e;
 
 /// The cost of a missing day.
-const MISSING_DAY: u32 = 5 * POINT;
+const MISSING_DAY: u32 = MISSING_DAY_COST * POINT;
 
 /// The cheapest way to a state.
 #[derive(Clone, Copy)]

@@ -2,6 +2,7 @@
 
 use crate::letters::{Alphabet, Letter, MOST_LETTERS, priced};
 use std::alloc::{AllocError, Global};
+use tt_instance_data::ISOLATED_COST;
 use tt_search_group::{Group, MOST_STATES, POINT, Prices, Week, put, put_next};
 
 /// The maximum number of sequences of sets of a day.
@@ -11,7 +12,7 @@ const MOST_SEQUENCES: usize = 50_000;
 pub const GUARDS: u32 = 0x8080_8080;
 
 /// The cost of a curriculum that is isolated in a period.
-const ISOLATED: u32 = 2 * POINT;
+const ISOLATED: u32 = ISOLATED_COST * POINT;
 
 /// A number that is higher than the cost of any plan.
 pub const DEAR: u32 = 1_000_000_000;
