@@ -11,7 +11,7 @@ use Rattle.tt_lists.proofs.Numbers.{any_below}
 use Rattle.tt_lists.proofs.Members.{member_from_any}
 use Rattle.tt_lists.proofs.Range.{below_member, all_below, none_below, at_below, all_same_below, any_same_below}
 use Rattle.tt_lists.proofs.Truth.{same_truth, wanted, not_wanted}
-use Rattle.tt_bits.specs.Bits.{has_bit, bits, each_bit}
+use Rattle.tt_bits.specs.Inner.Bits.{has_bit, bits, each_bit}
 
 test_of : (a b : ℕ) → a < 2 → b < 2 → (min a b == 1) ≡ ((a == 1) && (b == 1))
 test_of zero b h k = ap (λ n. n == 1) (let e : min 0 b ≡ 0 = omega arith in e)

@@ -12,7 +12,7 @@ use Rattle.tt_lists.proofs.Members.{member_from_any}
 use Rattle.tt_lists.proofs.Sums.{one_if, count_by-cons}
 use Rattle.tt_lists.proofs.Range.{below_member}
 use Rattle.tt_lists.proofs.Truth.{same_truth}
-use Rattle.tt_bits.specs.Bits.{has_bit, bits}
+use Rattle.tt_bits.specs.Inner.Bits.{has_bit, bits}
 use Rattle.tt_bits.proofs.BitLaws.{bit_from_any, any_bits_at}
 
 halved : (w k : ℕ) → has_bit w (k + 1) ≡ has_bit (w / 2) k

@@ -2,7 +2,7 @@
 
 ghost use Rattle.std.specs.Prelude.{◌≡◌, ◌<◌, ◌≤◌, ◌+◌, ◌-◌, ◌==◌, ◌&&◌, ◌||◌, ℕ, not, true, nat_lt, length, count_by, OnOk, OnErr};
 ghost use Rattle.std.specs.List.{list_any};
-ghost use Rattle.tt_bits.specs.Bits.{has_bit, bits, Clears};
+ghost use Rattle.tt_bits.specs.Inner.Bits.{has_bit, bits, Clears};
 
 use crate::trail::Trail;
 use std::alloc::AllocError;

@@ -21,12 +21,12 @@ pub struct Trail {
 }
 
 impl Model for Trail {
-    ghost use Rattle.tt_bits.specs.TrailStates.{TrailStates};
+    ghost use Rattle.tt_bits.specs.Inner.TrailStates.{TrailStates};
 
     ghost Value = { TrailStates };
 
     ghost use Rattle.std.specs.Prelude.{length};
-    ghost use Rattle.tt_bits.specs.Undone.{tables_at, IsClimb, AreWithin};
+    ghost use Rattle.tt_bits.specs.Inner.Undone.{tables_at, IsClimb, AreWithin};
 
     ghost view = { λ t. record {
       words = t.words.items;

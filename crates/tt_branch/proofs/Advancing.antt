@@ -26,11 +26,11 @@ use Rattle.tt_branch.specs.declared.tree_node.NodeState.TheVariants.{Split, Clos
 use Rattle.tt_branch.specs.declared.tree_node.TreeNode.{TreeNode}
 use Rattle.tt_branch.specs.declared.links.Link.{Link}
 use Rattle.tt_branch.specs.declared.search.Search.{Search}
-use Rattle.tt_branch.specs.Growing.{node_of, IsKnown, IsSameNode, IsGrown, was_opened, is_open, IsSingle, HasMark, IsOpenAt, opened_in}
-use Rattle.tt_branch.specs.BestSoFar.{IsBestSoFar, table_of, Advances}
-use Rattle.tt_branch.specs.Links.{path_at, AreLinks, link_of, divided_links}
-use Rattle.tt_branch.specs.State.{IsSplitAt, MakesWait, EndsAt}
-use Rattle.tt_branch.specs.Written.{IsReached}
+use Rattle.tt_branch.specs.Inner.Growing.{node_of, IsKnown, IsSameNode, IsGrown, was_opened, is_open, IsSingle, HasMark, IsOpenAt, opened_in}
+use Rattle.tt_branch.specs.Inner.BestSoFar.{IsBestSoFar, table_of, Advances}
+use Rattle.tt_branch.specs.Inner.Links.{path_at, AreLinks, link_of, divided_links}
+use Rattle.tt_branch.specs.Inner.State.{IsSplitAt, MakesWait, EndsAt}
+use Rattle.tt_branch.specs.Inner.Written.{IsReached}
 use Rattle.tt_branch.proofs.Chains.{links_more}
 use Rattle.tt_branch.proofs.Searching.{IsBetter, grow_better, grow_mark, grow_split}
 use Rattle.tt_branch.proofs.Ending.{shallow}

@@ -6,7 +6,7 @@ use Rattle.std.proofs.lemmas.Option.{slice_get-get_or}
 use Rattle.tt_lists.proofs.Cuts.{at_cases, at_first}
 use Rattle.tt_facts_path.specs.declared.facts.Fact.{Fact}
 use Rattle.tt_branch.specs.declared.links.Link.{Link}
-use Rattle.tt_branch.specs.Links.{chain, path_at, AreLinks}
+use Rattle.tt_branch.specs.Inner.Links.{chain, path_at, AreLinks}
 
 -- two limits on the number of links followed give the same facts if both are large enough
 pub chain-same : (links : List Link) → AreLinks links → (n m at : ℕ) → at ≤ n → at ≤ m → chain n links at ≡ chain m links at

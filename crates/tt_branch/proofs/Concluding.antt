@@ -42,13 +42,13 @@ use Rattle.tt_branch.specs.declared.tree_node.NodeState.TheVariants.{Split, Clos
 use Rattle.tt_branch.specs.declared.tree_node.TreeNode.{TreeNode}
 use Rattle.tt_branch.specs.declared.links.Link.{Link}
 use Rattle.tt_branch.specs.declared.search.Search.{Search}
-use Rattle.tt_branch.specs.Growing.{node_of, IsKnown, IsSameNode, IsGrown, is_open, node_at, worth_at, nodes_of, worths_of}
-use Rattle.tt_branch.specs.BestSoFar.{IsBestSoFar, table_of, Advances}
-use Rattle.tt_branch.specs.Links.{path_at}
+use Rattle.tt_branch.specs.Inner.Growing.{node_of, IsKnown, IsSameNode, IsGrown, is_open, node_at, worth_at, nodes_of, worths_of}
+use Rattle.tt_branch.specs.Inner.BestSoFar.{IsBestSoFar, table_of, Advances}
+use Rattle.tt_branch.specs.Inner.Links.{path_at}
 use Rattle.tt_branch.specs.Outcomes.{BeginsWell, final_bound, IsOutcome}
 use Rattle.tt_branch.specs.Proofs.{node_worth, worths, IsShortNode, IsSearched, shown_bound}
-use Rattle.tt_branch.specs.State.{IsUnderWay, EndsAt}
-use Rattle.tt_branch.specs.Written.{IsOnceNode, IsWritable}
+use Rattle.tt_branch.specs.Inner.State.{IsUnderWay, EndsAt}
+use Rattle.tt_branch.specs.Inner.Written.{IsOnceNode, IsWritable}
 use Rattle.tt_branch.proofs.Ending.{preorder-on_paths, shallow, well_split, finished_proves, unfinished_proves, greedy}
 use Rattle.tt_branch.proofs.Advancing.{IsThere, each_there}
 use Rattle.tt_branch.proofs.Limits.{cost_limit, total_limit}

@@ -9,9 +9,9 @@ use Rattle.tt_branch.specs.declared.tree_node.NodeState.TheVariants.{Split, Open
 use Rattle.tt_branch.specs.declared.tree_node.TreeNode.{TreeNode}
 use Rattle.tt_branch.specs.declared.links.Link.{Link}
 use Rattle.tt_branch.specs.declared.search.Search.{Search}
-use Rattle.tt_branch.specs.Growing.{HasMark}
-use Rattle.tt_branch.specs.Links.{link_of, divided_links}
-use Rattle.tt_branch.specs.State.{IsSplitAt}
+use Rattle.tt_branch.specs.Inner.Growing.{HasMark}
+use Rattle.tt_branch.specs.Inner.Links.{link_of, divided_links}
+use Rattle.tt_branch.specs.Inner.State.{IsSplitAt}
 
 split_items : (items one two three : List TreeNode) (k : ℕ) (e d a b : TreeNode) (cut : IsCut items k e) → one ≡ insert items (k + 1) b → two ≡ insert one (k + 1) a → three ≡ slice_set two k d → three ≡ cut.before ++ d ∷ a ∷ b ∷ cut.after
 split_items items one two three k e d a b cut h i j =

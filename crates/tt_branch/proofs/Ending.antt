@@ -30,7 +30,7 @@ use Rattle.tt_branch.specs.declared.tree_node.NodeState.{NodeState}
 use Rattle.tt_branch.specs.declared.tree_node.NodeState.TheVariants.{Split, Closed, Opened, Unopened}
 use Rattle.tt_branch.specs.declared.tree_node.TreeNode.{TreeNode}
 use Rattle.tt_branch.specs.declared.links.Link.{Link}
-use Rattle.tt_branch.specs.Growing.{node_of, IsKnown, IsSameNode, IsGrown, is_open}
+use Rattle.tt_branch.specs.Inner.Growing.{node_of, IsKnown, IsSameNode, IsGrown, is_open}
 use Rattle.tt_branch.specs.Outcomes.{final_bound}
 use Rattle.tt_branch.specs.Proofs.{SplitsWell, node_worth, worths, IsCheaper, IsGreedy}
 use Rattle.tt_branch.proofs.Searching.{right_for, best_right, no_worth, worth_reaches, splits_well}

@@ -22,7 +22,7 @@ use Rattle.tt_facts_path.proofs.LiveCells.{live_cells, range_of}
 use Rattle.tt_leaf_data.specs.declared.leaf.Bound.{Bound}
 use Rattle.tt_leaf.specs.Pinned.{IsPinnedDown, IsOpen}
 use Rattle.tt_leaf.proofs.Fitting.{lectures_placed}
-use Rattle.tt_branch.specs.Steps.{cells_in, cells_of}
+use Rattle.tt_branch.specs.Inner.Steps.{cells_in, cells_of}
 
 in_room : (p : Problem) (c r : ℕ) → map (cell c r) (all_slots p) ≡ cells_in p c r
 in_room p c r =

@@ -6,7 +6,7 @@ use Rattle.std.proofs.lemmas.List.{take_more}
 use Rattle.std.proofs.lemmas.List.Folds.{list_any-append}
 use Rattle.std.proofs.lemmas.Option.{slice_get-get_or}
 use Rattle.tt_branch.specs.declared.tree_node.TreeNode.{TreeNode}
-use Rattle.tt_branch.specs.Growing.{is_open, IsOpenAt}
+use Rattle.tt_branch.specs.Inner.Growing.{is_open, IsOpenAt}
 
 pub open_here : (tree_nodes : List TreeNode) (place : ℕ) (e : TreeNode) → place < length tree_nodes → e ≡ get_or tree_nodes place e → is_open e.mark ≡ true → IsOpenAt tree_nodes place
 open_here tree_nodes place e h is o = (e, slice_get-get_or tree_nodes place e h ∙ ap Some (sym is), o)

@@ -26,9 +26,9 @@ use Rattle.tt_branch.specs.declared.tree_node.NodeState.{NodeState}
 use Rattle.tt_branch.specs.declared.tree_node.NodeState.TheVariants.{Split, Closed, Opened, Unopened}
 use Rattle.tt_branch.specs.declared.tree_node.TreeNode.{TreeNode}
 use Rattle.tt_branch.specs.declared.links.Link.{Link}
-use Rattle.tt_branch.specs.Links.{path_at, AreLinks, link_of, divided_links}
-use Rattle.tt_branch.specs.Growing.{node_of, IsKnown, IsSameNode, IsGrown, is_open}
-use Rattle.tt_branch.specs.Steps.{IsSplitInto}
+use Rattle.tt_branch.specs.Inner.Links.{path_at, AreLinks, link_of, divided_links}
+use Rattle.tt_branch.specs.Inner.Growing.{node_of, IsKnown, IsSameNode, IsGrown, is_open}
+use Rattle.tt_branch.specs.Inner.Steps.{IsSplitInto}
 use Rattle.tt_branch.specs.Outcomes.{final_bound}
 use Rattle.tt_branch.specs.Proofs.{IsSplitOn, SplitsWell, leaf_worth}
 use Rattle.tt_branch.proofs.Chains.{links_more, path_at-next, path_at-more}

@@ -9,9 +9,9 @@ use Rattle.tt_facts_path.specs.Live.{least}
 use Rattle.tt_proof_read.specs.declared.node.Node.{Node}
 use Rattle.tt_branch.specs.declared.tree_node.TreeNode.{TreeNode}
 use Rattle.tt_branch.specs.declared.links.Link.{Link}
-use Rattle.tt_branch.specs.Growing.{node_at, worth_at, nodes_of, worths_of}
-use Rattle.tt_branch.specs.Steps.{lower}
-use Rattle.tt_branch.specs.Written.{IsWritable, IsTaken}
+use Rattle.tt_branch.specs.Inner.Growing.{node_at, worth_at, nodes_of, worths_of}
+use Rattle.tt_branch.specs.Inner.Steps.{lower}
+use Rattle.tt_branch.specs.Inner.Written.{IsWritable, IsTaken}
 
 -- the node at a place is one of all nodes
 pub writable_here : (p : Problem) (links : List Link) (all : List TreeNode) (k : ℕ) (e : TreeNode) → All (IsWritable p links) all → k < length all → e ≡ get_or all k e → IsWritable p links e

@@ -1,9 +1,4 @@
 pub mod Alone
-pub mod Growing
-pub mod BestSoFar
-pub mod Links
+pub mod Inner
 pub mod Outcomes
 pub mod Proofs
-pub mod State
-pub mod Steps
-pub mod Written

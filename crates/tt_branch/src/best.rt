@@ -7,7 +7,7 @@ ghost use Rattle.tt_table.specs.Table.{IsTimetable};
 ghost use Rattle.tt_rules.specs.Score.{IsFeasible};
 ghost use Rattle.tt_search.specs.Improved.{IsNoWorse};
 ghost use Rattle.tt_branch.specs.Outcomes.{final_bound, BeginsWell, IsNoDearer};
-ghost use Rattle.tt_branch.specs.BestSoFar.{IsBestSoFar, table_of, IsCosted};
+ghost use Rattle.tt_branch.specs.Inner.BestSoFar.{IsBestSoFar, table_of, IsCosted};
 
 use crate::limit::FIRST_STEPS;
 use std::alloc::{AllocError, Global};

@@ -1,7 +1,7 @@
 //! Proofs on the way.
 
 ghost use Rattle.std.specs.Prelude.{◌≡◌, ◌≤◌, length};
-ghost use Rattle.tt_branch.specs.State.{IsUnderWay};
+ghost use Rattle.tt_branch.specs.Inner.State.{IsUnderWay};
 ghost use Rattle.tt_branch.specs.declared.limit.TheConstants.{MAX_TREE};
 
 use crate::nodes::{Written, write_nodes};

@@ -4,7 +4,7 @@ ghost use Rattle.std.specs.Prelude.{◌≡◌, ◌<◌, ◌≤◌, [], ◌∷◌
 ghost use Rattle.tt_instance_data.specs.Cells.{InRange, all_courses, all_cells};
 ghost use Rattle.tt_table.specs.declared.table.TheConstants.{MAX_ENTRIES};
 ghost use Rattle.tt_facts_path.specs.Live.{is_live};
-ghost use Rattle.tt_branch.specs.Steps.{cells_on, cells_in, cells_of};
+ghost use Rattle.tt_branch.specs.Inner.Steps.{cells_on, cells_in, cells_of};
 
 use std::alloc::{AllocError, Global};
 use tt_facts_path::{Cell, Path};

@@ -3,11 +3,11 @@
 ghost use Rattle.std.specs.Prelude.{◌≡◌, ◌≤◌, length, true, IfOk, All, IsTrue};
 ghost use Rattle.tt_facts_path.specs.Live.{least};
 ghost use Rattle.tt_proof_check.specs.Nodes.{IsNodeOf};
-ghost use Rattle.tt_branch.specs.Growing.{node_at, worth_at, nodes_of, worths_of};
-ghost use Rattle.tt_branch.specs.Links.{path_at, AreLinks};
+ghost use Rattle.tt_branch.specs.Inner.Growing.{node_at, worth_at, nodes_of, worths_of};
+ghost use Rattle.tt_branch.specs.Inner.Links.{path_at, AreLinks};
 ghost use Rattle.tt_branch.specs.Proofs.{node_worth};
-ghost use Rattle.tt_branch.specs.Steps.{lower};
-ghost use Rattle.tt_branch.specs.Written.{IsReached, IsWritable, IsOnceNode};
+ghost use Rattle.tt_branch.specs.Inner.Steps.{lower};
+ghost use Rattle.tt_branch.specs.Inner.Written.{IsReached, IsWritable, IsOnceNode};
 
 use crate::copying::copy_leaf;
 use crate::links::Link;

@@ -1,9 +1,9 @@
 //! The rounds of a search: each opens one node.
 
 ghost use Rattle.std.specs.Prelude.{◌≡◌, ◌<◌, ◌≤◌, ◌+◌, ◌*◌, ◌⊎◌, length, true, IfOk, OnOk, IfSome, IsNone};
-ghost use Rattle.tt_branch.specs.Growing.{IsOpenAt, is_open, opened_in};
-ghost use Rattle.tt_branch.specs.BestSoFar.{Advances};
-ghost use Rattle.tt_branch.specs.State.{IsUnderWay, MakesWait, EndsAt};
+ghost use Rattle.tt_branch.specs.Inner.Growing.{IsOpenAt, is_open, opened_in};
+ghost use Rattle.tt_branch.specs.Inner.BestSoFar.{Advances};
+ghost use Rattle.tt_branch.specs.Inner.State.{IsUnderWay, MakesWait, EndsAt};
 ghost use Rattle.tt_branch.specs.declared.limit.TheConstants.{MAX_OPENED, MAX_TREE};
 
 use crate::keeping::give_if_asked;

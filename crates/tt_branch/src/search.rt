@@ -3,10 +3,10 @@
 ghost use Rattle.std.specs.Prelude.{◌≡◌, ◌<◌, ◌+◌, [], ◌∷◌, ◌++◌, length, IfOk, OnOk, IfSome, IsNone, true, false, slice_set, vec_len};
 ghost use Rattle.std.specs.List.{list_any};
 ghost use Rattle.tt_instance_data.specs.Problem.{Problem};
-ghost use Rattle.tt_branch.specs.Growing.{IsOpenAt, HasMark, is_open, opened_in};
-ghost use Rattle.tt_branch.specs.BestSoFar.{IsBestSoFar};
-ghost use Rattle.tt_branch.specs.Links.{link_of};
-ghost use Rattle.tt_branch.specs.State.{IsUnderWay, IsSplitAt};
+ghost use Rattle.tt_branch.specs.Inner.Growing.{IsOpenAt, HasMark, is_open, opened_in};
+ghost use Rattle.tt_branch.specs.Inner.BestSoFar.{IsBestSoFar};
+ghost use Rattle.tt_branch.specs.Inner.Links.{link_of};
+ghost use Rattle.tt_branch.specs.Inner.State.{IsUnderWay, IsSplitAt};
 
 use crate::best::Best;
 use crate::links::Link;

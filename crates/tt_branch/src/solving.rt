@@ -2,10 +2,10 @@
 
 ghost use Rattle.std.specs.Prelude.{◌≡◌, ◌≤◌, IfOk};
 ghost use Rattle.tt_instance_data.specs.Problem.{Problem};
-ghost use Rattle.tt_branch.specs.BestSoFar.{IsBestSoFar, table_of};
+ghost use Rattle.tt_branch.specs.Inner.BestSoFar.{IsBestSoFar, table_of};
 ghost use Rattle.tt_branch.specs.Outcomes.{IsOutcome, IsOutcomeUntil, BeginsWell, final_bound};
 ghost use Rattle.tt_branch.specs.Proofs.{shown_bound};
-ghost use Rattle.tt_branch.specs.State.{IsUnderWay, EndsAt};
+ghost use Rattle.tt_branch.specs.Inner.State.{IsUnderWay, EndsAt};
 ghost use Rattle.tt_branch.specs.declared.limit.TheConstants.{MAX_OPENED};
 
 use crate::best::{Best, bound_of, first_best, turns_for};

@@ -1,7 +1,7 @@
 //! The nodes of a tree that grows.
 
 ghost use Rattle.std.specs.Prelude.{◌≡◌, true, IfSome, IsNone};
-ghost use Rattle.tt_branch.specs.Growing.{is_open};
+ghost use Rattle.tt_branch.specs.Inner.Growing.{is_open};
 
 use tt_facts_path::Pattern;
 use tt_leaf_data::Leaf;

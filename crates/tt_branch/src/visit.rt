@@ -5,11 +5,11 @@ ghost use Rattle.tt_instance_data.specs.Problem.{Problem};
 ghost use Rattle.tt_facts_path.specs.declared.path.TheConstants.{MAX_FACTS};
 ghost use Rattle.tt_leaf.specs.Found.{ArePatterns};
 ghost use Rattle.tt_leaf.specs.Pinned.{IsPinnedDown, IsOpen};
-ghost use Rattle.tt_branch.specs.Growing.{IsKnown, IsSingle, HasMark, was_opened, opened_in};
-ghost use Rattle.tt_branch.specs.BestSoFar.{IsBestSoFar, table_of, Advances};
-ghost use Rattle.tt_branch.specs.Links.{path_at, AreLinks};
+ghost use Rattle.tt_branch.specs.Inner.Growing.{IsKnown, IsSingle, HasMark, was_opened, opened_in};
+ghost use Rattle.tt_branch.specs.Inner.BestSoFar.{IsBestSoFar, table_of, Advances};
+ghost use Rattle.tt_branch.specs.Inner.Links.{path_at, AreLinks};
 ghost use Rattle.tt_branch.specs.Outcomes.{final_bound};
-ghost use Rattle.tt_branch.specs.State.{IsUnderWay};
+ghost use Rattle.tt_branch.specs.Inner.State.{IsUnderWay};
 ghost use Rattle.tt_branch.specs.declared.limit.TheConstants.{MAX_TREE};
 
 use crate::best::{Best, bound_of};

@@ -12,8 +12,8 @@ use Rattle.tt_facts_path.specs.declared.facts.Who.{Who}
 use Rattle.tt_facts_path.specs.declared.facts.Who.TheVariants.{Course}
 use Rattle.tt_facts_path.specs.declared.facts.Pattern.{Pattern}
 use Rattle.tt_facts_path.specs.declared.facts.Fact.{Fact}
-use Rattle.tt_facts_path.specs.Paths.{Facts}
-use Rattle.tt_facts.specs.Halves.{yes_of, AreHalves}
+use Rattle.tt_facts_path.specs.Inner.Paths.{Facts}
+use Rattle.tt_facts.specs.Inner.Halves.{yes_of, AreHalves}
 
 -- -- another fact
 

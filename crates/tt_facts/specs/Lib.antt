@@ -1,5 +1,5 @@
+pub mod Inner
 pub use Rattle.tt_facts_path.specs.Facts
 pub use Rattle.tt_facts_path.specs.Live
-pub use Rattle.tt_facts_path.specs.Nested
-pub use Rattle.tt_facts_path.specs.Paths
-pub mod Halves
+pub use Rattle.tt_facts_path.specs.Inner.Nested
+pub use Rattle.tt_facts_path.specs.Inner.Paths

@@ -2,7 +2,7 @@
 
 ghost use Rattle.std.specs.Prelude.{◌≡◌, ◌<◌, [], ◌∷◌, ◌++◌, length, OnOk, OnErr};
 ghost use Rattle.tt_facts_path.specs.declared.path.TheConstants.{MAX_FACTS};
-ghost use Rattle.tt_facts.specs.Halves.{AreHalves};
+ghost use Rattle.tt_facts.specs.Inner.Halves.{AreHalves};
 
 use std::alloc::AllocError;
 use tt_facts_cells::Cells;

@@ -19,8 +19,8 @@ pub struct TrailPath<'p, 'i> {
 }
 
 impl<'p, 'i> Model for TrailPath<'p, 'i> {
-    ghost use Rattle.tt_facts_path.specs.Paths.{Facts};
-    ghost use Rattle.tt_facts.specs.Halves.{AreHalves};
+    ghost use Rattle.tt_facts_path.specs.Inner.Paths.{Facts};
+    ghost use Rattle.tt_facts.specs.Inner.Halves.{AreHalves};
 
     ghost Value = { Facts };
 

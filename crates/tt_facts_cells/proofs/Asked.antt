@@ -14,9 +14,9 @@ use Rattle.tt_instance_data.specs.Courses.{unavailable}
 use Rattle.tt_instance_data.specs.declared.cell.Cell.{Cell}
 use Rattle.tt_facts_path.specs.Live.{is_barred, is_dead, is_live, live_period}
 use Rattle.tt_facts_path.specs.declared.facts.Fact.{Fact}
-use Rattle.tt_facts_cells.specs.Tables.{has_cell, is_open, Shows}
+use Rattle.tt_facts_cells.specs.Inner.Tables.{has_cell, is_open, Shows}
 use Rattle.tt_facts_cells.proofs.Reading.{spare-cell}
-use Rattle.tt_facts_cells.specs.Shown.{is_free_of, AreTables, AreEarlier}
+use Rattle.tt_facts_cells.specs.Inner.Shown.{is_free_of, AreTables, AreEarlier}
 use Rattle.tt_facts_cells.proofs.Losing.{shows-same}
 
 module _ (p : Problem) (facts : List Fact) (live : List ℕ) (shows : Shows p (is_live p facts) live) where

@@ -12,10 +12,10 @@ use Rattle.tt_instance_data.specs.Problem.{Problem}
 use Rattle.tt_instance_data.specs.Cells.{InRange}
 use Rattle.tt_instance_data.specs.declared.cell.Cell.{Cell}
 use Rattle.tt_facts_path.specs.Facts.{agrees, is_who, matches}
-use Rattle.tt_facts_path.specs.Nested.{has_place_of, courses_of}
+use Rattle.tt_facts_path.specs.Inner.Nested.{has_place_of, courses_of}
 use Rattle.tt_facts_path.specs.declared.facts.Pattern.{Pattern}
-use Rattle.tt_facts_cells.specs.Tables.{is_placed}
-use Rattle.tt_facts_cells.specs.Slots.{is_allowed, Covers}
+use Rattle.tt_facts_cells.specs.Inner.Tables.{is_placed}
+use Rattle.tt_facts_cells.specs.Inner.Slots.{is_allowed, Covers}
 use Rattle.tt_facts_cells.proofs.Losing.{placed_at}
 use Rattle.tt_facts_cells.proofs.Struck.{who-has}
 

@@ -14,7 +14,7 @@ use Rattle.tt_facts_path.specs.Facts.{matches}
 use Rattle.tt_facts_path.specs.Live.{clash, is_barred, excludes}
 use Rattle.tt_facts_path.specs.declared.facts.Pattern.{Pattern}
 use Rattle.tt_facts_path.specs.declared.facts.Fact.{Fact}
-use Rattle.tt_facts_cells.specs.Killing.{is_free, IsSamePeriod, IsConfined, kills_by, kills_at}
+use Rattle.tt_facts_cells.specs.Inner.Killing.{is_free, IsSamePeriod, IsConfined, kills_by, kills_at}
 
 -- the test of "excludes" at one cell
 taken : (m b k : Bool) → (not m || b || k) ≡ (not (m && not b) || k)

@@ -8,12 +8,12 @@ use Rattle.tt_instance_data.specs.Problem.{Problem}
 use Rattle.tt_instance_data.specs.declared.cell.Cell.{Cell}
 use Rattle.tt_facts_path.specs.Facts.{matches, same_pattern}
 use Rattle.tt_facts_path.specs.Live.{is_barred, excludes, is_live}
-use Rattle.tt_facts_path.specs.Nested.{is_excluded}
+use Rattle.tt_facts_path.specs.Inner.Nested.{is_excluded}
 use Rattle.tt_facts_path.specs.declared.facts.Pattern.{Pattern}
 use Rattle.tt_facts_path.specs.declared.facts.Fact.{Fact}
 use Rattle.tt_facts_path.proofs.Same.{same_pattern-true}
-use Rattle.tt_facts_cells.specs.Tables.{Loses}
-use Rattle.tt_facts_cells.specs.Shown.{is_free_of, AreListed, Adds}
+use Rattle.tt_facts_cells.specs.Inner.Tables.{Loses}
+use Rattle.tt_facts_cells.specs.Inner.Shown.{is_free_of, AreListed, Adds}
 use Rattle.tt_facts_cells.proofs.Confined.{kills_all}
 use Rattle.tt_facts_cells.proofs.More.{is_barred-no}
 use Rattle.tt_facts_cells.proofs.Losing.{shows-less, shows-same}

@@ -8,9 +8,9 @@ use Rattle.tt_instance_data.specs.Problem.{Problem}
 use Rattle.tt_instance_data.specs.Cells.{slot, cell, InRange}
 use Rattle.tt_instance_data.specs.declared.cell.Cell.{Cell}
 use Rattle.tt_facts_path.specs.Facts.{agrees}
-use Rattle.tt_bits.specs.Bits.{has_bit, Clears}
-use Rattle.tt_facts_cells.specs.Words.{Bit, IsBit, width, place, size, bit_of, is_set, in_force, is_here, Drops}
-use Rattle.tt_facts_cells.specs.Tables.{has_cell, IsTable, Loses, is_placed, is_open}
+use Rattle.tt_bits.specs.Inner.Bits.{has_bit, Clears}
+use Rattle.tt_facts_cells.specs.Inner.Words.{Bit, IsBit, width, place, size, bit_of, is_set, in_force, is_here, Drops}
+use Rattle.tt_facts_cells.specs.Inner.Tables.{has_cell, IsTable, Loses, is_placed, is_open}
 use Rattle.tt_facts_cells.proofs.Grid.{word_within, same_word, bit_within, room_back, block_within}
 
 -- a table whose bits aren't in force has no cell

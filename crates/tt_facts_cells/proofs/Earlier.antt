@@ -6,7 +6,7 @@ use Rattle.std.proofs.lemmas.Bool.{cases_lt}
 use Rattle.std.proofs.Math.Seq.{take-append_seam}
 use Rattle.tt_instance_data.specs.Problem.{Problem}
 use Rattle.tt_facts_path.specs.declared.facts.Fact.{Fact}
-use Rattle.tt_facts_cells.specs.Shown.{AreTables, AreEarlier}
+use Rattle.tt_facts_cells.specs.Inner.Shown.{AreTables, AreEarlier}
 
 -- the tables at one place, with the lists that they come from replaced by equal ones
 moved : (p : Problem) (a b : List Fact) (f g l m : List ℕ) → a ≡ b → f ≡ g → l ≡ m → AreTables p a f l → AreTables p b g m

@@ -15,10 +15,10 @@ use Rattle.tt_lists.proofs.Truth.{same_truth}
 use Rattle.tt_lists.proofs.Twos.{neither}
 use Rattle.tt_instance_data.specs.Problem.{Problem, Unavailability}
 use Rattle.tt_instance_data.specs.declared.cell.Cell.{Cell}
-use Rattle.tt_bits.specs.Bits.{has_bit}
-use Rattle.tt_facts_cells.specs.Words.{Bit, IsBit, width, place, size, room_of, bit_of, is_set}
-use Rattle.tt_facts_cells.specs.Tables.{has_cell, Shows, Loses, is_placed}
-use Rattle.tt_facts_cells.specs.First.{AreFull}
+use Rattle.tt_bits.specs.Inner.Bits.{has_bit}
+use Rattle.tt_facts_cells.specs.Inner.Words.{Bit, IsBit, width, place, size, room_of, bit_of, is_set}
+use Rattle.tt_facts_cells.specs.Inner.Tables.{has_cell, Shows, Loses, is_placed}
+use Rattle.tt_facts_cells.specs.Inner.First.{AreFull}
 use Rattle.tt_facts_cells.proofs.Grid.{word_within, bit_within, room_back}
 
 -- the unavailability is for the cell's course and period

@@ -4,7 +4,7 @@ use Rattle.std.proofs.lemmas.Nat.{mod-mul-add, div-mul-add}
 use Rattle.tt_instance_data.specs.Problem.{Problem}
 use Rattle.tt_instance_data.specs.Cells.{InRange}
 use Rattle.tt_instance_data.specs.declared.cell.Cell.{Cell}
-use Rattle.tt_facts_cells.specs.Words.{Bit, IsBit, width, place, size, bit_of}
+use Rattle.tt_facts_cells.specs.Inner.Words.{Bit, IsBit, width, place, size, bit_of}
 use Rattle.tt_lists.proofs.Grid.{within_row}
 
 row_within : (a w h : ℕ) → a < h → a * w + w ≤ h * w

@@ -12,11 +12,11 @@ use Rattle.tt_instance_data.specs.declared.cell.Cell.{Cell}
 use Rattle.tt_instance_data.proofs.Exclusion.{conflict-itself}
 use Rattle.tt_facts_path.specs.Facts.{agrees}
 use Rattle.tt_facts_path.specs.declared.facts.Pattern.{Pattern}
-use Rattle.tt_instance_links.specs.Links.{conflicts_of}
+use Rattle.tt_instance_links.specs.Inner.Links.{conflicts_of}
 use Rattle.tt_instance_links.proofs.Linked.{conflicts-has}
-use Rattle.tt_facts_cells.specs.Tables.{has_cell, is_open, is_placed}
-use Rattle.tt_facts_cells.specs.Struck.{is_lost_to, loses_room}
-use Rattle.tt_facts_cells.specs.Shown.{is_struck}
+use Rattle.tt_facts_cells.specs.Inner.Tables.{has_cell, is_open, is_placed}
+use Rattle.tt_facts_cells.specs.Inner.Struck.{is_lost_to, loses_room}
+use Rattle.tt_facts_cells.specs.Inner.Shown.{is_struck}
 
 pub list_of_one : (xs : List ℕ) → length xs ≡ 1 → xs ≡ slice_index_or xs 0 0 ∷ []
 list_of_one [] e = absurd (omega arith)

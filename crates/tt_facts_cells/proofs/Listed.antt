@@ -11,8 +11,8 @@ use Rattle.tt_facts_path.specs.Facts.{same_answer, same_pattern, has_fact}
 use Rattle.tt_facts_path.specs.declared.facts.Pattern.{Pattern}
 use Rattle.tt_facts_path.specs.declared.facts.Fact.{Fact}
 use Rattle.tt_facts_path.proofs.Same.{same_pattern-true}
-use Rattle.tt_facts_cells.specs.Shown.{AreListed}
-use Rattle.tt_facts_cells.specs.Listing.{is_new, added, marked, IsListing}
+use Rattle.tt_facts_cells.specs.Inner.Shown.{AreListed}
+use Rattle.tt_facts_cells.specs.Inner.Listing.{is_new, added, marked, IsListing}
 use Rattle.tt_facts_cells.proofs.Renewed.{list_any_yes}
 
 -- ---- the patterns of marked facts

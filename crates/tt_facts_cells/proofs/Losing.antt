@@ -8,7 +8,7 @@ use Rattle.tt_lists.proofs.Truth.{same_truth, still_there, taken_twice}
 use Rattle.tt_instance_data.specs.Problem.{Problem}
 use Rattle.tt_instance_data.specs.Cells.{InRange}
 use Rattle.tt_instance_data.specs.declared.cell.Cell.{Cell}
-use Rattle.tt_facts_cells.specs.Tables.{has_cell, IsTable, Shows, Loses, is_placed}
+use Rattle.tt_facts_cells.specs.Inner.Tables.{has_cell, IsTable, Shows, Loses, is_placed}
 
 -- another number below a bound
 pub below_next : (k n : ℕ) → nat_lt k (n + 1) ≡ (nat_lt k n || (k == n))

@@ -14,7 +14,7 @@ use Rattle.tt_instance_data.specs.Courses.{unavailable}
 use Rattle.tt_instance_data.specs.declared.cell.Cell.{Cell}
 use Rattle.tt_facts_path.specs.Facts.{matches, same_pattern, same_answer, has_fact}
 use Rattle.tt_facts_path.specs.Live.{clash, is_barred, excludes, is_dead}
-use Rattle.tt_facts_path.specs.Nested.{is_denied, is_excluded}
+use Rattle.tt_facts_path.specs.Inner.Nested.{is_denied, is_excluded}
 use Rattle.tt_facts_path.specs.declared.facts.Pattern.{Pattern}
 use Rattle.tt_facts_path.specs.declared.facts.Fact.{Fact}
 use Rattle.tt_facts_path.proofs.Same.{same_fact}

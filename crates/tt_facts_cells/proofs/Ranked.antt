@@ -12,7 +12,7 @@ use Rattle.tt_instance_data.specs.Courses.{students, capacity, excess}
 use Rattle.tt_instance_data.specs.declared.cell.Slot.{Slot}
 use Rattle.tt_facts_path.specs.Live.{least, least_with, is_live, least_excess}
 use Rattle.tt_facts_path.specs.declared.facts.Fact.{Fact}
-use Rattle.tt_facts_cells.specs.Order.{ranked, IsRoomOrder, IsRoomiest}
+use Rattle.tt_facts_cells.specs.Inner.Order.{ranked, IsRoomOrder, IsRoomiest}
 use Rattle.tt_facts_cells.specs.declared.order.Ranked.{Ranked}
 use Rattle.tt_facts_path.proofs.Least.{least_more}
 

@@ -9,10 +9,10 @@ use Rattle.tt_lists.proofs.Range.{all_below, at_below, below_member}
 use Rattle.tt_lists.proofs.Truth.{same_truth}
 use Rattle.tt_instance_data.specs.Problem.{Problem}
 use Rattle.tt_instance_data.specs.Cells.{slot, cell, all_rooms}
-use Rattle.tt_bits.specs.Bits.{bits}
+use Rattle.tt_bits.specs.Inner.Bits.{bits}
 use Rattle.tt_bits.proofs.BitLaws.{any_bits_at, bit_from_any, all_bits_from, all_bits_at}
-use Rattle.tt_facts_cells.specs.Words.{width, is_set, in_force}
-use Rattle.tt_facts_cells.specs.Tables.{has_cell, IsTable}
+use Rattle.tt_facts_cells.specs.Inner.Words.{width, is_set, in_force}
+use Rattle.tt_facts_cells.specs.Inner.Tables.{has_cell, IsTable}
 use Rattle.tt_facts_cells.proofs.Grid.{room_back, block_within}
 use Rattle.tt_lists.proofs.Grid.{block_back, number_back}
 

@@ -17,16 +17,16 @@ use Rattle.tt_instance_data.specs.Courses.{in_curriculum}
 use Rattle.tt_instance_data.specs.declared.cell.Cell.{Cell}
 use Rattle.tt_facts_path.specs.Facts.{agrees, is_who, matches}
 use Rattle.tt_facts_path.specs.Live.{is_barred, excludes, is_dead, is_live}
-use Rattle.tt_facts_path.specs.Nested.{is_excluded}
+use Rattle.tt_facts_path.specs.Inner.Nested.{is_excluded}
 use Rattle.tt_facts_path.specs.declared.facts.Who.{Who}
 use Rattle.tt_facts_path.specs.declared.facts.Who.TheVariants.{Course, Curriculum}
 use Rattle.tt_facts_path.specs.declared.facts.Pattern.{Pattern}
 use Rattle.tt_facts_path.specs.declared.facts.Fact.{Fact}
 use Rattle.tt_facts_cells.proofs.More.{is_barred-yes, is_barred-no, is_dead-yes}
 use Rattle.tt_facts_cells.proofs.Recomputed.{excludes-untouched, is_dead-no-more}
-use Rattle.tt_facts_cells.specs.Tables.{has_cell, Shows, Loses}
-use Rattle.tt_facts_cells.specs.Touching.{can_agree, can_share, can_touch}
-use Rattle.tt_facts_cells.specs.Shown.{is_free_of, yes_facts, AreListed, Settles, Renews, Adds}
+use Rattle.tt_facts_cells.specs.Inner.Tables.{has_cell, Shows, Loses}
+use Rattle.tt_facts_cells.specs.Inner.Touching.{can_agree, can_share, can_touch}
+use Rattle.tt_facts_cells.specs.Inner.Shown.{is_free_of, yes_facts, AreListed, Settles, Renews, Adds}
 use Rattle.tt_facts_cells.proofs.Losing.{shows-less, shows-same}
 
 -- ---- patterns that touch

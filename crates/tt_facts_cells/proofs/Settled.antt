@@ -10,15 +10,15 @@ use Rattle.tt_instance_data.specs.Cells.{slot, cell, InRange}
 use Rattle.tt_instance_data.specs.declared.cell.Cell.{Cell}
 use Rattle.tt_facts_path.specs.Facts.{agrees, is_who, matches}
 use Rattle.tt_facts_path.specs.Live.{excludes}
-use Rattle.tt_facts_path.specs.Nested.{courses_of}
+use Rattle.tt_facts_path.specs.Inner.Nested.{courses_of}
 use Rattle.tt_facts_path.specs.declared.facts.Pattern.{Pattern}
 use Rattle.tt_facts_path.specs.declared.facts.Fact.{Fact}
-use Rattle.tt_facts_cells.specs.Killing.{is_free, IsConfined}
+use Rattle.tt_facts_cells.specs.Inner.Killing.{is_free, IsConfined}
 use Rattle.tt_facts_cells.proofs.Confined.{kills_there, kills_all, spares_all, spares_elsewhere}
-use Rattle.tt_facts_cells.specs.Tables.{IsTable, Shows, Loses}
-use Rattle.tt_facts_cells.specs.Struck.{is_left, loses_room}
-use Rattle.tt_facts_cells.specs.Slots.{is_allowed, is_left_in, Covers, IsNone, IsFirst}
-use Rattle.tt_facts_cells.specs.Shown.{is_free_of, is_struck, Settles}
+use Rattle.tt_facts_cells.specs.Inner.Tables.{IsTable, Shows, Loses}
+use Rattle.tt_facts_cells.specs.Inner.Struck.{is_left, loses_room}
+use Rattle.tt_facts_cells.specs.Inner.Slots.{is_allowed, is_left_in, Covers, IsNone, IsFirst}
+use Rattle.tt_facts_cells.specs.Inner.Shown.{is_free_of, is_struck, Settles}
 use Rattle.tt_facts_cells.proofs.Losing.{loses-none, loses-same}
 use Rattle.tt_facts_cells.proofs.Struck.{left-free, free-left, kills-loses}
 

@@ -17,15 +17,15 @@ use Rattle.tt_instance_data.specs.Courses.{conflict, one_teacher, one_curriculum
 use Rattle.tt_instance_data.specs.declared.cell.Cell.{Cell}
 use Rattle.tt_facts_path.specs.Facts.{matches, is_who, agrees}
 use Rattle.tt_facts_path.specs.Live.{clash}
-use Rattle.tt_facts_path.specs.Nested.{courses_of}
+use Rattle.tt_facts_path.specs.Inner.Nested.{courses_of}
 use Rattle.tt_facts_path.specs.declared.facts.Who.{Who}
 use Rattle.tt_facts_path.specs.declared.facts.Who.TheVariants as Whose
 use Rattle.tt_facts_path.specs.declared.facts.Pattern.{Pattern}
 use Rattle.tt_facts_path.specs.declared.facts.Fact.{Fact}
-use Rattle.tt_facts_cells.specs.Killing.{is_free, kills_by, kills_at}
-use Rattle.tt_facts_cells.specs.Tables.{has_cell, Shows, is_open}
-use Rattle.tt_facts_cells.specs.Struck.{is_left_to, is_left, is_lost_to, loses_room}
-use Rattle.tt_facts_cells.specs.Shown.{is_free_of}
+use Rattle.tt_facts_cells.specs.Inner.Killing.{is_free, kills_by, kills_at}
+use Rattle.tt_facts_cells.specs.Inner.Tables.{has_cell, Shows, is_open}
+use Rattle.tt_facts_cells.specs.Inner.Struck.{is_left_to, is_left, is_lost_to, loses_room}
+use Rattle.tt_facts_cells.specs.Inner.Shown.{is_free_of}
 
 -- ---- the courses that are meant
 

@@ -1,12 +1,1 @@
-pub mod Words
-pub mod Tables
-pub mod Rooms
-pub mod First
-pub mod Killing
-pub mod Struck
-pub mod Slots
-pub mod Shown
-pub mod Touching
-pub mod Order
-pub mod Listing
-pub mod Spread
+pub mod Inner

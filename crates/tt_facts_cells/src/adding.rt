@@ -3,9 +3,9 @@
 ghost use Rattle.std.specs.Prelude.{◌≡◌, false, [], ◌∷◌, ◌++◌, OnOk, OnErr};
 ghost use Rattle.std.specs.List.{list_any};
 ghost use Rattle.tt_facts_path.specs.Facts.{same_pattern};
-ghost use Rattle.tt_instance_links.specs.Linked.{AreConflicts};
-ghost use Rattle.tt_facts_cells.specs.Tables.{IsTable};
-ghost use Rattle.tt_facts_cells.specs.Shown.{Adds};
+ghost use Rattle.tt_instance_links.specs.Inner.Linked.{AreConflicts};
+ghost use Rattle.tt_facts_cells.specs.Inner.Tables.{IsTable};
+ghost use Rattle.tt_facts_cells.specs.Inner.Shown.{Adds};
 
 use crate::again::settle_again;
 use crate::barring::remove_matched;

@@ -1,10 +1,10 @@
 //! The older yes-facts after a no-fact.
 
 ghost use Rattle.std.specs.Prelude.{◌≡◌, OnOk};
-ghost use Rattle.tt_instance_links.specs.Linked.{AreConflicts};
-ghost use Rattle.tt_facts_cells.specs.Tables.{IsTable};
-ghost use Rattle.tt_facts_cells.specs.Touching.{can_agree, can_share, can_touch};
-ghost use Rattle.tt_facts_cells.specs.Shown.{Renews};
+ghost use Rattle.tt_instance_links.specs.Inner.Linked.{AreConflicts};
+ghost use Rattle.tt_facts_cells.specs.Inner.Tables.{IsTable};
+ghost use Rattle.tt_facts_cells.specs.Inner.Touching.{can_agree, can_share, can_touch};
+ghost use Rattle.tt_facts_cells.specs.Inner.Shown.{Renews};
 
 use crate::removing::is_cleared;
 use crate::settling::settle;

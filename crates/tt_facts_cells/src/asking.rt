@@ -4,10 +4,10 @@ ghost use Rattle.std.specs.Prelude.{◌≡◌, ◌<◌, ◌+◌, ◌*◌, ◌==�
 ghost use Rattle.std.specs.List.{list_any, list_all};
 ghost use Rattle.tt_instance_data.specs.Cells.{slot, cell, all_rooms, InRange};
 ghost use Rattle.tt_lists.specs.Words.{range_below};
-ghost use Rattle.tt_bits.specs.Bits.{has_bit, bits};
-ghost use Rattle.tt_facts_cells.specs.Words.{width};
-ghost use Rattle.tt_facts_cells.specs.Rooms.{has_room};
-ghost use Rattle.tt_facts_cells.specs.Tables.{has_cell, is_open, IsTable};
+ghost use Rattle.tt_bits.specs.Inner.Bits.{has_bit, bits};
+ghost use Rattle.tt_facts_cells.specs.Inner.Words.{width};
+ghost use Rattle.tt_facts_cells.specs.Inner.Rooms.{has_room};
+ghost use Rattle.tt_facts_cells.specs.Inner.Tables.{has_cell, is_open, IsTable};
 
 use crate::places::{cells_word, open_word, width};
 use crate::rooms::{Rooms, common_of};

@@ -2,8 +2,8 @@
 
 ghost use Rattle.std.specs.Prelude.{◌≡◌, ◌<◌, ◌==◌, ◌&&◌, Some, length, OnOk};
 ghost use Rattle.tt_facts_path.specs.Facts.{matches};
-ghost use Rattle.tt_facts_path.specs.Nested.{has_place_of};
-ghost use Rattle.tt_facts_cells.specs.Tables.{IsTable, Loses};
+ghost use Rattle.tt_facts_path.specs.Inner.Nested.{has_place_of};
+ghost use Rattle.tt_facts_cells.specs.Inner.Tables.{IsTable, Loses};
 
 use crate::courses::courses_of;
 use crate::periods::{is_allowed, slots_of};

@@ -33,12 +33,12 @@ pub struct Cells<'p, 'i> {
 
 impl<'p, 'i> Model for Cells<'p, 'i> {
     ghost use Rattle.std.specs.Prelude.{◌≡◌, ◌≤◌, length};
-    ghost use Rattle.tt_facts_path.specs.Paths.{Facts};
+    ghost use Rattle.tt_facts_path.specs.Inner.Paths.{Facts};
     ghost use Rattle.tt_facts_path.specs.declared.path.TheConstants.{MAX_FACTS};
-    ghost use Rattle.tt_instance_links.specs.Linked.{AreConflicts};
-    ghost use Rattle.tt_facts_cells.specs.Order.{IsRoomOrder};
-    ghost use Rattle.tt_facts_cells.specs.Listing.{IsListing};
-    ghost use Rattle.tt_facts_cells.specs.Shown.{AreTables, AreEarlier};
+    ghost use Rattle.tt_instance_links.specs.Inner.Linked.{AreConflicts};
+    ghost use Rattle.tt_facts_cells.specs.Inner.Order.{IsRoomOrder};
+    ghost use Rattle.tt_facts_cells.specs.Inner.Listing.{IsListing};
+    ghost use Rattle.tt_facts_cells.specs.Inner.Shown.{AreTables, AreEarlier};
 
     ghost Value = { Facts };
 
@@ -56,9 +56,9 @@ impl<'p, 'i> Model for Cells<'p, 'i> {
 
 impl<'p, 'i> Cells<'p, 'i> {
     ghost use Rattle.std.specs.Prelude.{ℕ, ◌+◌, ◌*◌, ◌&&◌, nat_lt, [], ◌∷◌, ◌++◌, slice_get, Some, OnOk, OnErr, IfOk, IfSome, MatchOption, true, false};
-    ghost use Rattle.tt_bits.specs.Bits.{has_bit};
+    ghost use Rattle.tt_bits.specs.Inner.Bits.{has_bit};
     ghost use Rattle.tt_instance_data.specs.Cells.{InRange, slot, cell};
-    ghost use Rattle.tt_facts_cells.specs.Order.{IsRoomiest};
+    ghost use Rattle.tt_facts_cells.specs.Inner.Order.{IsRoomiest};
     ghost use Rattle.tt_facts_path.specs.Facts.{has_fact};
     ghost use Rattle.tt_facts_path.specs.Live.{is_dead, is_live, live_period, live_day, least_excess};
     ghost use Rattle.tt_instance_data.specs.declared.limit.TheConstants.{MAX_SEATS};

@@ -1,7 +1,7 @@
 //! The courses whose cells a pattern matches.
 
 ghost use Rattle.std.specs.Prelude.{◌≡◌};
-ghost use Rattle.tt_facts_path.specs.Nested.{courses_of};
+ghost use Rattle.tt_facts_path.specs.Inner.Nested.{courses_of};
 
 use std::slice;
 use tt_facts_path::Who;

@@ -2,9 +2,9 @@
 
 ghost use Rattle.std.specs.Prelude.{◌≡◌, [], not, IfOk};
 ghost use Rattle.tt_instance_data.specs.Courses.{unavailable};
-ghost use Rattle.tt_facts_cells.specs.Words.{size};
-ghost use Rattle.tt_facts_cells.specs.Tables.{Shows};
-ghost use Rattle.tt_facts_cells.specs.First.{AreFull};
+ghost use Rattle.tt_facts_cells.specs.Inner.Words.{size};
+ghost use Rattle.tt_facts_cells.specs.Inner.Tables.{Shows};
+ghost use Rattle.tt_facts_cells.specs.Inner.First.{AreFull};
 
 use crate::places::width;
 use crate::removing::remove_rooms;

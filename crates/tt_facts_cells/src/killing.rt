@@ -3,13 +3,13 @@
 ghost use Rattle.std.specs.Prelude.{◌≡◌, ◌<◌, ◌==◌, ◌&&◌, ℕ, [], ◌∷◌, length, OnOk, not, ◌||◌};
 ghost use Rattle.std.specs.List.{list_all};
 ghost use Rattle.tt_lists.specs.Words.{has_number};
-ghost use Rattle.tt_facts_path.specs.Nested.{courses_of};
-ghost use Rattle.tt_instance_links.specs.Linked.{AreConflicts};
-ghost use Rattle.tt_facts_cells.specs.Rooms.{has_room};
+ghost use Rattle.tt_facts_path.specs.Inner.Nested.{courses_of};
+ghost use Rattle.tt_instance_links.specs.Inner.Linked.{AreConflicts};
+ghost use Rattle.tt_facts_cells.specs.Inner.Rooms.{has_room};
 ghost use Rattle.tt_instance_data.specs.Cells.{all_rooms};
-ghost use Rattle.tt_facts_cells.specs.Tables.{is_open, is_placed, IsTable, Loses};
-ghost use Rattle.tt_facts_cells.specs.Struck.{is_lost_to, loses_room};
-ghost use Rattle.tt_facts_cells.specs.Shown.{is_struck};
+ghost use Rattle.tt_facts_cells.specs.Inner.Tables.{is_open, is_placed, IsTable, Loses};
+ghost use Rattle.tt_facts_cells.specs.Inner.Struck.{is_lost_to, loses_room};
+ghost use Rattle.tt_facts_cells.specs.Inner.Shown.{is_struck};
 
 use crate::asking::{common_rooms, has_period};
 use crate::removing::{keep_rooms, remove_rooms};

@@ -3,7 +3,7 @@
 ghost use Rattle.std.specs.Prelude.{◌≡◌, ◌<◌, [], ◌∷◌, ◌++◌, ◌&&◌, not, length, OnOk, OnErr};
 ghost use Rattle.std.specs.List.{list_any};
 ghost use Rattle.tt_facts_path.specs.Facts.{same_pattern};
-ghost use Rattle.tt_facts_cells.specs.Listing.{IsListing};
+ghost use Rattle.tt_facts_cells.specs.Inner.Listing.{IsListing};
 
 use std::alloc::AllocError;
 use tt_facts_path::{Fact, Pattern};

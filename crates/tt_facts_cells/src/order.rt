@@ -3,7 +3,7 @@
 ghost use Rattle.std.specs.Prelude.{◌≡◌, ◌<◌, ◌^◌, ℕ, length, map, IfOk};
 ghost use Rattle.tt_instance_data.specs.Cells.{all_rooms};
 ghost use Rattle.tt_instance_data.specs.Courses.{capacity};
-ghost use Rattle.tt_facts_cells.specs.Order.{ranked};
+ghost use Rattle.tt_facts_cells.specs.Inner.Order.{ranked};
 
 use std::alloc::{AllocError, Global};
 use std::marker::Model;
@@ -45,7 +45,7 @@ fn ranked_rooms(alloc: Global, instance: &Instance<'_>) -> Result<Vec<Ranked>, A
 }
 
 impl RoomOrder {
-    ghost use Rattle.tt_facts_cells.specs.Order.{IsRoomOrder};
+    ghost use Rattle.tt_facts_cells.specs.Inner.Order.{IsRoomOrder};
 
     /// Sorts the rooms of an instance. The result doesn't borrow the instance.
     pub fn new(alloc: Global, instance: &Instance<'_>) -> Result<RoomOrder, AllocError>

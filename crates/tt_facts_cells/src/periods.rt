@@ -2,9 +2,9 @@
 
 ghost use Rattle.std.specs.Prelude.{◌≡◌, ◌<◌, ◌≤◌, ◌*◌, length, MatchOption};
 ghost use Rattle.tt_facts_path.specs.Facts.{agrees};
-ghost use Rattle.tt_facts_cells.specs.Tables.{IsTable};
-ghost use Rattle.tt_facts_cells.specs.Struck.{is_left_to, is_left};
-ghost use Rattle.tt_facts_cells.specs.Slots.{is_allowed, is_left_in, Covers, IsNone, IsFirst};
+ghost use Rattle.tt_facts_cells.specs.Inner.Tables.{IsTable};
+ghost use Rattle.tt_facts_cells.specs.Inner.Struck.{is_left_to, is_left};
+ghost use Rattle.tt_facts_cells.specs.Inner.Slots.{is_allowed, is_left_in, Covers, IsNone, IsFirst};
 
 use crate::asking::has_period;
 use tt_bits::Trail;

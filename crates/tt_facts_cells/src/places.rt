@@ -3,9 +3,9 @@
 ghost use Rattle.std.specs.Prelude.{◌≡◌, ◌<◌, ◌≤◌, ◌+◌, ◌*◌, ℕ, length};
 ghost use Rattle.tt_instance_data.specs.Cells.{slot, cell};
 ghost use Rattle.tt_facts_path.specs.Facts.{agrees};
-ghost use Rattle.tt_bits.specs.Bits.{has_bit};
-ghost use Rattle.tt_facts_cells.specs.Words.{width, place, size};
-ghost use Rattle.tt_facts_cells.specs.Tables.{has_cell, is_open, IsTable};
+ghost use Rattle.tt_bits.specs.Inner.Bits.{has_bit};
+ghost use Rattle.tt_facts_cells.specs.Inner.Words.{width, place, size};
+ghost use Rattle.tt_facts_cells.specs.Inner.Tables.{has_cell, is_open, IsTable};
 
 use tt_bits::{Trail, both, one};
 use tt_instance_data::Instance;

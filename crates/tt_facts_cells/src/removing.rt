@@ -3,7 +3,7 @@
 ghost use Rattle.std.specs.Prelude.{◌≡◌, ◌<◌, ◌&&◌, true, false, not, length, OnOk, OnErr};
 ghost use Rattle.tt_instance_data.specs.declared.cell.Cell.{Cell};
 ghost use Rattle.tt_facts_path.specs.Facts.{agrees};
-ghost use Rattle.tt_facts_cells.specs.Tables.{has_cell, is_placed, IsTable, Loses};
+ghost use Rattle.tt_facts_cells.specs.Inner.Tables.{has_cell, is_placed, IsTable, Loses};
 
 use crate::places::{allowed, open_word, place, width};
 use std::alloc::AllocError;

@@ -1,8 +1,8 @@
 //! Sets of rooms: no room, one room or all rooms.
 
 ghost use Rattle.std.specs.Prelude.{◌≡◌, ◌+◌, ◌*◌, ◌<◌, ◌==◌, ◌&&◌, ℕ};
-ghost use Rattle.tt_bits.specs.Bits.{each_bit};
-ghost use Rattle.tt_facts_cells.specs.Rooms.{has_room};
+ghost use Rattle.tt_bits.specs.Inner.Bits.{each_bit};
+ghost use Rattle.tt_facts_cells.specs.Inner.Rooms.{has_room};
 
 use tt_bits::{is_empty, lowest, one, without};
 

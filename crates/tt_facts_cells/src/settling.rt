@@ -1,11 +1,11 @@
 //! The live cells that a yes-fact removes.
 
 ghost use Rattle.std.specs.Prelude.{◌≡◌, ◌<◌, ◌≤◌, ◌*◌, [], ◌∷◌, length, Some, OnOk};
-ghost use Rattle.tt_facts_path.specs.Nested.{courses_of};
-ghost use Rattle.tt_instance_links.specs.Linked.{AreConflicts};
-ghost use Rattle.tt_facts_cells.specs.Tables.{IsTable};
-ghost use Rattle.tt_facts_cells.specs.Slots.{is_left_in, Covers, IsFirst};
-ghost use Rattle.tt_facts_cells.specs.Shown.{Settles};
+ghost use Rattle.tt_facts_path.specs.Inner.Nested.{courses_of};
+ghost use Rattle.tt_instance_links.specs.Inner.Linked.{AreConflicts};
+ghost use Rattle.tt_facts_cells.specs.Inner.Tables.{IsTable};
+ghost use Rattle.tt_facts_cells.specs.Inner.Slots.{is_left_in, Covers, IsFirst};
+ghost use Rattle.tt_facts_cells.specs.Inner.Shown.{Settles};
 
 use crate::asking::common_rooms;
 use crate::courses::courses_of;

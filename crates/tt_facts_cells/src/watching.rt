@@ -1,8 +1,8 @@
 //! Two periods in which a yes-fact had a free cell when it was last looked at: as long as it has one in each, it excludes no cell.
 
 ghost use Rattle.std.specs.Prelude.{◌≡◌, true};
-ghost use Rattle.tt_facts_cells.specs.Tables.{IsTable};
-ghost use Rattle.tt_facts_cells.specs.Spread.{IsSpread};
+ghost use Rattle.tt_facts_cells.specs.Inner.Tables.{IsTable};
+ghost use Rattle.tt_facts_cells.specs.Inner.Spread.{IsSpread};
 
 use crate::periods::is_left_in;
 use std::alloc::{AllocError, Global};

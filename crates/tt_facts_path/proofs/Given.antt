@@ -9,7 +9,7 @@ use Rattle.tt_lists.proofs.All.{list_all-same}
 use Rattle.tt_lists.proofs.Below.{all_pass}
 use Rattle.tt_lists.proofs.Filters.{list_all-of_filter}
 use Rattle.tt_lists.proofs.Twos.{list_all-swap}
-use Rattle.tt_facts_path.specs.Nested.{numbers_given}
+use Rattle.tt_facts_path.specs.Inner.Nested.{numbers_given}
 
 -- ---- tests
 

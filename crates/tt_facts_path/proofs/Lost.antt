@@ -14,7 +14,7 @@ use Rattle.tt_instance_data.specs.declared.cell.Cell.{Cell}
 use Rattle.tt_instance_data.proofs.Places.{cells_nested}
 use Rattle.tt_facts_path.specs.Facts.{agrees, is_who, matches}
 use Rattle.tt_facts_path.specs.Live.{clash, is_barred, excludes}
-use Rattle.tt_facts_path.specs.Nested.{courses_of, is_lost, is_day_lost, is_room_lost, are_rooms_lost, is_course_lost}
+use Rattle.tt_facts_path.specs.Inner.Nested.{courses_of, is_lost, is_day_lost, is_room_lost, are_rooms_lost, is_course_lost}
 use Rattle.tt_facts_path.specs.declared.facts.Who.{Who}
 use Rattle.tt_facts_path.specs.declared.facts.Who.TheVariants.{Course, Curriculum}
 use Rattle.tt_facts_path.specs.declared.facts.Pattern.{Pattern}

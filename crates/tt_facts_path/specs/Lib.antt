@@ -1,4 +1,3 @@
 pub mod Facts
+pub mod Inner
 pub mod Live
-pub mod Nested
-pub mod Paths

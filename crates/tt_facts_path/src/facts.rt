@@ -3,7 +3,7 @@
 ghost use Rattle.std.specs.Prelude.{◌≡◌};
 ghost use Rattle.tt_facts_path.specs.Facts.{agrees, is_who, matches};
 ghost use Rattle.tt_facts_path.specs.Live.{gives, is_pinned_by};
-ghost use Rattle.tt_facts_path.specs.Nested.{has_place_of};
+ghost use Rattle.tt_facts_path.specs.Inner.Nested.{has_place_of};
 
 use tt_instance_data::{Cell, Instance};
 

@@ -2,7 +2,7 @@
 
 ghost use Rattle.std.specs.Prelude.{◌≡◌, ◌<◌, ◌≤◌, ◌+◌, ◌*◌, ◌&&◌, ℕ, nat_lt, [], ◌∷◌, ◌++◌, List, length, slice_get, Some, IfSome, OnOk, OnErr, IsErrOf, IsOkUnless};
 ghost use Rattle.tt_instance_data.specs.Problem.{Problem};
-ghost use Rattle.tt_bits.specs.Bits.{has_bit};
+ghost use Rattle.tt_bits.specs.Inner.Bits.{has_bit};
 ghost use Rattle.tt_instance_data.specs.Cells.{InRange, slot, cell};
 ghost use Rattle.tt_facts_path.specs.Facts.{IsWho, has_fact};
 ghost use Rattle.tt_facts_path.specs.Live.{is_dead, is_live, live_period, live_day, least_excess, pinned, pinned_room};

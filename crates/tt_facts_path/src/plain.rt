@@ -22,7 +22,7 @@ pub struct PlainPath<'p, 'i> {
 
 impl<'p, 'i> Model for PlainPath<'p, 'i> {
     ghost use Rattle.std.specs.Prelude.{◌≤◌, length};
-    ghost use Rattle.tt_facts_path.specs.Paths.{Facts};
+    ghost use Rattle.tt_facts_path.specs.Inner.Paths.{Facts};
     ghost use Rattle.tt_facts_path.specs.declared.path.TheConstants.{MAX_FACTS};
 
     ghost Value = { Facts };

@@ -5,7 +5,7 @@ use Rattle.std.proofs.lemmas.List.{take-append-le, get_or_push, get_or_append_le
 use Rattle.std.proofs.lemmas.Bool.{cases_lt}
 use Rattle.std.proofs.Math.Seq.{take-append_seam}
 use Rattle.tt_facts_path.specs.declared.facts.Fact.{Fact}
-use Rattle.tt_facts_pins.specs.Earlier.{AreEarlier}
+use Rattle.tt_facts_pins.specs.Inner.Earlier.{AreEarlier}
 
 moved : (Shows : List Fact → List ℕ → Type 0) (a b : List Fact) (v w : List ℕ) → a ≡ b → v ≡ w → Shows a v → Shows b w
 moved Shows a b v w q r s = subst (λ x. Shows b x) r (subst (λ x. Shows x v) q s)

@@ -16,9 +16,9 @@ use Rattle.tt_facts_path.specs.declared.facts.Pattern.{Pattern}
 use Rattle.tt_facts_path.specs.declared.facts.Fact.{Fact}
 use Rattle.tt_facts_path.proofs.Same.{same_answer-true, same_option-true, same_who-true}
 use Rattle.tt_facts_pins.specs.declared.bit_places.BitPlace.{BitPlace}
-use Rattle.tt_facts_pins.specs.Sets.{has_at}
-use Rattle.tt_facts_pins.specs.Tables.{width, Adds}
-use Rattle.tt_facts_pins.specs.FactTable.{fact_row, fact_rows, open_place, open_size, slot_row, closed_place, bit_place_in, bit_place_of, bit_place_at, is_nowhere, unplaced_of, is_fact, ShowsFacts, AddsFact}
+use Rattle.tt_facts_pins.specs.Inner.Sets.{has_at}
+use Rattle.tt_facts_pins.specs.Inner.Tables.{width, Adds}
+use Rattle.tt_facts_pins.specs.Inner.FactTable.{fact_row, fact_rows, open_place, open_size, slot_row, closed_place, bit_place_in, bit_place_of, bit_place_at, is_nowhere, unplaced_of, is_fact, ShowsFacts, AddsFact}
 use Rattle.tt_facts_pins.proofs.Grid.{same_day, same_room, room_within, apart, apart_back}
 use Rattle.tt_lists.proofs.Grid.{within_row}
 

@@ -8,7 +8,7 @@ use Rattle.tt_instance_data.specs.Problem.{Problem}
 use Rattle.tt_facts_path.specs.Facts.{IsWho}
 use Rattle.tt_facts_path.specs.declared.facts.Who.{Who}
 use Rattle.tt_facts_path.specs.declared.facts.Who.TheVariants.{Course, Curriculum}
-use Rattle.tt_facts_pins.specs.Tables.{row_of, rows, day_place, days_size, width}
+use Rattle.tt_facts_pins.specs.Inner.Tables.{row_of, rows, day_place, days_size, width}
 use Rattle.tt_lists.proofs.Grid.{within_row}
 
 pub row_within : (p : Problem) (who : Who) → IsWho p who → row_of p who < rows p

@@ -6,9 +6,9 @@ use Rattle.std.proofs.lemmas.Bool.{cases_eq}
 use Rattle.std.proofs.lemmas.List.{take_more}
 use Rattle.std.proofs.lemmas.List.Folds.{list_any-append}
 use Rattle.tt_instance_data.specs.Problem.{Problem}
-use Rattle.tt_bits.specs.Bits.{has_bit}
-use Rattle.tt_facts_pins.specs.Sets.{has_at, Puts}
-use Rattle.tt_facts_pins.specs.Tables.{Adds, is_day_of, day_place}
+use Rattle.tt_bits.specs.Inner.Bits.{has_bit}
+use Rattle.tt_facts_pins.specs.Inner.Sets.{has_at, Puts}
+use Rattle.tt_facts_pins.specs.Inner.Tables.{Adds, is_day_of, day_place}
 
 nothing_more : (a t : Bool) → t ≡ false → a ≡ (a || t)
 nothing_more a t e = sym (ap (λ b. a || b) e ∙ or-false a)

@@ -10,14 +10,14 @@ use Rattle.tt_instance_data.specs.Problem.{Problem}
 use Rattle.tt_instance_data.specs.Courses.{members}
 use Rattle.tt_instance_data.specs.Limits.{IsInstance}
 use Rattle.tt_instance_data.proofs.Limits.{members_below}
-use Rattle.tt_instance_links.specs.Links.{curricula_of}
+use Rattle.tt_instance_links.specs.Inner.Links.{curricula_of}
 use Rattle.tt_instance_links.proofs.Linked.{has-curricula_of}
 use Rattle.tt_facts_path.specs.Facts.{IsWho}
 use Rattle.tt_facts_path.specs.Live.{gives, is_pinned_by}
 use Rattle.tt_facts_path.specs.declared.facts.Who.{Who}
 use Rattle.tt_facts_path.specs.declared.facts.Who.TheVariants.{Course, Curriculum}
-use Rattle.tt_facts_pins.specs.Sets.{has_at}
-use Rattle.tt_facts_pins.specs.Tables.{row_of, day_place, days_size, width, room_place, Adds, is_day_of, pins_period, pins_room, PinsPeriods, PinsRooms}
+use Rattle.tt_facts_pins.specs.Inner.Sets.{has_at}
+use Rattle.tt_facts_pins.specs.Inner.Tables.{row_of, day_place, days_size, width, room_place, Adds, is_day_of, pins_period, pins_room, PinsPeriods, PinsRooms}
 use Rattle.tt_facts_pins.proofs.Grid.{row_within, day_within, same_day, room_within, same_room, apart, apart_back}
 use Rattle.tt_lists.proofs.Truth.{and-over}
 

@@ -8,8 +8,8 @@ use Rattle.tt_instance_data.specs.Cells.{slot}
 use Rattle.tt_facts_path.specs.Live.{gives, is_pinned_by, pinned, pinned_room}
 use Rattle.tt_facts_path.specs.declared.facts.Who.TheVariants.{Course}
 use Rattle.tt_facts_path.specs.declared.facts.Fact.{Fact}
-use Rattle.tt_facts_pins.specs.Sets.{has_at}
-use Rattle.tt_facts_pins.specs.Tables.{row_of, day_place, block_place, room_place, pins_period, pins_room, ShowsPins, PinsPeriods, PinsRooms, Pins}
+use Rattle.tt_facts_pins.specs.Inner.Sets.{has_at}
+use Rattle.tt_facts_pins.specs.Inner.Tables.{row_of, day_place, block_place, room_place, pins_period, pins_room, ShowsPins, PinsPeriods, PinsRooms, Pins}
 use Rattle.tt_facts_pins.proofs.Grid.{row_within, day_within, block_within}
 use Rattle.tt_lists.proofs.Grid.{block_back, number_back}
 

@@ -1,4 +1,1 @@
-pub mod FactTable
-pub mod Earlier
-pub mod Sets
-pub mod Tables
+pub mod Inner

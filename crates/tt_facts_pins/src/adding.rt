@@ -1,9 +1,9 @@
 //! Adding a fact to the tables.
 
 ghost use Rattle.std.specs.Prelude.{◌≡◌, [], ◌∷◌, ◌++◌, length, OnOk, OnErr};
-ghost use Rattle.tt_instance_links.specs.Linked.{AreCurricula};
-ghost use Rattle.tt_facts_pins.specs.Tables.{size, Pins};
-ghost use Rattle.tt_facts_pins.specs.FactTable.{fact_table_size, AddsFact};
+ghost use Rattle.tt_instance_links.specs.Inner.Linked.{AreCurricula};
+ghost use Rattle.tt_facts_pins.specs.Inner.Tables.{size, Pins};
+ghost use Rattle.tt_facts_pins.specs.Inner.FactTable.{fact_table_size, AddsFact};
 
 use crate::fact_table::add_fact;
 use crate::pinning::{pin_period, pin_room};

@@ -1,7 +1,7 @@
 //! The places of facts in their table.
 
 ghost use Rattle.std.specs.Prelude.{◌≡◌, ◌<◌, ◌≤◌, ◌*◌, ℕ, not, length, IfSome, Bool};
-ghost use Rattle.tt_facts_pins.specs.FactTable.{fact_row, fact_rows, open_place, open_size, closed_place, fact_table_size, bit_place_in, bit_place_at, is_nowhere};
+ghost use Rattle.tt_facts_pins.specs.Inner.FactTable.{fact_row, fact_rows, open_place, open_size, closed_place, fact_table_size, bit_place_in, bit_place_at, is_nowhere};
 ghost use Rattle.tt_instance_data.specs.declared.limit.TheConstants.{MAX_COURSES, MAX_DAYS};
 
 use tt_facts_path::{Fact, Pattern, Who};

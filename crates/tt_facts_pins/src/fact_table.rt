@@ -1,7 +1,7 @@
 //! Adding a fact to the table of facts.
 
 ghost use Rattle.std.specs.Prelude.{◌≡◌, length, OnOk};
-ghost use Rattle.tt_facts_pins.specs.FactTable.{fact_table_size, AddsFact};
+ghost use Rattle.tt_facts_pins.specs.Inner.FactTable.{fact_table_size, AddsFact};
 
 use crate::bit_places::find_bit_place;
 use crate::sets::put;

@@ -2,7 +2,7 @@
 
 ghost use Rattle.std.specs.Prelude.{◌≡◌, ◌<◌, [], ◌∷◌, ◌++◌, length, OnOk, OnErr};
 ghost use Rattle.tt_facts_path.specs.Facts.{has_fact};
-ghost use Rattle.tt_facts_pins.specs.FactTable.{unplaced_of};
+ghost use Rattle.tt_facts_pins.specs.Inner.FactTable.{unplaced_of};
 
 use crate::bit_places::has_bit_place;
 use std::alloc::AllocError;

@@ -2,9 +2,9 @@
 
 ghost use Rattle.std.specs.Prelude.{◌≡◌, ◌<◌, ◌==◌, All, Some, length, OnOk};
 ghost use Rattle.tt_instance_data.specs.Limits.{IsInstance};
-ghost use Rattle.tt_instance_links.specs.Linked.{AreCurricula};
+ghost use Rattle.tt_instance_links.specs.Inner.Linked.{AreCurricula};
 ghost use Rattle.tt_facts_path.specs.Facts.{IsWho};
-ghost use Rattle.tt_facts_pins.specs.Tables.{size, row_of, day_place, is_day_of, Adds, PinsPeriods, PinsRooms};
+ghost use Rattle.tt_facts_pins.specs.Inner.Tables.{size, row_of, day_place, is_day_of, Adds, PinsPeriods, PinsRooms};
 
 use crate::places::{day_place, room_place};
 use crate::sets::put;

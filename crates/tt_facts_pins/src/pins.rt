@@ -1,7 +1,7 @@
 //! The facts of a path with the periods and rooms that they pin.
 
 ghost use Rattle.std.specs.Prelude.{◌≡◌, ◌<◌, ◌+◌, ◌*◌, ◌&&◌, ℕ, nat_lt, length, slice_get, Some};
-ghost use Rattle.tt_bits.specs.Bits.{has_bit};
+ghost use Rattle.tt_bits.specs.Inner.Bits.{has_bit};
 ghost use Rattle.tt_instance_data.specs.Cells.{slot};
 ghost use Rattle.tt_facts_path.specs.Facts.{IsWho, has_fact};
 ghost use Rattle.tt_facts_path.specs.Live.{pinned, pinned_room};
@@ -31,12 +31,12 @@ pub struct Pins<'p, 'i> {
 
 impl<'p, 'i> Model for Pins<'p, 'i> {
     ghost use Rattle.std.specs.Prelude.{◌≡◌, ◌≤◌, length};
-    ghost use Rattle.tt_instance_links.specs.Linked.{AreCurricula};
-    ghost use Rattle.tt_facts_path.specs.Paths.{Facts};
+    ghost use Rattle.tt_instance_links.specs.Inner.Linked.{AreCurricula};
+    ghost use Rattle.tt_facts_path.specs.Inner.Paths.{Facts};
     ghost use Rattle.tt_facts_path.specs.declared.path.TheConstants.{MAX_FACTS};
-    ghost use Rattle.tt_facts_pins.specs.Tables.{ShowsPins};
-    ghost use Rattle.tt_facts_pins.specs.FactTable.{ShowsFacts, unplaced_of};
-    ghost use Rattle.tt_facts_pins.specs.Earlier.{AreEarlier};
+    ghost use Rattle.tt_facts_pins.specs.Inner.Tables.{ShowsPins};
+    ghost use Rattle.tt_facts_pins.specs.Inner.FactTable.{ShowsFacts, unplaced_of};
+    ghost use Rattle.tt_facts_pins.specs.Inner.Earlier.{AreEarlier};
 
     ghost Value = { Facts };
 

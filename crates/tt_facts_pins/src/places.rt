@@ -2,7 +2,7 @@
 
 ghost use Rattle.std.specs.Prelude.{◌≡◌, ◌<◌, ◌≤◌, ◌+◌, ◌*◌, length};
 ghost use Rattle.tt_facts_path.specs.Facts.{IsWho};
-ghost use Rattle.tt_facts_pins.specs.Tables.{row_of, rows, day_place, days_size, width, block_place, room_place, size};
+ghost use Rattle.tt_facts_pins.specs.Inner.Tables.{row_of, rows, day_place, days_size, width, block_place, room_place, size};
 ghost use Rattle.tt_instance_data.specs.declared.limit.TheConstants.{MAX_COURSES, MAX_CURRICULA};
 
 use tt_facts_path::Who;

@@ -1,8 +1,8 @@
 //! Sets of numbers in the words of a table.
 
 ghost use Rattle.std.specs.Prelude.{◌≡◌, ◌<◌, ◌==◌, ◌||◌, ℕ, length, OnOk, OnErr};
-ghost use Rattle.tt_bits.specs.Bits.{has_bit};
-ghost use Rattle.tt_facts_pins.specs.Sets.{Puts};
+ghost use Rattle.tt_bits.specs.Inner.Bits.{has_bit};
+ghost use Rattle.tt_facts_pins.specs.Inner.Sets.{Puts};
 
 use std::alloc::AllocError;
 use tt_bits::Trail;

@@ -14,7 +14,7 @@ use Rattle.tt_lists.proofs.Numbers.{any_below, sum_more}
 use Rattle.tt_lists.proofs.Range.{below_member}
 use Rattle.tt_lists.proofs.Sums.{one_if, one_if_true, one_if_false, sum_by-plus, sum_by-same, count_by-cons}
 use Rattle.tt_lists.proofs.Truth.{same_truth}
-use Rattle.tt_bits.specs.Bits.{has_bit}
+use Rattle.tt_bits.specs.Inner.Bits.{has_bit}
 use Rattle.tt_bits.proofs.BitLaws.{has_bit-without}
 use Rattle.tt_bits.proofs.Counts.{count_ones-bits, count-past, count-bits}
 use Rattle.tt_instance_data.specs.Problem.{Problem}

@@ -14,7 +14,7 @@ use Rattle.tt_lists.proofs.Numbers.{any_below, sum_more}
 use Rattle.tt_lists.proofs.Range.{below_member, any_same_below}
 use Rattle.tt_lists.proofs.Tests.{sum_by-same_below}
 use Rattle.tt_lists.proofs.Truth.{same_truth}
-use Rattle.tt_bits.specs.Bits.{has_bit}
+use Rattle.tt_bits.specs.Inner.Bits.{has_bit}
 use Rattle.tt_instance_data.specs.Problem.{Problem}
 use Rattle.tt_instance_data.specs.Courses.{in_curriculum, conflict}
 use Rattle.tt_instance_data.proofs.Exclusion.{conflict-turn, conflict-itself}

@@ -6,7 +6,7 @@ use Rattle.std.proofs.lemmas.Bool.{cases_lt}
 use Rattle.std.proofs.lemmas.List.{get_or-replicate, length-replicate}
 use Rattle.tt_lists.specs.Words.{range_below}
 use Rattle.tt_lists.proofs.Sums.{sum_by-same, sum_by-nothing}
-use Rattle.tt_bits.specs.Bits.{has_bit}
+use Rattle.tt_bits.specs.Inner.Bits.{has_bit}
 use Rattle.tt_bits.proofs.BitLaws.{has_bit-none}
 use Rattle.tt_instance_data.specs.Problem.{Problem}
 use Rattle.tt_groups.specs.Group.{Group}

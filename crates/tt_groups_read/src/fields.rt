@@ -3,7 +3,7 @@
 ghost use Rattle.std.specs.Prelude.{◌≤◌, ◌<◌, IfOk};
 ghost use Rattle.tt_text.specs.Feeds.{room_of};
 ghost use Rattle.tt_text.specs.Numbers.{number_of};
-ghost use Rattle.tt_proof_read.specs.Contract.{ReadsAs};
+ghost use Rattle.tt_proof_read.specs.Inner.Contract.{ReadsAs};
 ghost use Rattle.tt_proof_read.specs.Faults.{ReportsNoFailedRead, Gives};
 ghost use Rattle.tt_proof_read.specs.Reading.{priced_as};
 ghost use Rattle.tt_proof_read.specs.declared.format.TheConstants.{MAX_POINTS};

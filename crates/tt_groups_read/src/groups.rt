@@ -2,7 +2,7 @@
 
 ghost use Rattle.std.specs.Prelude.{◌≡◌, ◌<◌, IfOk, IfSome};
 ghost use Rattle.tt_text.specs.Feeds.{room_of};
-ghost use Rattle.tt_proof_read.specs.Contract.{ReadsAs, ReadsPast};
+ghost use Rattle.tt_proof_read.specs.Inner.Contract.{ReadsAs, ReadsPast};
 ghost use Rattle.tt_proof_read.specs.Faults.{ReportsNoFailedRead, Gives};
 ghost use Rattle.tt_groups_read.specs.Reading.{group_word_of, claim_at, nothing_at, group_at};
 ghost use Rattle.tt_groups_read.specs.Readers.{IsClaimAt};

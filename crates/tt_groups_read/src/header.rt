@@ -1,7 +1,7 @@
 //! The header of a file.
 
 ghost use Rattle.std.specs.Prelude.{◌≤◌, IfOk};
-ghost use Rattle.tt_proof_read.specs.Contract.{ReadsAs};
+ghost use Rattle.tt_proof_read.specs.Inner.Contract.{ReadsAs};
 ghost use Rattle.tt_proof_read.specs.declared.format.TheConstants.{MAX_POINTS};
 ghost use Rattle.tt_groups_read.specs.Reading.{bound_at, opening_at};
 

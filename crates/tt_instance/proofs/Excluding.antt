@@ -21,7 +21,7 @@ use Rattle.tt_instance_data.specs.declared.parts.Parts.{Parts}
 use Rattle.tt_instance_data.specs.Problem.{Course}
 use Rattle.tt_instance_data.specs.Courses.{one_teacher, one_curriculum, conflict}
 use Rattle.tt_instance_data.specs.Seen.{course_seen, courses_seen, curriculum_seen, problem_seen}
-use Rattle.tt_instance_data.specs.Indexed.{IsTeacher, IsMarked, IsIndexedParts, IsSquare, mark_at}
+use Rattle.tt_instance_data.specs.Inner.Indexed.{IsTeacher, IsMarked, IsIndexedParts, IsSquare, mark_at}
 use Rattle.tt_instance_data.proofs.Getting.{field_at}
 
 -- two teachers are the same if their numbers are

@@ -12,7 +12,7 @@ use Rattle.tt_instance_data.specs.declared.rows.RoomRow.{RoomRow}
 use Rattle.tt_instance_data.specs.Problem.{Course, Room}
 use Rattle.tt_instance_data.specs.Columns.{ids_of, room_ids_of, lectures_of}
 use Rattle.tt_instance_data.specs.Seen.{course_seen, courses_seen, room_seen, rooms_seen}
-use Rattle.tt_instance_data.specs.Indexed.{IsIndexed, IsRoomsIndexed, IsTeacher, teachers_of}
+use Rattle.tt_instance_data.specs.Inner.Indexed.{IsIndexed, IsRoomsIndexed, IsTeacher, teachers_of}
 use Rattle.tt_instance_data.proofs.Naming.{length-with_name, index_of_name-with_name}
 
 -- a name that isn't in the list is added at the end

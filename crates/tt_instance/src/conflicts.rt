@@ -3,7 +3,7 @@
 ghost use Rattle.std.specs.Prelude.{◌≡◌, ◌<◌, ◌==◌, ℕ, not, ◌||◌, ◌&&◌, length, map, All, IfOk, slice_index_or};
 ghost use Rattle.std.specs.List.{list_any};
 ghost use Rattle.tt_lists.specs.Words.{has_number};
-ghost use Rattle.tt_instance_data.specs.Indexed.{IsMarked, IsIndexedParts, IsExcluding, IsSquare, mark_at};
+ghost use Rattle.tt_instance_data.specs.Inner.Indexed.{IsMarked, IsIndexedParts, IsExcluding, IsSquare, mark_at};
 ghost use Rattle.tt_instance_data.specs.Seen.{problem_seen};
 
 use std::alloc::{AllocError, Global};

@@ -2,7 +2,7 @@
 
 ghost use Rattle.std.specs.Prelude.{◌≡◌, ◌+◌, ◌^◌, ◌<◌, ◌≤◌, [], length, OnOk, IfOk};
 ghost use Rattle.tt_instance.specs.Reading.{Gives, course_at, courses_at};
-ghost use Rattle.tt_instance_data.specs.Indexed.{IsIndexed};
+ghost use Rattle.tt_instance_data.specs.Inner.Indexed.{IsIndexed};
 ghost use Rattle.tt_instance_data.specs.Seen.{courses_seen};
 
 use crate::fault::InstanceFault;

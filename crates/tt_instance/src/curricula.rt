@@ -2,7 +2,7 @@
 
 ghost use Rattle.std.specs.Prelude.{◌<◌, ◌^◌, [], length, OnOk, IfOk};
 ghost use Rattle.tt_instance.specs.Reading.{Gives, member_at, members_at, curriculum_at, curricula_at};
-ghost use Rattle.tt_instance_data.specs.Indexed.{IsMarked, IsCurriculaIndexed};
+ghost use Rattle.tt_instance_data.specs.Inner.Indexed.{IsMarked, IsCurriculaIndexed};
 ghost use Rattle.tt_instance_data.specs.Seen.{curricula_seen};
 
 use crate::fault::InstanceFault;

@@ -2,7 +2,7 @@
 
 ghost use Rattle.std.specs.Prelude.{◌<◌, ◌≤◌, ◌^◌, length, IfOk};
 ghost use Rattle.tt_instance.specs.Reading.{Gives, places_at, groups_at, instance_of};
-ghost use Rattle.tt_instance_data.specs.Indexed.{IsIndexed, IsRoomsIndexed, IsCurriculaIndexed, IsBarred, IsIndexedParts};
+ghost use Rattle.tt_instance_data.specs.Inner.Indexed.{IsIndexed, IsRoomsIndexed, IsCurriculaIndexed, IsBarred, IsIndexedParts};
 ghost use Rattle.tt_instance_data.specs.Seen.{courses_seen, rooms_seen, curricula_seen, unavailabilities_seen, problem_seen};
 ghost use Rattle.tt_instance.specs.Counted.{counts_seen};
 

@@ -2,7 +2,7 @@
 
 ghost use Rattle.std.specs.Prelude.{[], OnOk, IfOk};
 ghost use Rattle.tt_instance.specs.Reading.{Gives, room_at, rooms_at};
-ghost use Rattle.tt_instance_data.specs.Indexed.{IsRoomsIndexed};
+ghost use Rattle.tt_instance_data.specs.Inner.Indexed.{IsRoomsIndexed};
 ghost use Rattle.tt_instance_data.specs.Seen.{rooms_seen};
 
 use crate::fault::InstanceFault;

@@ -2,7 +2,7 @@
 
 ghost use Rattle.std.specs.Prelude.{◌≡◌, ◌<◌, ◌≤◌, ◌^◌, ◌*◌, [], false, length, replicate, OnOk, IfOk};
 ghost use Rattle.tt_instance.specs.Reading.{Gives, unavailability_at, unavailabilities_at};
-ghost use Rattle.tt_instance_data.specs.Indexed.{IsBarred};
+ghost use Rattle.tt_instance_data.specs.Inner.Indexed.{IsBarred};
 ghost use Rattle.tt_instance_data.specs.Seen.{unavailabilities_seen};
 
 use crate::fault::InstanceFault;

@@ -7,9 +7,9 @@ use Rattle.std.proofs.lemmas.Bool.{cases_lt, cases_eq, eq-eqb, ne_eqb, lt-ltb, l
 use Rattle.std.proofs.lemmas.List.{ext_get_or, get_or_past, get_or-set_same, get_or-set_other, get_or-replicate, length-set, length-replicate}
 use Rattle.std.proofs.lemmas.List.FromFn.{get_or-map-range_with_len, length-map-range_with_len}
 use Rattle.std.proofs.lemmas.Grind.{div_ceil_times, get_or_default_zero}
-use Rattle.tt_bits.specs.Bits.{has_bit}
+use Rattle.tt_bits.specs.Inner.Bits.{has_bit}
 use Rattle.tt_bits.proofs.BitLaws.{has_bit-none}
-use Rattle.tt_instance_data.specs.Flags.{flag_in, flags_in}
+use Rattle.tt_instance_data.specs.Inner.Flags.{flag_in, flags_in}
 
 -- the flag of a number below the length
 pub flag_at : (words : List ℕ) (n k : ℕ) → k < n → get_or (flags_in words n) k false ≡ flag_in words k

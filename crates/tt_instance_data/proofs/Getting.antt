@@ -15,7 +15,7 @@ use Rattle.tt_instance_data.specs.Problem.{Course, Problem}
 use Rattle.tt_instance_data.specs.Courses.{no_course, teachers}
 use Rattle.tt_instance_data.specs.Limits.{IsInstance}
 use Rattle.tt_instance_data.specs.Seen.{course_seen, courses_seen, room_seen, curriculum_seen, problem_seen}
-use Rattle.tt_instance_data.specs.Indexed.{IsIndexed, IsTeacher, teachers_of}
+use Rattle.tt_instance_data.specs.Inner.Indexed.{IsIndexed, IsTeacher, teachers_of}
 use Rattle.tt_instance_data.proofs.Each.{IsCurriculum}
 use Rattle.tt_instance_data.proofs.CourseLimits.{IsFewCourse, each_few}
 

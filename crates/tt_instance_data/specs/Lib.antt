@@ -2,9 +2,7 @@ pub mod Beginnings
 pub mod Cells
 pub mod Columns
 pub mod Courses
-pub mod Flags
-pub mod Hashing
-pub mod Indexed
+pub mod Inner
 pub mod Limits
 pub mod Problem
 pub mod Seen

@@ -1,7 +1,7 @@
 //! The marks of unavailable periods.
 
 ghost use Rattle.std.specs.Prelude.{◌≡◌, ◌+◌, ◌*◌};
-ghost use Rattle.tt_instance_data.specs.Indexed.{is_marked_at};
+ghost use Rattle.tt_instance_data.specs.Inner.Indexed.{is_marked_at};
 
 use crate::limit::MAX_PERIODS;
 use crate::marks::{Marks, has_at};

@@ -1,11 +1,11 @@
 //! Instances of the timetabling problem.
 
 ghost use Rattle.std.specs.Prelude.{◌≡◌, ◌<◌, ◌≤◌, ◌*◌, ◌/◌, ◌%◌, ℕ, length, slice_get, slice_index_or, IfSome, Some};
-ghost use Rattle.tt_bits.specs.Bits.{has_bit};
+ghost use Rattle.tt_bits.specs.Inner.Bits.{has_bit};
 ghost use Rattle.tt_text.specs.Texts.{index_of_name};
 ghost use Rattle.tt_instance_data.specs.Limits.{IsInstance};
 ghost use Rattle.tt_instance_data.specs.Seen.{problem_seen};
-ghost use Rattle.tt_instance_data.specs.Indexed.{IsIndexedParts, IsExcluding};
+ghost use Rattle.tt_instance_data.specs.Inner.Indexed.{IsIndexedParts, IsExcluding};
 ghost use Rattle.tt_instance_data.specs.Courses.{no_course, lectures, min_days, students, capacity, members, course_ids, room_ids, curriculum_ids, teachers, in_curriculum, conflict, unavailable};
 
 use crate::barred::is_barred;
@@ -30,7 +30,7 @@ impl<'a> Model for Instance<'a> {
 
     ghost use Rattle.tt_instance_data.specs.Limits.{IsInstance};
     ghost use Rattle.tt_instance_data.specs.Seen.{problem_seen};
-    ghost use Rattle.tt_instance_data.specs.Indexed.{IsIndexedParts, IsExcluding};
+    ghost use Rattle.tt_instance_data.specs.Inner.Indexed.{IsIndexedParts, IsExcluding};
 
     ghost view = { λ a. problem_seen a.parts };
 

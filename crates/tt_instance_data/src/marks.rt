@@ -2,7 +2,7 @@
 
 ghost use Rattle.std.specs.Int.{div_ceil};
 ghost use Rattle.std.specs.Prelude.{◌≡◌, ◌<◌, ◌≤◌, ◌/◌, ◌%◌, ℕ, true, false, [], ◌==◌, ◌&&◌, ◌||◌, length, replicate, slice_index_or, slice_set, IfOk};
-ghost use Rattle.tt_bits.specs.Bits.{has_bit};
+ghost use Rattle.tt_bits.specs.Inner.Bits.{has_bit};
 
 use std::alloc::{AllocError, Global};
 use std::marker::Model;
@@ -21,7 +21,7 @@ pub struct Marks {
 impl Model for Marks {
     ghost use Rattle.std.specs.Prelude.{List, Bool, ◌≡◌, length};
     ghost use Rattle.std.specs.Int.{div_ceil};
-    ghost use Rattle.tt_instance_data.specs.Flags.{flags_in};
+    ghost use Rattle.tt_instance_data.specs.Inner.Flags.{flags_in};
 
     ghost Value = { List Bool };
 

@@ -1,2 +1,1 @@
-pub mod Linked
-pub mod Links
+pub mod Inner

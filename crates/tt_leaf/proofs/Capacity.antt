@@ -22,7 +22,7 @@ use Rattle.tt_facts_path.specs.declared.facts.Fact.{Fact}
 use Rattle.tt_facts_path.proofs.Least.{is_some-least, least_over}
 use Rattle.tt_facts_path.proofs.LiveCells.{live_cells, range_of, is_live_of}
 use Rattle.tt_leaf_rules.specs.Claims.{RoomCapacity, part, value_of}
-use Rattle.tt_leaf_rules.specs.Nested.{above_least}
+use Rattle.tt_leaf_rules.specs.Inner.Nested.{above_least}
 use Rattle.tt_leaf_data.specs.declared.leaf.Bound.{Bound}
 use Rattle.tt_leaf_data.specs.declared.leaf.Claim.TheVariants.{Capacity}
 use Rattle.tt_leaf_rules.proofs.Values.{discounts_are}

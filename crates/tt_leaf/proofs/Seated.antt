@@ -16,7 +16,7 @@ use Rattle.tt_facts_path.specs.declared.facts.Fact.{Fact}
 use Rattle.tt_leaf_rules.specs.Claims.{value_of}
 use Rattle.tt_leaf_data.specs.declared.leaf.Claim.TheVariants.{Capacity}
 use Rattle.tt_leaf.specs.Best.{is_kth, least_excesses, price_of, at_price, capacity_claims, worth}
-use Rattle.tt_leaf.specs.Seated.{is_nothing, is_seated, seated_periods}
+use Rattle.tt_leaf.specs.Inner.Seated.{is_nothing, is_seated, seated_periods}
 
 -- a period that passes and the earlier periods that pass are among all that pass
 pub passes_among : (p q : Problem) (t : Slot → Bool) (i total : ℕ) (s : Slot) → q ≡ p → i < length (all_slots q) → s ≡ get_or (all_slots q) i s → total ≡ count_by t (take i (all_slots p)) → true ≡ t s → total + 1 ≤ count_by t (all_slots p)

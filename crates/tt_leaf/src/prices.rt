@@ -8,7 +8,7 @@ ghost use Rattle.itertools.specs.Extremes.{IsKLeast, by_cmp};
 ghost use Rattle.tt_instance_data.specs.Cells.{slot};
 ghost use Rattle.tt_instance_data.specs.Courses.{lectures};
 ghost use Rattle.tt_leaf.specs.Best.{kth_smallest, least_excesses, price_of};
-ghost use Rattle.tt_leaf.specs.Seated.{is_seated, seated_periods};
+ghost use Rattle.tt_leaf.specs.Inner.Seated.{is_seated, seated_periods};
 ghost use Rattle.tt_instance_data.specs.declared.limit.TheConstants.{MAX_SEATS};
 
 use itertools::Itertools;

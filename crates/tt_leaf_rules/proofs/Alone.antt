@@ -2,7 +2,7 @@
 use Rattle.std.proofs.Common.{◌≡◌, ℕ, ◌+◌, ◌-◌, ◌<◌, ◌≤◌, Bool, true, false, not, ◌&&◌, List, refl, sym, ap, ◌∙◌, arith, inl, inr}
 use Rattle.std.specs.Prelude.{nat_lt}
 use Rattle.std.proofs.lemmas.Bool.{cases_lt, lt-ltb, le-ltb}
-use Rattle.tt_bits.specs.Bits.{has_bit}
+use Rattle.tt_bits.specs.Inner.Bits.{has_bit}
 use Rattle.tt_bits.proofs.BitLaws.{has_bit-none}
 use Rattle.tt_instance_data.specs.Problem.{Problem}
 use Rattle.tt_instance_data.specs.Cells.{slot}
@@ -11,7 +11,7 @@ use Rattle.tt_facts_path.specs.Live.{pinned}
 use Rattle.tt_facts_path.specs.declared.facts.Fact.{Fact}
 use Rattle.tt_facts_path.specs.declared.facts.Who.TheVariants.{Curriculum}
 use Rattle.tt_leaf_rules.specs.Claims.{is_alone}
-use Rattle.tt_leaf_rules.specs.Nested.{live_for, live_before, live_after}
+use Rattle.tt_leaf_rules.specs.Inner.Nested.{live_for, live_before, live_after}
 use Rattle.tt_leaf_rules.proofs.Nested.{by_sides}
 
 module _ (p : Problem) (path : List Fact) (q d : ℕ) (hd : d < p.days) (at_most : p.periods ≤ 64) (pin : ℕ) (pins : (s : ℕ) → s < 64 → has_bit pin s ≡ (nat_lt s p.periods && pinned p path (Curriculum q) (slot d s))) where

@@ -7,7 +7,7 @@ use Rattle.tt_lists.proofs.All.{list_all-same}
 use Rattle.tt_lists.proofs.Sums.{list_any-of_map}
 use Rattle.tt_lists.proofs.Twos.{list_all-not, each_two-of_flat_map}
 use Rattle.tt_leaf_rules.specs.Claims.{Target, RoomCapacity, WorkingDays, Compactness, Stability, targets_of}
-use Rattle.tt_leaf_rules.specs.Nested.{claims_target, are_apart, IsOnce}
+use Rattle.tt_leaf_rules.specs.Inner.Nested.{claims_target, are_apart, IsOnce}
 use Rattle.tt_leaf_rules.specs.Tests.{claims_once, same_target}
 use Rattle.tt_leaf_data.specs.declared.leaf.Claim.{Claim}
 use Rattle.tt_leaf_data.specs.declared.leaf.Claim.TheVariants.{Capacity, Days, Compact, Stable, Prices, Stacked}

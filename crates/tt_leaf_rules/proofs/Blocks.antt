@@ -7,7 +7,7 @@ use Rattle.std.proofs.lemmas.List.{take-append-drop}
 use Rattle.std.proofs.lemmas.List.Folds.{list_any-append}
 use Rattle.tt_lists.specs.Words.{range_below}
 use Rattle.tt_lists.proofs.Tests.{sum_further}
-use Rattle.tt_bits.specs.Bits.{has_bit, bits}
+use Rattle.tt_bits.specs.Inner.Bits.{has_bit, bits}
 use Rattle.tt_bits.proofs.Counts.{count-past, count-bits}
 
 module _ (n : ℕ) (t : ℕ → Bool) where

@@ -10,7 +10,7 @@ use Rattle.tt_lists.proofs.Below.{all_pass}
 use Rattle.tt_lists.proofs.Sums.{sum_by-at_places, sum_by-same}
 use Rattle.tt_lists.proofs.Range.{at_below}
 use Rattle.tt_lists.proofs.Truth.{wanted, same_truth}
-use Rattle.tt_bits.specs.Bits.{has_bit, bits, each_bit}
+use Rattle.tt_bits.specs.Inner.Bits.{has_bit, bits, each_bit}
 use Rattle.tt_bits.proofs.BitLaws.{each_bit_from, each_bit_at, each_bit-none, none-bit, bit_from_any}
 use Rattle.tt_instance_data.specs.Problem.{Problem}
 use Rattle.tt_instance_data.specs.Cells.{cell, all_slots}
@@ -19,7 +19,7 @@ use Rattle.tt_instance_data.specs.declared.cell.Slot.{Slot}
 use Rattle.tt_facts_path.specs.Live.{is_dead}
 use Rattle.tt_facts_path.specs.declared.facts.Fact.{Fact}
 use Rattle.tt_leaf_rules.specs.Claims.{price_in, is_covered}
-use Rattle.tt_leaf_rules.specs.Nested.{clear_in, covered_in, covered}
+use Rattle.tt_leaf_rules.specs.Inner.Nested.{clear_in, covered_in, covered}
 use Rattle.tt_leaf_rules.proofs.Nested.{covered_by_price}
 
 -- a cell that is dead, or whose price is covered

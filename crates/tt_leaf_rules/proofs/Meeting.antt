@@ -11,7 +11,7 @@ use Rattle.tt_lists.proofs.Below.{all_pass}
 use Rattle.tt_lists.proofs.Members.{each_two-of_map}
 use Rattle.tt_lists.proofs.Twos.{neither, each_two-same, list_all-both}
 use Rattle.tt_leaf_rules.specs.Claims.{Target, RoomCapacity, WorkingDays, Compactness, Stability, targets_of, claimed}
-use Rattle.tt_leaf_rules.specs.NumberSet.{marked, are_new, place, places_of, IsPlaced}
+use Rattle.tt_leaf_rules.specs.Inner.NumberSet.{marked, are_new, place, places_of, IsPlaced}
 use Rattle.tt_leaf_data.specs.Ranges.{AreBelow, IsClaimOf}
 use Rattle.tt_leaf_rules.specs.Tests.{claims_once, same_target}
 use Rattle.tt_instance_data.specs.Problem.{Problem}

@@ -9,7 +9,7 @@ use Rattle.tt_instance_data.specs.Courses.{members, excess, no_curriculum}
 use Rattle.tt_instance_data.specs.declared.cell.Slot.{Slot}
 use Rattle.tt_facts_path.specs.Facts.{agrees, is_who, matches}
 use Rattle.tt_facts_path.specs.Live.{is_dead, is_live, live_period}
-use Rattle.tt_facts_path.specs.Nested.{courses_of}
+use Rattle.tt_facts_path.specs.Inner.Nested.{courses_of}
 use Rattle.tt_facts_path.specs.declared.facts.Who.TheVariants.{Course, Curriculum}
 use Rattle.tt_facts_path.specs.declared.facts.Pattern.{Pattern}
 use Rattle.tt_facts_path.specs.declared.facts.Fact.{Fact}
@@ -28,7 +28,7 @@ use Rattle.tt_facts_path.proofs.Given.{at_number, list_all-of_members}
 use Rattle.tt_facts_path.proofs.Lost.{is_who-has}
 use Rattle.tt_leaf_rules.specs.Leaves.{all_dead}
 use Rattle.tt_leaf_rules.specs.Claims.{is_alone, price_in}
-use Rattle.tt_leaf_rules.specs.Nested.{are_rooms_dead, is_period_dead, is_course_dead, is_gone_or_dead, live_before, live_after, covered_in}
+use Rattle.tt_leaf_rules.specs.Inner.Nested.{are_rooms_dead, is_period_dead, is_course_dead, is_gone_or_dead, live_before, live_after, covered_in}
 
 -- ---- dead cells
 

@@ -17,7 +17,7 @@ use Rattle.tt_lists.proofs.Members.{each_two-of_map}
 use Rattle.tt_lists.proofs.Apart.{distinct_sum}
 use Rattle.tt_instance_data.specs.Problem.{Problem}
 use Rattle.tt_leaf_rules.specs.Claims.{Target, RoomCapacity, targets_of, claimed}
-use Rattle.tt_leaf_rules.specs.Nested.{PricesBelow, IsOnce}
+use Rattle.tt_leaf_rules.specs.Inner.Nested.{PricesBelow, IsOnce}
 use Rattle.tt_leaf_data.specs.Ranges.{AreBelow, ArePrices, IsClaimOf}
 use Rattle.tt_leaf_rules.specs.Tests.{claims_once, same_target}
 use Rattle.tt_leaf_data.specs.declared.leaf.Claim.{Claim}

@@ -14,7 +14,7 @@ use Rattle.tt_facts_path.specs.Facts.{Fits}
 use Rattle.tt_facts_path.specs.Live.{is_live, live_period, live_day, least_with, least, least_excess, pinned, pinned_room}
 use Rattle.tt_leaf_rules.specs.Claims.{RoomCapacity}
 use Rattle.tt_leaf_rules.specs.Claims.{part, greatest, discount, is_alone, value_of}
-use Rattle.tt_leaf_rules.specs.Nested.{above_least, discounts}
+use Rattle.tt_leaf_rules.specs.Inner.Nested.{above_least, discounts}
 use Rattle.tt_instance_data.specs.declared.cell.Cell.{Cell}
 use Rattle.tt_facts_path.specs.declared.facts.Who.TheVariants.{Curriculum}
 use Rattle.tt_facts_path.specs.declared.facts.Fact.{Fact}

@@ -2,7 +2,7 @@
 
 ghost use Rattle.std.specs.Prelude.{◌≡◌, ◌<◌, ◌≤◌, ◌*◌, length};
 ghost use Rattle.tt_leaf_rules.specs.Claims.{value_of};
-ghost use Rattle.tt_leaf_rules.specs.Nested.{above_least, discounts};
+ghost use Rattle.tt_leaf_rules.specs.Inner.Nested.{above_least, discounts};
 ghost use Rattle.tt_leaf_data.specs.declared.leaf.Claim.TheVariants.{Capacity};
 ghost use Rattle.tt_leaf_rules.specs.declared.limit.TheConstants.{MAX_TARGET_VALUE};
 

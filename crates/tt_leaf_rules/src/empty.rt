@@ -5,7 +5,7 @@ ghost use Rattle.std.specs.List.{list_all};
 ghost use Rattle.tt_instance_data.specs.Cells.{slot};
 ghost use Rattle.tt_instance_data.specs.Courses.{members};
 ghost use Rattle.tt_leaf_rules.specs.Leaves.{all_dead};
-ghost use Rattle.tt_leaf_rules.specs.Nested.{are_rooms_dead, is_period_dead, is_course_dead, is_gone_or_dead};
+ghost use Rattle.tt_leaf_rules.specs.Inner.Nested.{are_rooms_dead, is_period_dead, is_course_dead, is_gone_or_dead};
 
 use crate::slots::{slot_at, slot_count};
 use tt_facts_path::{Path, Pattern, Who, is_none_or_equal};

@@ -3,11 +3,11 @@
 ghost use Rattle.std.specs.Prelude.{◌≡◌, ◌<◌, ◌≤◌, ◌+◌, ◌-◌, ◌*◌, ◌^◌, ◌==◌, ◌&&◌, ℕ, not, min, nat_lt, length};
 ghost use Rattle.std.specs.List.{list_all};
 ghost use Rattle.tt_lists.specs.Words.{each_two, are_distinct};
-ghost use Rattle.tt_bits.specs.Bits.{has_bit};
+ghost use Rattle.tt_bits.specs.Inner.Bits.{has_bit};
 ghost use Rattle.tt_instance_data.specs.Cells.{slot};
 ghost use Rattle.tt_instance_data.specs.Courses.{conflict};
 ghost use Rattle.tt_leaf_rules.specs.Leaves.{all_lectures, open_periods, open_rooms};
-ghost use Rattle.tt_leaf_rules.specs.Nested.{live_for, live_in, open_in_period};
+ghost use Rattle.tt_leaf_rules.specs.Inner.Nested.{live_for, live_in, open_in_period};
 ghost use Rattle.tt_leaf_data.specs.Ranges.{AreBelow};
 ghost use Rattle.tt_leaf_rules.specs.Tests.{is_clique};
 ghost use Rattle.tt_instance_data.specs.declared.limit.TheConstants.{MAX_COURSES, MAX_ROOMS, MAX_SLOTS};

@@ -1,12 +1,12 @@
 //! The isolated entries of a curriculum.
 
 ghost use Rattle.std.specs.Prelude.{◌≡◌, ◌<◌, ◌≤◌, ◌*◌, ◌&&◌, ℕ, nat_lt, length};
-ghost use Rattle.tt_bits.specs.Bits.{has_bit};
+ghost use Rattle.tt_bits.specs.Inner.Bits.{has_bit};
 ghost use Rattle.tt_instance_data.specs.Cells.{slot};
 ghost use Rattle.tt_facts_path.specs.Live.{pinned};
 ghost use Rattle.tt_facts_path.specs.declared.facts.Who.TheVariants.{Curriculum};
 ghost use Rattle.tt_leaf_rules.specs.Claims.{is_alone, value_of};
-ghost use Rattle.tt_leaf_rules.specs.Nested.{isolated_periods};
+ghost use Rattle.tt_leaf_rules.specs.Inner.Nested.{isolated_periods};
 ghost use Rattle.tt_leaf_data.specs.declared.leaf.Claim.TheVariants.{Compact};
 ghost use Rattle.tt_instance_data.specs.declared.limit.TheConstants.{MAX_SLOTS};
 

@@ -1,7 +1,7 @@
 //! Sets of the numbers of targets.
 
 ghost use Rattle.std.specs.Prelude.{◌≡◌, ℕ, ◌<◌, ◌==◌, ◌||◌, ◌&&◌, ◌∷◌, not, false, List, slice_index_or};
-ghost use Rattle.tt_leaf_rules.specs.NumberSet.{marked, are_new};
+ghost use Rattle.tt_leaf_rules.specs.Inner.NumberSet.{marked, are_new};
 
 use std::marker::Model;
 

@@ -2,11 +2,11 @@
 
 ghost use Rattle.std.specs.Prelude.{◌≡◌, ◌<◌, ◌≤◌, ◌+◌, ◌*◌, ◌/◌, ◌%◌, ◌^◌, ◌&&◌, ℕ, nat_lt, cond, sum_by, length, slice_index_or};
 ghost use Rattle.std.specs.List.{list_all};
-ghost use Rattle.tt_bits.specs.Bits.{has_bit};
+ghost use Rattle.tt_bits.specs.Inner.Bits.{has_bit};
 ghost use Rattle.tt_instance_data.specs.Cells.{slot, all_slots};
 ghost use Rattle.tt_instance_data.specs.Courses.{lectures, excess};
 ghost use Rattle.tt_leaf_rules.specs.Claims.{price_in, are_covered, value_of};
-ghost use Rattle.tt_leaf_rules.specs.Nested.{PricesBelow, clear_in, priced_live_in, course_prices, room_prices, covered};
+ghost use Rattle.tt_leaf_rules.specs.Inner.Nested.{PricesBelow, clear_in, priced_live_in, course_prices, room_prices, covered};
 ghost use Rattle.tt_leaf_data.specs.Ranges.{ArePrices};
 ghost use Rattle.tt_leaf_data.specs.declared.leaf.Claim.TheVariants.{Prices};
 ghost use Rattle.tt_instance_data.specs.declared.limit.TheConstants.{MAX_COURSES, MAX_ROOMS, MAX_SLOTS};

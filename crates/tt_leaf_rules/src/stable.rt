@@ -2,7 +2,7 @@
 
 ghost use Rattle.std.specs.Prelude.{◌≡◌, ◌<◌, ◌≤◌, length};
 ghost use Rattle.tt_leaf_rules.specs.Claims.{value_of};
-ghost use Rattle.tt_leaf_rules.specs.Nested.{pinned_rooms};
+ghost use Rattle.tt_leaf_rules.specs.Inner.Nested.{pinned_rooms};
 ghost use Rattle.tt_leaf_data.specs.declared.leaf.Claim.TheVariants.{Stable};
 ghost use Rattle.tt_instance_data.specs.declared.limit.TheConstants.{MAX_ROOMS};
 

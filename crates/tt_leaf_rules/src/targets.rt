@@ -3,8 +3,8 @@
 ghost use Rattle.std.specs.Prelude.{◌≡◌, ℕ, ◌*◌, ◌<◌, ◌==◌, ◌&&◌, ◌++◌, not, map, List, All};
 ghost use Rattle.std.specs.List.{list_any, list_all};
 ghost use Rattle.tt_leaf_rules.specs.Claims.{RoomCapacity, WorkingDays, Compactness, Stability};
-ghost use Rattle.tt_leaf_rules.specs.NumberSet.{are_new, places_of, IsPlaced};
-ghost use Rattle.tt_leaf_rules.specs.Nested.{claims_target, are_apart, IsOnce};
+ghost use Rattle.tt_leaf_rules.specs.Inner.NumberSet.{are_new, places_of, IsPlaced};
+ghost use Rattle.tt_leaf_rules.specs.Inner.Nested.{claims_target, are_apart, IsOnce};
 ghost use Rattle.tt_leaf_rules.specs.Tests.{claims_once};
 ghost use Rattle.tt_leaf_rules.specs.declared.number_set.TheConstants.{PLACES};
 

@@ -11,7 +11,7 @@ use Rattle.tt_instance_data.specs.declared.cell.Cell.{Cell}
 use Rattle.tt_occupancy_tallies.specs.Weight.{repeats}
 use Rattle.tt_occupancy_tallies.proofs.Chosen.{any_counted}
 use Rattle.tt_occupancy_tallies.proofs.Spreads.{used_more}
-use Rattle.tt_moves.specs.Rests.{IsRest}
+use Rattle.tt_moves.specs.Inner.Rests.{IsRest}
 use Rattle.tt_moves.specs.declared.rest.WithoutEntry.{WithoutEntry}
 
 module _ (r : WithoutEntry) (u : List Cell) (ok : IsRest r u) where

@@ -10,11 +10,11 @@ use Rattle.tt_instance_data.specs.Cells.{slot, is_at}
 use Rattle.tt_instance_data.specs.Courses.{in_curriculum}
 use Rattle.tt_instance_data.specs.declared.cell.Cell.{Cell}
 use Rattle.tt_table.specs.Table.{IsTimetable}
-use Rattle.tt_occupancy_tallies.specs.Neighbours.{entries_at, has_entry_at, has_neighbour, joined_before, joined_after}
+use Rattle.tt_occupancy_tallies.specs.Inner.Neighbours.{entries_at, has_entry_at, has_neighbour, joined_before, joined_after}
 use Rattle.tt_occupancy_tallies.proofs.Chosen.{any_counted}
 use Rattle.tt_occupancy.proofs.TakenPeriods.{none_taken}
-use Rattle.tt_moves.specs.Rests.{IsRest, IsStill}
-use Rattle.tt_moves.specs.Rounds.{has_next, OtherIsHandled}
+use Rattle.tt_moves.specs.Inner.Rests.{IsRest, IsStill}
+use Rattle.tt_moves.specs.Inner.Rounds.{has_next, OtherIsHandled}
 use Rattle.tt_moves.specs.declared.rest.WithoutEntry.{WithoutEntry}
 
 -- ---- tests

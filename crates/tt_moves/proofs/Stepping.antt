@@ -14,8 +14,8 @@ use Rattle.tt_table.specs.Table.{IsTimetable}
 use Rattle.tt_occupancy_tallies.specs.Bag.{SameBag}
 use Rattle.tt_occupancy_tallies.proofs.Bags.{bag_front, bag_set, bag_swap}
 use Rattle.tt_occupancy.specs.Filled.{Filled}
-use Rattle.tt_moves.specs.Exchanges.{IsExchange, IsFirst, Lead}
-use Rattle.tt_moves.specs.Rests.{IsRest, rest_without}
+use Rattle.tt_moves.specs.Inner.Exchanges.{IsExchange, IsFirst, Lead}
+use Rattle.tt_moves.specs.Inner.Rests.{IsRest, rest_without}
 use Rattle.tt_moves.specs.Steps.{no_entry, entry_at, in_place_of, stepped}
 use Rattle.tt_moves.specs.declared.exchanges.Exchanges.TheVariants.{Two}
 use Rattle.tt_moves.specs.declared.rest.WithoutEntry.{WithoutEntry}

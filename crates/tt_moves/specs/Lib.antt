@@ -1,6 +1,4 @@
 pub mod Changes
-pub mod Exchanges
+pub mod Inner
 pub mod Pricing
-pub mod Rests
-pub mod Rounds
 pub mod Steps

@@ -3,7 +3,7 @@
 ghost use Rattle.std.specs.Prelude.{◌≡◌, ◌<◌, length, pos, ◌+ℤ◌};
 ghost use Rattle.tt_rules.specs.Score.{hard, cost};
 ghost use Rattle.tt_occupancy.specs.Filled.{Filled};
-ghost use Rattle.tt_moves.specs.Exchanges.{IsFirst, Lead, CanLead};
+ghost use Rattle.tt_moves.specs.Inner.Exchanges.{IsFirst, Lead, CanLead};
 ghost use Rattle.tt_moves.specs.Steps.{CanStep, in_place_of, stepped};
 ghost use Rattle.tt_moves.specs.declared.step.Step.{Step};
 

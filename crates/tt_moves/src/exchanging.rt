@@ -5,7 +5,7 @@ ghost use Rattle.tt_instance_data.specs.Problem.{Problem};
 ghost use Rattle.tt_instance_data.specs.declared.cell.Cell.{Cell};
 ghost use Rattle.tt_rules.specs.Score.{hard, cost};
 ghost use Rattle.tt_rules.specs.declared.limit.TheConstants.{MAX_COUNT};
-ghost use Rattle.tt_moves.specs.Exchanges.{IsExchange, CanExchange};
+ghost use Rattle.tt_moves.specs.Inner.Exchanges.{IsExchange, CanExchange};
 ghost use Rattle.tt_moves.specs.Pricing.{IsCost};
 
 use crate::cost::EntryCost;

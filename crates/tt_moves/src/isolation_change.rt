@@ -5,7 +5,7 @@ ghost use Rattle.tt_instance_data.specs.Cells.{InRange, all_curricula};
 ghost use Rattle.tt_instance_data.specs.Courses.{in_curriculum};
 ghost use Rattle.tt_instance_data.specs.declared.cell.Cell.{Cell};
 ghost use Rattle.tt_occupancy_tallies.specs.Weight.{alone, all_joined};
-ghost use Rattle.tt_moves.specs.Rests.{IsRest};
+ghost use Rattle.tt_moves.specs.Inner.Rests.{IsRest};
 ghost use Rattle.tt_table.specs.declared.table.TheConstants.{MAX_ENTRIES};
 
 use crate::rest::WithoutEntry;

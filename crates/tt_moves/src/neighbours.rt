@@ -1,8 +1,8 @@
 //! Periods next to those of a set.
 
 ghost use Rattle.std.specs.Prelude.{◌≡◌, ℕ, ◌<◌};
-ghost use Rattle.tt_bits.specs.Bits.{has_bit};
-ghost use Rattle.tt_moves.specs.Rounds.{has_next};
+ghost use Rattle.tt_bits.specs.Inner.Bits.{has_bit};
+ghost use Rattle.tt_moves.specs.Inner.Rounds.{has_next};
 
 use tt_bits::{either, next, previous};
 

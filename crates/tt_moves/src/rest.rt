@@ -7,10 +7,10 @@ ghost use Rattle.tt_instance_data.specs.declared.cell.Cell.{Cell};
 ghost use Rattle.tt_table.specs.declared.table.TheConstants.{MAX_ENTRIES};
 ghost use Rattle.tt_rules.specs.Soft.{days_of};
 ghost use Rattle.tt_occupancy_tallies.specs.Tallies.{rooms_of};
-ghost use Rattle.tt_occupancy_tallies.specs.Neighbours.{entries_at};
+ghost use Rattle.tt_occupancy_tallies.specs.Inner.Neighbours.{entries_at};
 ghost use Rattle.tt_occupancy_tallies.specs.Weight.{repeats, shares, against};
-ghost use Rattle.tt_moves.specs.Rests.{IsRest, rest_without};
-ghost use Rattle.tt_moves.specs.Rounds.{OtherIsHandled};
+ghost use Rattle.tt_moves.specs.Inner.Rests.{IsRest, rest_without};
+ghost use Rattle.tt_moves.specs.Inner.Rounds.{OtherIsHandled};
 ghost use Rattle.tt_instance_data.specs.declared.limit.TheConstants.{MAX_SLOTS};
 
 use tt_instance_data::{Instance, Slot};

@@ -1,14 +1,14 @@
 //! The periods of a day with an entry of a curriculum, and the changes that another entry would make.
 
 ghost use Rattle.std.specs.Prelude.{◌≡◌, ℕ, ◌+◌, ◌*◌, ◌^◌, ◌<◌, ◌≤◌, ◌&&◌, nat_lt, cond, not, true, List, [], ◌∷◌, ◌++◌, length};
-ghost use Rattle.tt_bits.specs.Bits.{has_bit};
+ghost use Rattle.tt_bits.specs.Inner.Bits.{has_bit};
 ghost use Rattle.tt_instance_data.specs.Cells.{slot, is_at};
 ghost use Rattle.tt_instance_data.specs.Courses.{in_curriculum};
 ghost use Rattle.tt_instance_data.specs.declared.cell.Cell.{Cell};
-ghost use Rattle.tt_occupancy_tallies.specs.Neighbours.{entries_at, joined_before, joined_after};
-ghost use Rattle.tt_occupancy.specs.NeighbourCounts.{IsIsolationChange};
-ghost use Rattle.tt_moves.specs.Rests.{IsRest, IsStill};
-ghost use Rattle.tt_moves.specs.Rounds.{AreTaken, AreIsolated, OtherIsHandled};
+ghost use Rattle.tt_occupancy_tallies.specs.Inner.Neighbours.{entries_at, joined_before, joined_after};
+ghost use Rattle.tt_occupancy.specs.Inner.NeighbourCounts.{IsIsolationChange};
+ghost use Rattle.tt_moves.specs.Inner.Rests.{IsRest, IsStill};
+ghost use Rattle.tt_moves.specs.Inner.Rounds.{AreTaken, AreIsolated, OtherIsHandled};
 ghost use Rattle.tt_table.specs.declared.table.TheConstants.{MAX_ENTRIES};
 
 use crate::neighbours::neighbours;

@@ -3,7 +3,7 @@
 ghost use Rattle.std.specs.Prelude.{◌≡◌, ℕ, true, false, List};
 ghost use Rattle.tt_instance_data.specs.Courses.{in_curriculum};
 ghost use Rattle.tt_instance_data.specs.declared.cell.Cell.{Cell};
-ghost use Rattle.tt_moves.specs.Rests.{IsRest, IsStill};
+ghost use Rattle.tt_moves.specs.Inner.Rests.{IsRest, IsStill};
 
 use crate::rest::WithoutEntry;
 

@@ -6,7 +6,7 @@ ghost use Rattle.tt_instance_data.specs.declared.cell.Cell.{Cell};
 ghost use Rattle.tt_rules.specs.Soft.{days_cost, stability_cost};
 ghost use Rattle.tt_occupancy_tallies.specs.Weight.{hard_weight};
 ghost use Rattle.tt_moves.specs.Pricing.{IsCost};
-ghost use Rattle.tt_moves.specs.Rests.{IsRest};
+ghost use Rattle.tt_moves.specs.Inner.Rests.{IsRest};
 ghost use Rattle.tt_instance_data.specs.declared.limit.TheConstants.{MAX_MIN_DAYS, MAX_SLOTS};
 ghost use Rattle.tt_table.specs.declared.table.TheConstants.{MAX_ENTRIES};
 

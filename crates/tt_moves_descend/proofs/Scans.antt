@@ -4,7 +4,7 @@ use Rattle.tt_occupancy.specs.Filled.{Filled}
 use Rattle.tt_moves.specs.Steps.{CanStep, stepped}
 use Rattle.tt_moves.specs.declared.step.Step.{Step}
 use Rattle.tt_moves_descend.specs.Descent.{Descends, here, IsSettled, IsDescent}
-use Rattle.tt_moves_descend.specs.Scan.{Lowers, NoMove, NoSwap, IsScan, IsSpent}
+use Rattle.tt_moves_descend.specs.Inner.Scan.{Lowers, NoMove, NoSwap, IsScan, IsSpent}
 use Rattle.tt_moves_descend.proofs.Descents.{length-stepped, Descends-once, Descends-append}
 use Rattle.tt_moves_descend.proofs.Settling.{settled_where_none}
 

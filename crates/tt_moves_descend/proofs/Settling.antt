@@ -8,7 +8,7 @@ use Rattle.tt_moves.specs.Changes.{IsBelow}
 use Rattle.tt_moves.specs.Steps.{entry_at, in_place_of, stepped}
 use Rattle.tt_moves.specs.declared.step.Step.TheVariants.{Move, Swap}
 use Rattle.tt_moves_descend.specs.Descent.{IsSettled}
-use Rattle.tt_moves_descend.specs.Scan.{NoMove, NoSwap}
+use Rattle.tt_moves_descend.specs.Inner.Scan.{NoMove, NoSwap}
 use Rattle.tt_moves_descend.proofs.Descents.{IsBelow-irrefl}
 use Rattle.tt_moves.proofs.Undoing.{with_itself}
 

@@ -1,2 +1,2 @@
 pub mod Descent
-pub mod Scan
+pub mod Inner

@@ -3,7 +3,7 @@
 ghost use Rattle.std.specs.Prelude.{◌≡◌, IfOk, OnOk, OnErr};
 ghost use Rattle.tt_table.specs.Table.{IsTimetable};
 ghost use Rattle.tt_moves_descend.specs.Descent.{IsDescent};
-ghost use Rattle.tt_moves_descend.specs.Scan.{IsScan, IsSpent, NoMove, NoSwap};
+ghost use Rattle.tt_moves_descend.specs.Inner.Scan.{IsScan, IsSpent, NoMove, NoSwap};
 
 use crate::moving::try_moves;
 use crate::swapping::try_swaps;

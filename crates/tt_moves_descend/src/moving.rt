@@ -1,7 +1,7 @@
 //! All Moves in turn: by entry, room, day and period.
 
 ghost use Rattle.std.specs.Prelude.{◌<◌, length, OnOk, OnErr};
-ghost use Rattle.tt_moves_descend.specs.Scan.{IsScan, IsSpent, NoMoveOn, NoMoveTo, NoMoveOf, NoMove};
+ghost use Rattle.tt_moves_descend.specs.Inner.Scan.{IsScan, IsSpent, NoMoveOn, NoMoveTo, NoMoveOf, NoMove};
 
 use crate::trying::{Spent, try_step};
 use tt_moves::Step;

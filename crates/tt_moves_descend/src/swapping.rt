@@ -1,7 +1,7 @@
 //! All Swaps of two entries in turn, each pair once.
 
 ghost use Rattle.std.specs.Prelude.{◌<◌, length, OnOk, OnErr};
-ghost use Rattle.tt_moves_descend.specs.Scan.{IsScan, IsSpent, NoSwapOf, NoSwap};
+ghost use Rattle.tt_moves_descend.specs.Inner.Scan.{IsScan, IsSpent, NoSwapOf, NoSwap};
 
 use crate::trying::{Spent, try_step};
 use tt_moves::Step;

@@ -2,7 +2,7 @@
 
 ghost use Rattle.std.specs.Prelude.{OnOk, OnErr};
 ghost use Rattle.tt_moves.specs.Steps.{CanStep};
-ghost use Rattle.tt_moves_descend.specs.Scan.{Lowers, IsScan, IsSpent};
+ghost use Rattle.tt_moves_descend.specs.Inner.Scan.{Lowers, IsScan, IsSpent};
 
 use tt_moves::{Step, apply, lowers};
 use tt_occupancy::Occupied;

@@ -14,8 +14,8 @@ use Rattle.tt_occupancy_tallies.proofs.Compact.{compactness_added}
 use Rattle.tt_occupancy_tallies.proofs.Exchange.{lectures_exchanged, days_exchanged, stability_exchanged}
 use Rattle.tt_occupancy_tallies.proofs.Sizes.{lectures_few, conflicts_few, availability_few, occupancy_few, capacity_few, days_few, days_cost_few, compactness_few, stability_few, stability_cost_few}
 use Rattle.tt_occupancy_tallies.specs.declared.tables.Tables.{Tables}
-use Rattle.tt_occupancy.specs.Counted.{IsCounted}
-use Rattle.tt_occupancy.specs.Weights.{IsWeight, IsExchange, IsExchanged}
+use Rattle.tt_occupancy.specs.Inner.Counted.{IsCounted}
+use Rattle.tt_occupancy.specs.Inner.Weights.{IsWeight, IsExchange, IsExchanged}
 use Rattle.tt_occupancy.specs.declared.weight.Weight.{Weight}
 
 -- an entry x that is counted before u, and another entry y of its course

@@ -11,14 +11,14 @@ use Rattle.tt_instance_data.specs.Courses.{in_curriculum}
 use Rattle.tt_instance_data.specs.declared.cell.Cell.{Cell}
 use Rattle.tt_table.specs.Table.{IsTimetable}
 use Rattle.tt_rules.specs.Soft.{is_isolated}
-use Rattle.tt_occupancy_tallies.specs.Neighbours.{entries_at, has_entry_at, has_neighbour, joined_before, joined_after}
+use Rattle.tt_occupancy_tallies.specs.Inner.Neighbours.{entries_at, has_entry_at, has_neighbour, joined_before, joined_after}
 use Rattle.tt_occupancy_tallies.specs.Weight.{alone, joined, all_joined}
 use Rattle.tt_occupancy_tallies.proofs.Chosen.{any_counted}
 use Rattle.tt_occupancy_tallies.proofs.Neighbours.{isolated_by_periods, joined_by_periods}
-use Rattle.tt_occupancy_tallies.specs.Counts.{in_period}
+use Rattle.tt_occupancy_tallies.specs.Inner.Counts.{in_period}
 use Rattle.tt_occupancy_tallies.specs.Tallies.{IsTally, of_curriculum}
 use Rattle.tt_occupancy_tallies.specs.declared.week.Week.{Week}
-use Rattle.tt_occupancy.specs.NeighbourCounts.{AreNeighbourCounts, IsIsolationChange}
+use Rattle.tt_occupancy.specs.Inner.NeighbourCounts.{AreNeighbourCounts, IsIsolationChange}
 use Rattle.tt_occupancy.specs.declared.neighbour_counts.NeighbourCounts.{NeighbourCounts}
 use Rattle.tt_occupancy.specs.declared.isolation_change.IsolationChange.{IsolationChange}
 use Rattle.tt_lists.proofs.Filters.{sum_by-of_filter}

@@ -1,5 +1,2 @@
-pub mod NeighbourCounts
-pub mod Counted
 pub mod Filled
-pub mod Fields
-pub mod Weights
+pub mod Inner

@@ -4,7 +4,7 @@ ghost use Rattle.std.specs.Prelude.{◌≤◌, length, IfOk};
 ghost use Rattle.tt_instance_data.specs.Limits.{IsInstance};
 ghost use Rattle.tt_table.specs.Table.{IsTimetable};
 ghost use Rattle.tt_table.specs.declared.table.TheConstants.{MAX_ENTRIES};
-ghost use Rattle.tt_occupancy_tallies.specs.Tables.{AreTables};
+ghost use Rattle.tt_occupancy_tallies.specs.Inner.Tables.{AreTables};
 
 use std::alloc::{AllocError, Global};
 use tt_instance_data::Instance;

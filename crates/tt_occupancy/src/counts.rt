@@ -1,7 +1,7 @@
 //! The numbers of entries, by their place.
 
 ghost use Rattle.std.specs.Prelude.{◌≡◌, ℕ, ◌<◌, ◌≤◌, ◌&&◌, nat_lt, length, filter, count_by};
-ghost use Rattle.tt_bits.specs.Bits.{has_bit};
+ghost use Rattle.tt_bits.specs.Inner.Bits.{has_bit};
 ghost use Rattle.tt_instance_data.specs.Cells.{all_curricula, slot, is_of, is_at, is_in, is_on};
 ghost use Rattle.tt_instance_data.specs.Courses.{teachers, in_curriculum, conflict};
 ghost use Rattle.tt_table.specs.declared.table.TheConstants.{MAX_ENTRIES};

@@ -4,9 +4,9 @@ ghost use Rattle.std.specs.Prelude.{◌≡◌, ℕ, ◌+◌, ◌-◌, ◌*◌, �
 ghost use Rattle.tt_instance_data.specs.Problem.{Problem};
 ghost use Rattle.tt_instance_data.specs.declared.cell.Cell.{Cell};
 ghost use Rattle.tt_table.specs.Table.{IsTimetable};
-ghost use Rattle.tt_occupancy_tallies.specs.Neighbours.{entries_at};
+ghost use Rattle.tt_occupancy_tallies.specs.Inner.Neighbours.{entries_at};
 ghost use Rattle.tt_occupancy_tallies.specs.Tallies.{IsTally, of_curriculum};
-ghost use Rattle.tt_occupancy.specs.NeighbourCounts.{AreNeighbourCounts, IsIsolationChange};
+ghost use Rattle.tt_occupancy.specs.Inner.NeighbourCounts.{AreNeighbourCounts, IsIsolationChange};
 ghost use Rattle.tt_instance_data.specs.declared.limit.TheConstants.{MAX_CURRICULA};
 
 use crate::neighbour_counts::NeighbourCounts;

@@ -3,8 +3,8 @@
 ghost use Rattle.std.specs.Prelude.{◌≡◌, ℕ, ◌+◌, ◌^◌, ◌<◌, ◌≤◌, not, List};
 ghost use Rattle.tt_instance_data.specs.Problem.{Problem};
 ghost use Rattle.tt_instance_data.specs.declared.cell.Cell.{Cell};
-ghost use Rattle.tt_occupancy_tallies.specs.Neighbours.{has_neighbour, joined_before, joined_after};
-ghost use Rattle.tt_occupancy.specs.NeighbourCounts.{AreNeighbourCounts};
+ghost use Rattle.tt_occupancy_tallies.specs.Inner.Neighbours.{has_neighbour, joined_before, joined_after};
+ghost use Rattle.tt_occupancy.specs.Inner.NeighbourCounts.{AreNeighbourCounts};
 
 /// The number of entries in a period, in each of the two periods before it and in each of the two after it.
 #[derive(Clone, Copy)]

@@ -38,7 +38,7 @@ impl<'a, 'i> Model for Occupied<'a, 'i> {
 
     ghost view = { λ s. record { problem = s.instance.now; entries = s.table } };
 
-    ghost use Rattle.tt_occupancy.specs.Fields.{AreFieldsCounted};
+    ghost use Rattle.tt_occupancy.specs.Inner.Fields.{AreFieldsCounted};
 
     ghost invariant = { AreFieldsCounted };
 }

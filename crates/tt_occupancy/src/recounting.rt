@@ -3,7 +3,7 @@
 ghost use Rattle.std.specs.Prelude.{◌≡◌, List, ◌∷◌};
 ghost use Rattle.tt_instance_data.specs.Cells.{InRange};
 ghost use Rattle.tt_instance_data.specs.declared.cell.Cell.{Cell};
-ghost use Rattle.tt_occupancy.specs.Counted.{IsCounted};
+ghost use Rattle.tt_occupancy.specs.Inner.Counted.{IsCounted};
 
 use crate::rescoring::rescored;
 use crate::weighing::weigh;

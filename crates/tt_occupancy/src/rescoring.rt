@@ -4,7 +4,7 @@ ghost use Rattle.std.specs.Prelude.{◌≡◌, ℕ, List, ◌∷◌};
 ghost use Rattle.tt_instance_data.specs.Problem.{Problem};
 ghost use Rattle.tt_instance_data.specs.declared.cell.Cell.{Cell};
 ghost use Rattle.tt_rules.specs.Score.{IsScore};
-ghost use Rattle.tt_occupancy.specs.Weights.{IsExchange, IsExchanged};
+ghost use Rattle.tt_occupancy.specs.Inner.Weights.{IsExchange, IsExchanged};
 
 use crate::weight::Weight;
 use tt_instance_data::ISOLATED_COST;

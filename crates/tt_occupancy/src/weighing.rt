@@ -5,8 +5,8 @@ ghost use Rattle.tt_instance_data.specs.Cells.{InRange};
 ghost use Rattle.tt_instance_data.specs.declared.cell.Cell.{Cell};
 ghost use Rattle.tt_table.specs.Table.{IsTimetable};
 ghost use Rattle.tt_rules.specs.Soft.{days_cost, stability_cost};
-ghost use Rattle.tt_occupancy_tallies.specs.Tables.{AreTables};
-ghost use Rattle.tt_occupancy.specs.Weights.{IsWeight};
+ghost use Rattle.tt_occupancy_tallies.specs.Inner.Tables.{AreTables};
+ghost use Rattle.tt_occupancy.specs.Inner.Weights.{IsWeight};
 
 use crate::isolation_change::isolation_change_at;
 use crate::weight::Weight;

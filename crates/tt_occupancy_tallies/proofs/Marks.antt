@@ -3,8 +3,8 @@ use Rattle.std.proofs.Common.{◌≡◌, ℕ, ◌+◌, ◌*◌, ◌<◌, Bool, t
 use Rattle.std.specs.Prelude.{◌==◌, nat_lt, slice_index}
 use Rattle.std.proofs.lemmas.Bool.{cases_eq, cases_lt, lt-ltb, le-ltb}
 use Rattle.std.proofs.lemmas.Nat.{same_from_place}
-use Rattle.tt_bits.specs.Bits.{has_bit}
-use Rattle.tt_occupancy_tallies.specs.Counts.{in_period, AreMarks}
+use Rattle.tt_bits.specs.Inner.Bits.{has_bit}
+use Rattle.tt_occupancy_tallies.specs.Inner.Counts.{in_period, AreMarks}
 use Rattle.tt_occupancy_tallies.specs.declared.week.Week.{Week}
 
 -- a conjunction of three tests fails if the second test fails

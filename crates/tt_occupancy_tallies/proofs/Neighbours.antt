@@ -11,7 +11,7 @@ use Rattle.tt_rules.specs.Soft.{is_isolated}
 use Rattle.tt_lists.proofs.Sums.{one_if, sum_by-plus, sum_by-same, sum_by-nothing}
 use Rattle.tt_lists.proofs.Tests.{list_any-same_at, list_any-or}
 use Rattle.tt_occupancy_tallies.specs.Weight.{joined}
-use Rattle.tt_occupancy_tallies.specs.Neighbours.{has_entry_at, has_neighbour, joined_before, joined_after}
+use Rattle.tt_occupancy_tallies.specs.Inner.Neighbours.{has_entry_at, has_neighbour, joined_before, joined_after}
 
 -- a test that does not depend on the element
 list_any-also : {X : Type 0} (k : Bool) (p : X → Bool) (xs : List X) → list_any (λ x. k && p x) xs ≡ (k && list_any p xs)

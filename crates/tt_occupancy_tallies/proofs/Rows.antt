@@ -11,7 +11,7 @@ use Rattle.tt_instance_data.specs.Problem.{Problem}
 use Rattle.tt_instance_data.specs.Cells.{InRange, slot, is_at}
 use Rattle.tt_instance_data.specs.declared.cell.Cell.{Cell}
 use Rattle.tt_occupancy_tallies.proofs.Differ.{once_below}
-use Rattle.tt_occupancy_tallies.specs.Counts.{in_period}
+use Rattle.tt_occupancy_tallies.specs.Inner.Counts.{in_period}
 use Rattle.tt_occupancy_tallies.specs.Tallies.{IsTally}
 use Rattle.tt_occupancy_tallies.specs.declared.week.Week.{Week}
 use Rattle.tt_occupancy_tallies.proofs.Tallies.{tally_room}

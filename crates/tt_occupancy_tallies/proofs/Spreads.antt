@@ -13,7 +13,7 @@ use Rattle.tt_instance_data.specs.Cells.{InRange, is_of}
 use Rattle.tt_instance_data.specs.declared.cell.Cell.{Cell}
 use Rattle.tt_occupancy_tallies.proofs.Differ.{once_below}
 use Rattle.tt_occupancy_tallies.proofs.Adding.{places_added, places_kept}
-use Rattle.tt_occupancy_tallies.specs.Counts.{at, used_at, IsOneMore}
+use Rattle.tt_occupancy_tallies.specs.Inner.Counts.{at, used_at, IsOneMore}
 use Rattle.tt_occupancy_tallies.specs.Tallies.{IsSpread}
 use Rattle.tt_occupancy_tallies.specs.declared.spread.Spread.{Spread}
 

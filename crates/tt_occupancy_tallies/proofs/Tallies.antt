@@ -7,7 +7,7 @@ use Rattle.tt_lists.proofs.Sums.{one_if, one_if_true, count_by-cons}
 use Rattle.tt_instance_data.specs.Problem.{Problem}
 use Rattle.tt_instance_data.specs.Cells.{InRange, slot, is_at}
 use Rattle.tt_instance_data.specs.declared.cell.Cell.{Cell}
-use Rattle.tt_occupancy_tallies.specs.Counts.{in_period, IsMore}
+use Rattle.tt_occupancy_tallies.specs.Inner.Counts.{in_period, IsMore}
 use Rattle.tt_occupancy_tallies.specs.Tallies.{IsTally}
 use Rattle.tt_occupancy_tallies.specs.declared.week.Week.{Week}
 

@@ -1,7 +1,4 @@
 pub mod Bag
-pub mod Counts
-pub mod Links
-pub mod Neighbours
-pub mod Tables
+pub mod Inner
 pub mod Tallies
 pub mod Weight

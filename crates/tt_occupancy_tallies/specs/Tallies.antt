@@ -7,7 +7,7 @@ use Rattle.tt_instance_data.specs.Problem.{Problem}
 use Rattle.tt_instance_data.specs.Cells.{all_rooms, slot, is_of, is_at, is_in}
 use Rattle.tt_instance_data.specs.Courses.{no_course, teachers, in_curriculum, conflict}
 use Rattle.tt_instance_data.specs.declared.cell.Cell.{Cell}
-use Rattle.tt_occupancy_tallies.specs.Counts.{at, in_period, used_at}
+use Rattle.tt_occupancy_tallies.specs.Inner.Counts.{at, in_period, used_at}
 use Rattle.tt_occupancy_tallies.specs.declared.spread.Spread.{Spread}
 use Rattle.tt_occupancy_tallies.specs.declared.week.Week.{Week}
 

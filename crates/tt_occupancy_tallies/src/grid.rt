@@ -14,7 +14,7 @@ pub struct Grid {
 }
 
 impl Grid {
-    ghost use Rattle.tt_occupancy_tallies.specs.Counts.{at};
+    ghost use Rattle.tt_occupancy_tallies.specs.Inner.Counts.{at};
 
     /// Returns a table in which all counts are 0.
     pub fn new(alloc: Global, rows: usize, columns: usize) -> Result<Grid, AllocError>

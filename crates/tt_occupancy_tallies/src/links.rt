@@ -1,7 +1,7 @@
 //! The curricula of each course, and the courses that conflict with it.
 
 ghost use Rattle.std.specs.Prelude.{◌≡◌, ◌<◌, [], length, slice_index_or, IfOk};
-ghost use Rattle.tt_occupancy_tallies.specs.Links.{AreLinks};
+ghost use Rattle.tt_occupancy_tallies.specs.Inner.Links.{AreLinks};
 
 use std::alloc::{AllocError, Global};
 use tt_instance_data::Instance;

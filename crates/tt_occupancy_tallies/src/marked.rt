@@ -2,8 +2,8 @@
 
 ghost use Rattle.std.specs.Prelude.{◌≡◌, ℕ, ◌+◌, ◌*◌, ◌^◌, ◌<◌, ◌≤◌, ◌==◌, ◌&&◌, IfOk, cond, nat_lt, length, slice_index, count_by, All};
 ghost use Rattle.tt_instance_data.specs.declared.limit.TheConstants.{MAX_CURRICULA, MAX_PERIODS, MAX_SLOTS};
-ghost use Rattle.tt_bits.specs.Bits.{has_bit};
-ghost use Rattle.tt_occupancy_tallies.specs.Counts.{in_period, IsMore, AreMarks};
+ghost use Rattle.tt_bits.specs.Inner.Bits.{has_bit};
+ghost use Rattle.tt_occupancy_tallies.specs.Inner.Counts.{in_period, IsMore, AreMarks};
 
 use crate::week::Week;
 use std::alloc::{AllocError, Global};

@@ -16,7 +16,7 @@ pub struct Spread {
 }
 
 impl Spread {
-    ghost use Rattle.tt_occupancy_tallies.specs.Counts.{at, used_at, IsOneMore};
+    ghost use Rattle.tt_occupancy_tallies.specs.Inner.Counts.{at, used_at, IsOneMore};
 
     /// Returns a table in which all counts are 0.
     pub fn new(alloc: Global, rows: u32, places: u32) -> Result<Spread, AllocError>

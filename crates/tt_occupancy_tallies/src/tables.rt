@@ -5,7 +5,7 @@ ghost use Rattle.tt_instance_data.specs.Cells.{InRange};
 ghost use Rattle.tt_instance_data.specs.Limits.{IsInstance};
 ghost use Rattle.tt_instance_data.specs.declared.cell.Cell.{Cell};
 ghost use Rattle.tt_table.specs.declared.table.TheConstants.{MAX_ENTRIES};
-ghost use Rattle.tt_occupancy_tallies.specs.Tables.{AreTables};
+ghost use Rattle.tt_occupancy_tallies.specs.Inner.Tables.{AreTables};
 
 use crate::links::Links;
 use crate::marked::Marked;

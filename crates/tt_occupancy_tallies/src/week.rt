@@ -18,7 +18,7 @@ pub struct Week {
 }
 
 impl Week {
-    ghost use Rattle.tt_occupancy_tallies.specs.Counts.{in_period, IsMore};
+    ghost use Rattle.tt_occupancy_tallies.specs.Inner.Counts.{in_period, IsMore};
 
     /// Returns a table in which all counts are 0.
     pub fn new(alloc: Global, rows: u32, days: u32, periods: u32) -> Result<Week, AllocError>

@@ -22,7 +22,7 @@ use Rattle.tt_proof_read.specs.declared.node.Node.TheVariants as node
 use Rattle.tt_proof_read.specs.Trees.{Tree, Tip, Fork, with_fact, on_paths}
 use Rattle.tt_proof_check.specs.Derives.{Derives}
 use Rattle.tt_proof_check.specs.FailedReads.{IsCutOff}
-use Rattle.tt_proof_check.specs.Pending.{pending}
+use Rattle.tt_proof_check.specs.Inner.Pending.{pending}
 use Rattle.tt_proof_check.specs.Streams.{stream_of, sizes_of}
 use Rattle.tt_proof_check.specs.Explains.{Passes, FailsAt}
 

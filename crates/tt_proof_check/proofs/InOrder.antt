@@ -17,7 +17,7 @@ use Rattle.tt_proof_check.specs.declared.fault.NodesFault.{NodesFault}
 use Rattle.tt_proof_check.specs.declared.fault.NodesFault.TheVariants as reported
 use Rattle.tt_proof_check.specs.declared.walk.Stop.TheVariants.{Rule, TooDeep}
 use Rattle.tt_proof_check.specs.Derives.{Derives, Proves, HoldsOfAll}
-use Rattle.tt_proof_check.specs.Steps.{Steps, Stops}
+use Rattle.tt_proof_check.specs.Inner.Steps.{Steps, Stops}
 use Rattle.tt_proof_check.specs.Explains.{IsRightOn, Passes, FailsAt, IsDeepAt, Explains}
 use Rattle.tt_proof_check.proofs.Counting.{take_next, split_at}
 use Rattle.tt_proof_check.proofs.Reading.{whole_places}

@@ -2,7 +2,7 @@
 use Rattle.std.proofs.Common.{◌≡◌, true, false, List, [], ◌∷◌, ◌++◌, sym, ap, ◌∙◌, append_assoc, append-nil}
 use Rattle.tt_facts_path.specs.declared.facts.Fact.{Fact}
 use Rattle.tt_proof_read.specs.Trees.{with_fact}
-use Rattle.tt_proof_check.specs.Pending.{other_side, pending_after, pending}
+use Rattle.tt_proof_check.specs.Inner.Pending.{other_side, pending_after, pending}
 
 pending_after-push : (before path : List Fact) (f : Fact) → pending_after before (path ++ f ∷ []) ≡ other_side (before ++ path) f ++ pending_after before path
 pending_after-push before [] f = ap (λ l. other_side l f) (sym (append-nil before)) ∙ sym (append-nil (other_side (before ++ []) f))

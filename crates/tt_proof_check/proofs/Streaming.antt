@@ -23,9 +23,9 @@ use Rattle.tt_proof_check.specs.declared.fault.CheckFault.TheVariants as reporte
 use Rattle.tt_proof_check.specs.FailedReads.{NodeIsCutOff}
 use Rattle.tt_proof_check.specs.Faults.{fault_from_text}
 use Rattle.tt_proof_check.specs.Visited.{Visited}
-use Rattle.tt_proof_check.specs.Pending.{pending}
-use Rattle.tt_proof_check.specs.Steps.{Steps, Stops}
-use Rattle.tt_proof_check.specs.CheckedPart.{CheckedPart, ExplainsNodes, ExplainsChild}
+use Rattle.tt_proof_check.specs.Inner.Pending.{pending}
+use Rattle.tt_proof_check.specs.Inner.Steps.{Steps, Stops}
+use Rattle.tt_proof_check.specs.Inner.CheckedPart.{CheckedPart, ExplainsNodes, ExplainsChild}
 use Rattle.tt_proof_check.specs.Streams.{sizes_of, Fails, NodeFails}
 use Rattle.tt_proof_check.specs.Explains.{Passes, FailsAt, IsDeepAt}
 use Rattle.tt_proof_check.proofs.Counting.{next_places}

@@ -18,7 +18,7 @@ use Rattle.tt_proof_check.specs.declared.fault.CheckFault.{CheckFault}
 use Rattle.tt_proof_check.specs.declared.fault.CheckFault.TheVariants as reported
 use Rattle.tt_proof_check.specs.Derives.{Derives, HoldsOfAll}
 use Rattle.tt_proof_check.specs.Visited.{IsVisitedProof}
-use Rattle.tt_proof_check.specs.CheckedPart.{Proved}
+use Rattle.tt_proof_check.specs.Inner.CheckedPart.{Proved}
 use Rattle.tt_proof_check.specs.Streams.{IsProved, IsEnvironmental, stream_of, sizes_of, Fails, NodeFails, EndFails, IsReadTo, HasHeader, IsProofFault}
 use Rattle.tt_proof_check.specs.Explains.{FailsAt, IsDeepAt}
 use Rattle.tt_proof_check.proofs.Determined.{begins_whole, same_header, compare, same_place}

@@ -15,8 +15,8 @@ use Rattle.tt_proof_read.proofs.Depth.{leaves_low}
 use Rattle.tt_proof_check.specs.declared.walk.Stop.{Stop}
 use Rattle.tt_proof_check.specs.declared.walk.Stop.TheVariants.{Rule, TooDeep}
 use Rattle.tt_proof_check.specs.Derives.{Derives, Proves}
-use Rattle.tt_proof_check.specs.Pending.{pending}
-use Rattle.tt_proof_check.specs.Steps.{Steps, Stops}
+use Rattle.tt_proof_check.specs.Inner.Pending.{pending}
+use Rattle.tt_proof_check.specs.Inner.Steps.{Steps, Stops}
 use Rattle.tt_proof_check.specs.Explains.{Passes, FailsAt, IsDeepAt}
 use Rattle.tt_proof_check.proofs.Places.{pending-push}
 use Rattle.tt_proof_check.proofs.Reading.{Stack, root, next_stack, stack_after, at, places_of, stack_after-push, places_of-push, length-places_of, whole_places, stack_whole, tree_goes_on, no_tree_goes_on, no_tree_yet, get-behind}

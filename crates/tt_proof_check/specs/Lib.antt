@@ -2,11 +2,9 @@ pub mod Derives
 pub mod FailedReads
 pub mod Faults
 pub mod Headline
+pub mod Inner
 pub mod Visited
-pub mod CheckedPart
 pub mod Nodes
-pub mod Pending
-pub mod Steps
 pub mod Streams
 pub mod Explains
 pub mod Verdicts

@@ -14,8 +14,8 @@ ghost use Rattle.tt_proof_check.specs.FailedReads.{NodeIsCutOff, IsCutOff, IsChe
 ghost use Rattle.tt_proof_check.specs.Faults.{OutOfMemoryIsNoTextFault, is_failed_read};
 ghost use Rattle.tt_proof_check.specs.Visited.{Visited, Unvisited, IsVisitedProof};
 ghost use Rattle.tt_proof_check.specs.Nodes.{IsNodeOf};
-ghost use Rattle.tt_proof_check.specs.Steps.{Steps, Stops};
-ghost use Rattle.tt_proof_check.specs.CheckedPart.{CheckedPart, Proved, ExplainsNodes, ExplainsChild};
+ghost use Rattle.tt_proof_check.specs.Inner.Steps.{Steps, Stops};
+ghost use Rattle.tt_proof_check.specs.Inner.CheckedPart.{CheckedPart, Proved, ExplainsNodes, ExplainsChild};
 ghost use Rattle.tt_proof_check.specs.Streams.{stream_of, IsProved, IsEnvironmental, IsProofFault};
 
 use crate::fault::CheckFault;

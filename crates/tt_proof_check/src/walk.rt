@@ -3,8 +3,8 @@
 ghost use Rattle.std.specs.Prelude.{◌≡◌, ◌≤◌, length, OnOk, IfErr, IsOkUnless};
 ghost use Rattle.tt_facts_path.specs.declared.path.TheConstants.{MAX_FACTS};
 ghost use Rattle.tt_proof_check.specs.Nodes.{IsNodeOf};
-ghost use Rattle.tt_proof_check.specs.Pending.{ContinuesWith};
-ghost use Rattle.tt_proof_check.specs.Steps.{Steps, Stops};
+ghost use Rattle.tt_proof_check.specs.Inner.Pending.{ContinuesWith};
+ghost use Rattle.tt_proof_check.specs.Inner.Steps.{Steps, Stops};
 
 use tt_facts_path::{Fact, Path, PathFault};
 use tt_leaf_data::Bound;
@@ -34,7 +34,7 @@ impl From<RuleFault> for Stop {
 
 impl From<PathFault> for Stop {
     ghost use Rattle.std.specs.Prelude.{◌≡◌};
-    ghost use Rattle.tt_proof_check.specs.Steps.{stop_of};
+    ghost use Rattle.tt_proof_check.specs.Inner.Steps.{stop_of};
 
     ghost from_gives = { λ f s. s ≡ stop_of f };
 

@@ -15,7 +15,7 @@ use Rattle.tt_instance_data.specs.Problem.{Problem}
 use Rattle.tt_leaf_data.specs.Ranges.{ArePrices}
 use Rattle.tt_leaf_data.specs.declared.leaf.Claim.{Claim}
 use Rattle.tt_leaf_data.specs.declared.leaf.Claim.TheVariants as claim
-use Rattle.tt_proof_read.specs.Pricing.{ArePriceLists}
+use Rattle.tt_proof_read.specs.Inner.Pricing.{ArePriceLists}
 use Rattle.tt_proof_read.specs.Readers.{IsWordIn}
 use Rattle.tt_proof_read.specs.Sizes.{AreSizes}
 use Rattle.tt_proof_read.specs.Spelling.{course_piece, price_pieces, by_kind, SpellsClaim, SpellsEach, IsClaim}

@@ -9,7 +9,7 @@ use Rattle.tt_text.specs.Feeds.{Stream}
 use Rattle.tt_text.specs.Reading.{◌>>=◌}
 use Rattle.tt_text.proofs.Steps.{ok_is, bind_ok}
 use Rattle.tt_text.proofs.Fields.{text_is, is_text_of}
-use Rattle.tt_proof_read.specs.Pricing.{IsUnseen, ArePriceLists}
+use Rattle.tt_proof_read.specs.Inner.Pricing.{IsUnseen, ArePriceLists}
 use Rattle.tt_proof_read.specs.Spelling.{Price, OfCourse, OfRoom, price_pieces, course_prices, room_prices, by_kind, course_piece, SpellsEach}
 use Rattle.tt_proof_read.specs.Reading.{token_at, numbered_below, new_number, PriceLists, Seen, seen_in, priced_in, priced_of, with_price, price_at, pair_at, next_pair_at, with_priced, with_pair, prices_at}
 use Rattle.tt_proof_read.specs.declared.fault.TextFault.{TextFault}

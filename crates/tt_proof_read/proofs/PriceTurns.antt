@@ -8,8 +8,8 @@ use Rattle.std.proofs.lemmas.List.Elements.{All-nil, All-push, recursion_from_Al
 use Rattle.tt_lists.proofs.Members.{each_of_append}
 use Rattle.tt_leaf_data.specs.Ranges.{ArePrices, AreBelow}
 use Rattle.tt_text.specs.Feeds.{Stream}
-use Rattle.tt_proof_read.specs.Contract.{State, IsReading}
-use Rattle.tt_proof_read.specs.Pricing.{with_seen, IsUnseen, ArePriceLists}
+use Rattle.tt_proof_read.specs.Inner.Contract.{State, IsReading}
+use Rattle.tt_proof_read.specs.Inner.Pricing.{with_seen, IsUnseen, ArePriceLists}
 use Rattle.tt_proof_read.specs.Reading.{PriceLists, Seen, seen_in, with_priced, with_pair, pair_at, next_pair_at, prices_at}
 use Rattle.tt_proof_read.specs.declared.fault.TextFault.{TextFault}
 use Rattle.tt_proof_read.specs.declared.format.TheConstants.{MAX_PRICE}

@@ -4,7 +4,7 @@ use Rattle.std.proofs.lemmas.Bool.{lt-ltb}
 use Rattle.tt_text.specs.Feeds.{Stream}
 use Rattle.tt_text.specs.Reading.{◌>>=◌}
 use Rattle.tt_text.proofs.Steps.{fails_then, fails_as, bind_is}
-use Rattle.tt_proof_read.specs.Contract.{State, IsReading}
+use Rattle.tt_proof_read.specs.Inner.Contract.{State, IsReading}
 use Rattle.tt_proof_read.specs.Faults.{is_environmental, is_failed_read}
 use Rattle.tt_proof_read.specs.Reading.{counted}
 use Rattle.tt_proof_read.specs.declared.fault.TextFault.{TextFault}

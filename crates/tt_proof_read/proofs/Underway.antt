@@ -3,7 +3,7 @@ use Rattle.std.proofs.Common.{◌≡◌, ℕ, true, false, is_some, if◌then◌
 use Rattle.tt_text.specs.Feeds.{Stream, stream_at}
 use Rattle.tt_text.specs.CutShort.{cut_at, MayFail}
 use Rattle.tt_proof_read.specs.Answers.{StaysKnown}
-use Rattle.tt_proof_read.specs.Contract.{State, IsReading}
+use Rattle.tt_proof_read.specs.Inner.Contract.{State, IsReading}
 use Rattle.tt_proof_read.specs.Faults.{is_environmental, is_failed_read}
 use Rattle.tt_proof_read.specs.declared.fault.TextFault.{TextFault}
 use Rattle.tt_proof_read.proofs.Loops.{TakesTokens, IsLeft, left_then, left_end, left_fails}

@@ -1,10 +1,8 @@
 pub mod Answers
 pub mod Beginnings
-pub mod Contract
 pub mod Faults
+pub mod Inner
 pub mod Limits
-pub mod Listed
-pub mod Pricing
 pub mod Readers
 pub mod Reading
 pub mod Reads

@@ -2,9 +2,9 @@
 
 ghost use Rattle.std.specs.Prelude.{◌<◌, IfOk, IfSome, All};
 ghost use Rattle.tt_text.specs.Feeds.{room_of};
-ghost use Rattle.tt_proof_read.specs.Contract.{ReadsAs};
+ghost use Rattle.tt_proof_read.specs.Inner.Contract.{ReadsAs};
 ghost use Rattle.tt_proof_read.specs.Faults.{ReportsNoFailedRead, Gives};
-ghost use Rattle.tt_proof_read.specs.Pricing.{AreTables};
+ghost use Rattle.tt_proof_read.specs.Inner.Pricing.{AreTables};
 ghost use Rattle.tt_proof_read.specs.Readers.{IsWordIn, IsClaimAt};
 ghost use Rattle.tt_proof_read.specs.Reading.{claim_word_of, claim_after_word, claim_at, claims_at};
 

@@ -3,7 +3,7 @@
 ghost use Rattle.std.specs.Prelude.{◌≡◌, ◌≤◌, ◌<◌, None, IfOk};
 ghost use Rattle.tt_text.specs.Feeds.{room_of};
 ghost use Rattle.tt_text.specs.Numbers.{number_of};
-ghost use Rattle.tt_proof_read.specs.Contract.{ReadsAs, ReadsPast};
+ghost use Rattle.tt_proof_read.specs.Inner.Contract.{ReadsAs, ReadsPast};
 ghost use Rattle.tt_proof_read.specs.Faults.{ReportsNoFailedRead, ReportsNoOutOfMemory, Gives};
 ghost use Rattle.tt_proof_read.specs.Reading.{token_at, word_at, numbered_below, index_of, course_at, curriculum_at, priced_as, price_at};
 

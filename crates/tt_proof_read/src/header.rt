@@ -1,7 +1,7 @@
 //! The header and the end of a proof.
 
 ghost use Rattle.std.specs.Prelude.{◌≡◌, None};
-ghost use Rattle.tt_proof_read.specs.Contract.{ReadsAs, ReadsPast};
+ghost use Rattle.tt_proof_read.specs.Inner.Contract.{ReadsAs, ReadsPast};
 ghost use Rattle.tt_proof_read.specs.Faults.{ReportsNoFailedRead, ReportsNoOutOfMemory, Gives};
 ghost use Rattle.tt_proof_read.specs.Reading.{version_of, version_at, bound_of, bound_at, header_at, end_at};
 

@@ -1,9 +1,9 @@
 //! Single nodes.
 
 ghost use Rattle.std.specs.Prelude.{◌<◌, IfOk};
-ghost use Rattle.tt_proof_read.specs.Contract.{ReadsAs};
+ghost use Rattle.tt_proof_read.specs.Inner.Contract.{ReadsAs};
 ghost use Rattle.tt_proof_read.specs.Faults.{ReportsNoFailedRead, Gives};
-ghost use Rattle.tt_proof_read.specs.Pricing.{AreTables};
+ghost use Rattle.tt_proof_read.specs.Inner.Pricing.{AreTables};
 ghost use Rattle.tt_proof_read.specs.Readers.{IsNodeAt};
 ghost use Rattle.tt_proof_read.specs.Reading.{node_word_of, node_after_word, node_at};
 

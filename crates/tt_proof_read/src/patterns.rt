@@ -3,7 +3,7 @@
 ghost use Rattle.std.specs.Prelude.{◌<◌, IfOk, IfSome};
 ghost use Rattle.tt_instance_data.specs.Problem.{Problem};
 ghost use Rattle.tt_facts_path.specs.Facts.{IsWho, IsPattern};
-ghost use Rattle.tt_proof_read.specs.Contract.{ReadsAs};
+ghost use Rattle.tt_proof_read.specs.Inner.Contract.{ReadsAs};
 ghost use Rattle.tt_proof_read.specs.Faults.{ReportsNoFailedRead, Gives};
 ghost use Rattle.tt_proof_read.specs.Sizes.{AreSizes};
 ghost use Rattle.tt_proof_read.specs.Reading.{who_in, who_at, given_of, given_at, pattern_at};

@@ -2,9 +2,9 @@
 
 ghost use Rattle.std.specs.Prelude.{◌≡◌, ◌≤◌, ◌<◌, IfOk, IfSome, OnOk};
 ghost use Rattle.tt_text.specs.Feeds.{room_of};
-ghost use Rattle.tt_proof_read.specs.Contract.{ReadsAs};
+ghost use Rattle.tt_proof_read.specs.Inner.Contract.{ReadsAs};
 ghost use Rattle.tt_proof_read.specs.Faults.{ReportsNoFailedRead, Gives};
-ghost use Rattle.tt_proof_read.specs.Pricing.{price_lists_of, seen_of, AreTables, IsUnseen, ArePriceLists};
+ghost use Rattle.tt_proof_read.specs.Inner.Pricing.{price_lists_of, seen_of, AreTables, IsUnseen, ArePriceLists};
 ghost use Rattle.tt_proof_read.specs.Reading.{priced_in, priced_of, pair_at, prices_at};
 
 use crate::fault::TextFault;
@@ -31,7 +31,7 @@ pub struct Prices {
 
 impl Prices {
     ghost use Rattle.std.specs.Prelude.{◌≡◌, OnOk};
-    ghost use Rattle.tt_proof_read.specs.Pricing.{price_lists_of, seen_of, with_seen, IsIn};
+    ghost use Rattle.tt_proof_read.specs.Inner.Pricing.{price_lists_of, seen_of, with_seen, IsIn};
     ghost use Rattle.tt_proof_read.specs.Reading.{with_priced};
 
     /// Adds a price, and adds its number to the tables.

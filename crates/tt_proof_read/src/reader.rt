@@ -38,7 +38,7 @@ pub struct NodeReader {
 
 impl Model for NodeReader {
     ghost use Rattle.std.specs.Prelude.{◌≡◌, ◌≤◌, ◌+◌, None};
-    ghost use Rattle.tt_proof_read.specs.Pricing.{AreTables};
+    ghost use Rattle.tt_proof_read.specs.Inner.Pricing.{AreTables};
     ghost use Rattle.tt_proof_read.specs.Readers.{Reader};
     ghost use Rattle.tt_proof_read.specs.declared.format.TheConstants.{MAX_PROOF_NODES};
 

@@ -15,7 +15,7 @@ pub struct Seen {
 
 impl Model for Seen {
     ghost use Rattle.std.specs.Prelude.{length};
-    ghost use Rattle.tt_proof_read.specs.Listed.{Listed, AreMarked};
+    ghost use Rattle.tt_proof_read.specs.Inner.Listed.{Listed, AreMarked};
 
     ghost Value = { Listed };
 

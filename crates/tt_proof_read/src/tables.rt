@@ -19,7 +19,7 @@ pub struct Tables {
 
 impl Tables {
     ghost use Rattle.std.specs.Prelude.{IfOk};
-    ghost use Rattle.tt_proof_read.specs.Pricing.{AreTables};
+    ghost use Rattle.tt_proof_read.specs.Inner.Pricing.{AreTables};
 
     /// Creates empty tables for an instance of these sizes.
     pub fn new(alloc: Global, sizes: Sizes) -> Result<Tables, AllocError>

@@ -14,7 +14,7 @@ use Rattle.tt_proof_check.specs.declared.fault.CheckFault.TheVariants as check
 use Rattle.tt_groups_read.specs.Faults.{is_environmental, is_failed_read}
 use Rattle.tt_groups_read.specs.declared.claim.GroupClaim.{GroupClaim}
 use Rattle.tt_groups_read.specs.declared.fault.GroupTextFault.{GroupTextFault}
-use Rattle.tt_proof_sum.specs.Claiming.{ExplainsClaim}
+use Rattle.tt_proof_sum.specs.Inner.Claiming.{ExplainsClaim}
 use Rattle.tt_proof_sum.specs.Faults.{IsNumbered, proof_fault_at, text_fault_at, read_failed_at, is_failed_read_at}
 use Rattle.tt_proof_sum.specs.Tables.{State}
 use Rattle.tt_proof_sum.specs.declared.fault.SumFault.{SumFault}

@@ -15,7 +15,7 @@ use Rattle.tt_lists.proofs.Twos.{list_all-swap}
 use Rattle.tt_instance_data.specs.Problem.{Problem}
 use Rattle.tt_instance_data.specs.Limits.{IsInstance}
 use Rattle.tt_leaf_rules.specs.Claims.{Target, targets_of, claimed}
-use Rattle.tt_leaf_rules.specs.NumberSet.{place, places_of, IsPlaced}
+use Rattle.tt_leaf_rules.specs.Inner.NumberSet.{place, places_of, IsPlaced}
 use Rattle.tt_leaf_rules.specs.Tests.{same_target}
 use Rattle.tt_leaf_data.specs.declared.leaf.Bound.{Bound}
 use Rattle.tt_leaf_data.specs.declared.leaf.Claim.{Claim}

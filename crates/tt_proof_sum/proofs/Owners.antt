@@ -14,11 +14,11 @@ use Rattle.tt_lists.proofs.Twos.{list_all-swap, each_two-push, neither}
 use Rattle.tt_instance_data.specs.Problem.{Problem}
 use Rattle.tt_instance_data.specs.Limits.{IsInstance}
 use Rattle.tt_leaf_rules.specs.Claims.{Target, WorkingDays, Compactness}
-use Rattle.tt_leaf_rules.specs.NumberSet.{place}
+use Rattle.tt_leaf_rules.specs.Inner.NumberSet.{place}
 use Rattle.tt_groups.specs.Group.{Group, IsGroupBound}
 use Rattle.tt_groups_read.specs.Spelling.{IsClaim}
 use Rattle.tt_groups_read.specs.declared.claim.GroupClaim.{GroupClaim}
-use Rattle.tt_proof_sum.specs.Claiming.{Entered}
+use Rattle.tt_proof_sum.specs.Inner.Claiming.{Entered}
 use Rattle.tt_proof_sum.specs.GroupsFaults.{Pass, is_unclaimed, FirstClaimed, IsClaimedBy}
 use Rattle.tt_proof_sum.specs.Sums.{is_among, are_apart, group_targets, targets_of_claims, Part, claims_of}
 use Rattle.tt_proof_sum.specs.Tables.{State, owner, first_claim, begun, group_places, first_owner, Marks, IsTableOf}

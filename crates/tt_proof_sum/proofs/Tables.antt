@@ -8,7 +8,7 @@ use Rattle.std.proofs.lemmas.List.{take_more, map-append}
 use Rattle.tt_lists.specs.Words.{has_number}
 use Rattle.std.proofs.lemmas.Grind.{flat_map-append}
 use Rattle.tt_leaf_rules.specs.Claims.{RoomCapacity, targets_of, claimed}
-use Rattle.tt_leaf_rules.specs.NumberSet.{place, places_of}
+use Rattle.tt_leaf_rules.specs.Inner.NumberSet.{place, places_of}
 use Rattle.tt_leaf_data.specs.declared.leaf.Claim.{Claim}
 use Rattle.tt_proof_read.specs.declared.node.Node.{Node}
 use Rattle.tt_proof_check.specs.Visited.{Visited}

@@ -11,7 +11,7 @@ use Rattle.tt_text.specs.Feeds.{Stream, stream_at, fresh, room_of}
 use Rattle.tt_text.specs.declared.feed.FeedFault.TheVariants as feed
 use Rattle.tt_instance_data.specs.Problem.{Problem}
 use Rattle.tt_instance_data.specs.Limits.{IsInstance}
-use Rattle.tt_leaf_rules.specs.NumberSet.{place}
+use Rattle.tt_leaf_rules.specs.Inner.NumberSet.{place}
 use Rattle.tt_leaf_data.specs.declared.leaf.Bound.{Bound}
 use Rattle.tt_leaf_data.specs.declared.leaf.Bound.TheVariants.{AtLeast}
 use Rattle.tt_proof_read.specs.Answers.{StaysKnown}
@@ -40,7 +40,7 @@ use Rattle.tt_proof_sum.specs.declared.fault.SumFault.TheVariants as fault
 use Rattle.tt_proof_sum.specs.declared.groups_fault.GroupsFault.{GroupsFault}
 use Rattle.tt_proof_sum.specs.declared.groups_fault.GroupsFault.TheVariants as groups
 use Rattle.tt_proof_sum.specs.Added.{IsOfKind, Joins}
-use Rattle.tt_proof_sum.specs.Claiming.{ExplainsClaimFault, ExplainsClaim, ReadsTo, Underway}
+use Rattle.tt_proof_sum.specs.Inner.Claiming.{ExplainsClaimFault, ExplainsClaim, ReadsTo, Underway}
 use Rattle.tt_proof_sum.specs.Faults.{IsGroupsFault, ExplainsAdded, IsNumbered, read_failed_at, text_fault_at, OutOfMemoryIsOneFault}
 use Rattle.tt_proof_sum.specs.GroupsFaults.{Pass, AfterClaims, ExplainsGroups}
 use Rattle.tt_proof_sum.specs.Sums.{group_targets, targets_of_claims, Part, GroupsPart, GroupsFile}

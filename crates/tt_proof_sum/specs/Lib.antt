@@ -1,7 +1,7 @@
 pub mod Added
-pub mod Claiming
 pub mod Faults
 pub mod GroupsFaults
+pub mod Inner
 pub mod Sums
 pub mod Tables
 pub mod UpToFailedRead

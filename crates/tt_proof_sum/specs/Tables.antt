@@ -3,7 +3,7 @@ use Rattle.std.specs.Prelude.{◌≡◌, ℕ, ◌+◌, ◌<◌, ◌==◌, nat_le
 use Rattle.std.specs.Option.{option_or}
 use Rattle.tt_lists.specs.Words.{has_number}
 use Rattle.tt_leaf_rules.specs.Claims.{Target}
-use Rattle.tt_leaf_rules.specs.NumberSet.{place}
+use Rattle.tt_leaf_rules.specs.Inner.NumberSet.{place}
 use Rattle.tt_proof_read.specs.declared.node.Node.{Node}
 use Rattle.tt_proof_read.specs.declared.node.Node.TheVariants.{Split, Leaf}
 use Rattle.tt_proof_sum.specs.declared.table.Clash.{Clash}

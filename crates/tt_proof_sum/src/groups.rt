@@ -9,7 +9,7 @@ ghost use Rattle.tt_leaf_data.specs.declared.leaf.Bound.TheVariants.{AtLeast};
 ghost use Rattle.tt_text_peek.specs.Fronts.{is_groups};
 ghost use Rattle.tt_proof_check.specs.FailedReads.{HoldsOfGiven};
 ghost use Rattle.tt_proof_sum.specs.Added.{Joins, IsOfKind};
-ghost use Rattle.tt_proof_sum.specs.Claiming.{ExplainsClaim};
+ghost use Rattle.tt_proof_sum.specs.Inner.Claiming.{ExplainsClaim};
 ghost use Rattle.tt_text.specs.Failures.{is_err_and};
 ghost use Rattle.tt_proof_sum.specs.Faults.{ExplainsAdded, IsNumbered, OutOfMemoryIsOneFault, read_failed_at, is_failed_read_at};
 ghost use Rattle.tt_proof_sum.specs.Sums.{Part};

@@ -2,7 +2,7 @@
 
 ghost use Rattle.std.specs.Prelude.{◌≡◌, ℕ, ◌+◌, ◌*◌, ◌<◌, ◌∷◌, [], map, flat_map, Some, IfOk};
 ghost use Rattle.std.specs.Option.{option_or};
-ghost use Rattle.tt_leaf_rules.specs.NumberSet.{place, places_of};
+ghost use Rattle.tt_leaf_rules.specs.Inner.NumberSet.{place, places_of};
 ghost use Rattle.tt_proof_sum.specs.Sums.{claimed_in};
 ghost use Rattle.tt_proof_sum.specs.Tables.{Claims, at_node, IsTableOf, owner, first_owner, Marks, group_places};
 

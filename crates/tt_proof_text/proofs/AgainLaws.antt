@@ -20,7 +20,7 @@ use Rattle.tt_proof_read.specs.declared.node.Node.TheVariants.{Split, Leaf}
 use Rattle.tt_proof_read.specs.Trees.{Tree, preorder}
 use Rattle.tt_proof_read.specs.Words.{fixed}
 use Rattle.tt_proof_read.specs.Spelling.{Price, OfCourse, OfRoom, price_pieces, by_kind, SpellsClaim, SpellsEach, SpellsNode, IsNode, SpellsProof}
-use Rattle.tt_proof_text.specs.Numbers.{IsNarrowNode}
+use Rattle.tt_proof_text.specs.Inner.Numbers.{IsNarrowNode}
 use Rattle.tt_proof_text.specs.Written.{priced_pieces, claim_pieces, node_pieces, header_pieces, proof_lines, proof_text}
 use Rattle.tt_proof_text.specs.Within.{Writes}
 use Rattle.tt_proof_text.proofs.TokenLaws.{lines_writable, lines_short}

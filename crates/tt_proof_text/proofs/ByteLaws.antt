@@ -10,7 +10,7 @@ use Rattle.tt_text.proofs.Texts.{rows_text, lines_text-append}
 use Rattle.tt_leaf_data.specs.declared.leaf.Leaf.TheVariants.{Empty, Many, Clique, Slots, Cost}
 use Rattle.tt_proof_read.specs.declared.node.Node.{Node}
 use Rattle.tt_proof_read.specs.declared.node.Node.TheVariants.{Split, Leaf}
-use Rattle.tt_proof_text.specs.Bytes.{clipped}
+use Rattle.tt_proof_text.specs.Inner.Bytes.{clipped}
 use Rattle.tt_proof_text.specs.Written.{node_word, node_rest, node_pieces, tail_text}
 use Rattle.tt_proof_text.proofs.TextLaws.{tail_text-append, tail_text-rows, tail_text-map, line_text-cons}
 

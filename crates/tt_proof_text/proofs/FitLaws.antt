@@ -18,7 +18,7 @@ use Rattle.tt_proof_read.specs.declared.format.TheConstants.{COURSE_LETTER, CURR
 use Rattle.tt_proof_read.specs.declared.node.Node.{Node}
 use Rattle.tt_proof_read.specs.declared.node.Node.TheVariants.{Split, Leaf}
 use Rattle.tt_proof_read.specs.Spelling.{given_piece, course_piece, who_piece, pattern_pieces, bound_piece, IsBound}
-use Rattle.tt_proof_text.specs.Numbers.{IsNarrow, IsNarrowPair, IsNarrowWho, IsNarrowPattern, IsNarrowClaim, IsNarrowNode}
+use Rattle.tt_proof_text.specs.Inner.Numbers.{IsNarrow, IsNarrowPair, IsNarrowWho, IsNarrowPattern, IsNarrowClaim, IsNarrowNode}
 use Rattle.tt_proof_text.specs.Written.{priced_pieces, claim_word, claim_rest, claim_pieces, node_pieces, header_pieces, proof_lines}
 use Rattle.tt_proof_text.proofs.TokenLaws.{IsFit, AreFit, LinesFit}
 

@@ -1,11 +1,10 @@
-pub mod Bytes
-pub mod Numbers
+pub mod Inner
 pub mod Within
 pub mod Written
 pub use Rattle.tt_proof_read.specs.Answers
 pub use Rattle.tt_proof_read.specs.Faults
-pub use Rattle.tt_proof_read.specs.Listed
-pub use Rattle.tt_proof_read.specs.Pricing
+pub use Rattle.tt_proof_read.specs.Inner.Listed
+pub use Rattle.tt_proof_read.specs.Inner.Pricing
 pub use Rattle.tt_proof_read.specs.Readers
 pub use Rattle.tt_proof_read.specs.Reading
 pub use Rattle.tt_proof_read.specs.Reads

@@ -8,7 +8,7 @@ ghost use Rattle.std.specs.Fmt.{decimal};
 ghost use Rattle.tt_text.specs.Pieces.{Text, Number};
 ghost use Rattle.tt_text.specs.Lines.{line_text, lines_text};
 ghost use Rattle.tt_proof_read.specs.Spelling.{given_piece, who_piece, bound_piece, pattern_pieces, listed_pieces};
-ghost use Rattle.tt_proof_text.specs.Bytes.{clipped};
+ghost use Rattle.tt_proof_text.specs.Inner.Bytes.{clipped};
 ghost use Rattle.tt_proof_text.specs.Written.{priced_pieces, claim_rest, claim_pieces, node_rest, node_pieces, header_pieces, proof_text, tail_text};
 
 use crate::fields::version_text;

@@ -2,7 +2,7 @@
 
 ghost use Rattle.std.specs.Prelude.{◌≡◌, ◌++◌, ◌∷◌, [], OnOk, All, flat_map, codes};
 ghost use Rattle.tt_text.specs.Pieces.{Text};
-ghost use Rattle.tt_proof_text.specs.Numbers.{IsNarrowPair, IsNarrowClaim};
+ghost use Rattle.tt_proof_text.specs.Inner.Numbers.{IsNarrowPair, IsNarrowClaim};
 ghost use Rattle.tt_proof_text.specs.Written.{priced_pieces, claim_word, claim_rest, claim_pieces, tail_text};
 
 use crate::fields::{put_index, put_price};

@@ -3,7 +3,7 @@
 ghost use Rattle.std.specs.Prelude.{◌≡◌, ◌++◌, ◌∷◌, [], IfSome, OnOk, All};
 ghost use Rattle.tt_text.specs.Pieces.{Number, Index};
 ghost use Rattle.tt_proof_read.specs.Spelling.{given_piece, who_piece, pattern_pieces, listed_pieces, version_text};
-ghost use Rattle.tt_proof_text.specs.Numbers.{IsNarrow, IsNarrowWho, IsNarrowPattern};
+ghost use Rattle.tt_proof_text.specs.Inner.Numbers.{IsNarrow, IsNarrowWho, IsNarrowPattern};
 ghost use Rattle.tt_proof_text.specs.Written.{tail_text};
 
 use std::alloc::AllocError;

@@ -2,7 +2,7 @@
 
 ghost use Rattle.std.specs.Prelude.{◌≡◌, ◌++◌, OnOk, All, map};
 ghost use Rattle.tt_text.specs.Lines.{line_text, lines_text};
-ghost use Rattle.tt_proof_text.specs.Numbers.{IsNarrowNode};
+ghost use Rattle.tt_proof_text.specs.Inner.Numbers.{IsNarrowNode};
 ghost use Rattle.tt_proof_text.specs.Written.{node_word, node_rest, node_pieces, tail_text};
 
 use crate::claims::put_claims;

@@ -5,7 +5,7 @@ ghost use Rattle.tt_text.specs.Lines.{line_text};
 ghost use Rattle.tt_instance_data.specs.Problem.{Problem};
 ghost use Rattle.tt_proof_read.specs.Spelling.{IsNode, SpellsProof};
 ghost use Rattle.tt_proof_read.specs.Trees.{Tree, preorder};
-ghost use Rattle.tt_proof_text.specs.Numbers.{IsNarrowNode};
+ghost use Rattle.tt_proof_text.specs.Inner.Numbers.{IsNarrowNode};
 ghost use Rattle.tt_proof_text.specs.Written.{header_pieces, proof_text};
 ghost use Rattle.tt_proof_text.specs.Within.{Refuses, Writes};
 

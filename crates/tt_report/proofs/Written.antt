@@ -16,7 +16,7 @@ use Rattle.tt_instance_data.specs.Cells.{slot, all_slots, all_days, all_rooms, a
 use Rattle.tt_instance_data.specs.Courses.{teachers}
 use Rattle.tt_instance_data.specs.declared.cell.Cell.{Cell}
 use Rattle.tt_instance_data.specs.declared.cell.Slot.{Slot}
-use Rattle.tt_report.specs.Blocks.{head_of, shown_in, belongs_to, next_texts, entries_text, slot_text, block_text}
+use Rattle.tt_report.specs.Inner.Blocks.{head_of, shown_in, belongs_to, next_texts, entries_text, slot_text, block_text}
 use Rattle.tt_report.specs.Reports.{course_text, room_text, course_and_room, is_taught_by, slot_line, block, report_text}
 use Rattle.tt_report.specs.declared.blocks.Block.{Block}
 use Rattle.tt_report.specs.declared.blocks.Block.TheVariants as of

@@ -1,3 +1,3 @@
-pub mod Blocks
 pub mod Faults
+pub mod Inner
 pub mod Reports

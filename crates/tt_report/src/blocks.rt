@@ -6,7 +6,7 @@ ghost use Rattle.tt_text.specs.Pieces.{Text};
 ghost use Rattle.tt_instance_data.specs.Cells.{InRange};
 ghost use Rattle.tt_instance_data.specs.Courses.{no_course, no_room, no_curriculum, teachers};
 ghost use Rattle.tt_text_output.specs.Puts.{Puts};
-ghost use Rattle.tt_report.specs.Blocks.{IsBlock, head_of, shown_in, belongs_to, next_texts};
+ghost use Rattle.tt_report.specs.Inner.Blocks.{IsBlock, head_of, shown_in, belongs_to, next_texts};
 
 use tt_instance_data::Instance;
 use tt_table::Entry;

@@ -8,7 +8,7 @@ ghost use Rattle.tt_instance_data.specs.Cells.{InRange, slot};
 ghost use Rattle.tt_instance_data.specs.Courses.{teachers};
 ghost use Rattle.tt_table.specs.Table.{IsTimetable};
 ghost use Rattle.tt_table.specs.declared.groups.GroupBy.TheVariants as group;
-ghost use Rattle.tt_report.specs.Blocks.{IsBlock, entries_text, slot_text, day_text, block_text};
+ghost use Rattle.tt_report.specs.Inner.Blocks.{IsBlock, entries_text, slot_text, day_text, block_text};
 ghost use Rattle.tt_report.specs.Faults.{is_failed_write};
 ghost use Rattle.tt_report.specs.Reports.{report_text};
 ghost use Rattle.tt_text.specs.Failures.{is_err_and};

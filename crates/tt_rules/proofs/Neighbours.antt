@@ -9,7 +9,7 @@ use Rattle.tt_instance_data.specs.Limits.{IsInstance}
 use Rattle.tt_instance_data.proofs.Limits.{members_below}
 use Rattle.tt_instance_data.specs.declared.cell.Cell.{Cell}
 use Rattle.tt_table.specs.Table.{IsTimetable}
-use Rattle.tt_rules.specs.Places.{place_of, is_alone}
+use Rattle.tt_rules.specs.Inner.Places.{place_of, is_alone}
 use Rattle.tt_rules.proofs.Courses.{any_of_courses, count_of_courses}
 use Rattle.tt_rules.specs.Soft.{is_isolated}
 use Rattle.tt_lists.proofs.Tests.{list_any-same_at, list_any-or, same_test}

@@ -1,4 +1,4 @@
 pub mod Hard
-pub mod Places
+pub mod Inner
 pub mod Score
 pub mod Soft

@@ -5,7 +5,7 @@ ghost use Rattle.std.specs.List.{list_any};
 ghost use Rattle.tt_instance_data.specs.Cells.{InRange, is_of};
 ghost use Rattle.tt_instance_data.specs.Courses.{in_curriculum};
 ghost use Rattle.tt_rules.specs.Soft.{is_isolated, compactness_count};
-ghost use Rattle.tt_rules.specs.Places.{place_of, is_alone};
+ghost use Rattle.tt_rules.specs.Inner.Places.{place_of, is_alone};
 ghost use Rattle.tt_table.specs.declared.groups.GroupBy.TheVariants as by;
 ghost use Rattle.tt_table.specs.declared.table.TheConstants.{MAX_ENTRIES};
 ghost use Rattle.tt_instance_data.specs.declared.limit.TheConstants.{MAX_COURSES, MAX_MEMBERS};

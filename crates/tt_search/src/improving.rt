@@ -4,7 +4,7 @@ ghost use Rattle.std.specs.Prelude.{◌≡◌, ◌<◌, ◌≤◌, ◌-◌, ◌/
 ghost use Rattle.tt_instance_data.specs.declared.cell.Cell.{Cell};
 ghost use Rattle.tt_table.specs.Table.{IsTimetable};
 ghost use Rattle.tt_search_walk.specs.Improved.{IsNoWorse, LeadsWithin, IsDescended};
-ghost use Rattle.tt_search_walk.specs.Pairs.{IsBest};
+ghost use Rattle.tt_search_walk.specs.Inner.Pairs.{IsBest};
 
 use crate::planning::walk_by_plans;
 use crate::restoring::restore;

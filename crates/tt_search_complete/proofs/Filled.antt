@@ -10,9 +10,9 @@ use Rattle.tt_instance_data.specs.Limits.{IsInstance}
 use Rattle.tt_instance_data.specs.declared.cell.Cell.{Cell}
 use Rattle.tt_table.specs.Table.{IsTimetable}
 use Rattle.tt_rules.specs.Hard.{entries_of}
-use Rattle.tt_search_construct.specs.Filled.{HasMore}
+use Rattle.tt_search_construct.specs.Inner.Filled.{HasMore}
 use Rattle.tt_search_complete.specs.Completed.{IsCompleted}
-use Rattle.tt_search_complete.specs.Progress.{AreMissing, Begins, IsCompletedTo}
+use Rattle.tt_search_complete.specs.Inner.Progress.{AreMissing, Begins, IsCompletedTo}
 
 pub begins_none : (t : List Cell) → Begins t t
 begins_none t = ([], sym (append-nil t))

@@ -1,2 +1,2 @@
 pub mod Completed
-pub mod Progress
+pub mod Inner

@@ -2,8 +2,8 @@
 
 ghost use Rattle.std.specs.Prelude.{◌+◌, ◌<◌, ◌≤◌, length, OnOk};
 ghost use Rattle.tt_table.specs.declared.table.TheConstants.{MAX_ENTRIES};
-ghost use Rattle.tt_search_construct.specs.Filled.{HasMore};
-ghost use Rattle.tt_search_complete.specs.Progress.{Begins};
+ghost use Rattle.tt_search_construct.specs.Inner.Filled.{HasMore};
+ghost use Rattle.tt_search_complete.specs.Inner.Progress.{Begins};
 
 use crate::taken_places::TakenPlaces;
 use std::alloc::AllocError;

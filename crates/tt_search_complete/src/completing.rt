@@ -4,7 +4,7 @@ ghost use Rattle.std.specs.Prelude.{◌≡◌, ◌+◌, ◌<◌, ◌≤◌, ◌�
 ghost use Rattle.tt_table.specs.Table.{IsTimetable};
 ghost use Rattle.tt_table.specs.declared.table.TheConstants.{MAX_ENTRIES};
 ghost use Rattle.tt_search_complete.specs.Completed.{IsCompleted};
-ghost use Rattle.tt_search_complete.specs.Progress.{AreMissing, IsCompletedTo};
+ghost use Rattle.tt_search_complete.specs.Inner.Progress.{AreMissing, IsCompletedTo};
 ghost use Rattle.tt_search_complete.specs.declared.completing.TheConstants.{MOST_ENTRIES};
 ghost use Rattle.tt_search_complete.specs.declared.fault.CompleteFault.TheVariants as fault;
 

@@ -6,7 +6,7 @@ ghost use Rattle.tt_rules.specs.Hard.{entries_of};
 ghost use Rattle.tt_table.specs.Table.{IsTimetable};
 ghost use Rattle.tt_table.specs.declared.groups.GroupBy.TheVariants as by;
 ghost use Rattle.tt_table.specs.declared.table.TheConstants.{MAX_ENTRIES};
-ghost use Rattle.tt_search_complete.specs.Progress.{AreMissing};
+ghost use Rattle.tt_search_complete.specs.Inner.Progress.{AreMissing};
 
 use std::alloc::{AllocError, Global};
 use tt_instance_data::{Instance, MAX_COURSES};

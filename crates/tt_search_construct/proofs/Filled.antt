@@ -14,7 +14,7 @@ use Rattle.tt_lists.proofs.Sums.{one_if, count_by-cons}
 use Rattle.tt_table.specs.Table.{IsTimetable}
 use Rattle.tt_rules.specs.Hard.{entries_of}
 use Rattle.tt_search_construct.specs.Constructed.{IsConstructed}
-use Rattle.tt_search_construct.specs.Filled.{HasMore}
+use Rattle.tt_search_construct.specs.Inner.Filled.{HasMore}
 
 -- ---- one course
 

@@ -1,2 +1,2 @@
 pub mod Constructed
-pub mod Filled
+pub mod Inner

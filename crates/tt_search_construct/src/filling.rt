@@ -4,7 +4,7 @@ ghost use Rattle.std.specs.Prelude.{◌≡◌, ◌<◌, ◌≤◌, ◌+◌, leng
 ghost use Rattle.tt_instance_data.specs.Cells.{InRange};
 ghost use Rattle.tt_instance_data.specs.Courses.{lectures};
 ghost use Rattle.tt_search_construct.specs.Constructed.{IsConstructed};
-ghost use Rattle.tt_search_construct.specs.Filled.{HasMore};
+ghost use Rattle.tt_search_construct.specs.Inner.Filled.{HasMore};
 ghost use Rattle.tt_instance_data.specs.declared.limit.TheConstants.{MAX_LECTURES};
 
 use crate::place::Place;

@@ -1,3 +1,2 @@
 pub mod Improved
-pub mod Pairs
-pub mod Settled
+pub mod Inner

@@ -1,6 +1,6 @@
 //! The pair of a timetable.
 
-ghost use Rattle.tt_search_walk.specs.Pairs.{IsPairOf};
+ghost use Rattle.tt_search_walk.specs.Inner.Pairs.{IsPairOf};
 
 use tt_occupancy::Occupied;
 use tt_search_watch::Pair;

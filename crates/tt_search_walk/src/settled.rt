@@ -2,7 +2,7 @@
 
 ghost use Rattle.std.specs.Prelude.{◌≡◌, ◌<◌, ◌⊎◌, true, false, length};
 ghost use Rattle.tt_rules.specs.Score.{hard};
-ghost use Rattle.tt_search_walk.specs.Settled.{CanFall};
+ghost use Rattle.tt_search_walk.specs.Inner.Settled.{CanFall};
 
 use crate::cell_entries::CellEntries;
 use crate::drawing::SAMPLES_AN_ENTRY;

@@ -3,7 +3,7 @@
 ghost use Rattle.std.specs.Prelude.{◌≡◌, ◌<◌, ◌+◌, ℕ, List, length};
 ghost use Rattle.tt_instance_data.specs.declared.cell.Cell.{Cell};
 ghost use Rattle.tt_search_walk.specs.Improved.{courses_of, LeadsWithin};
-ghost use Rattle.tt_search_walk.specs.Pairs.{IsBest};
+ghost use Rattle.tt_search_walk.specs.Inner.Pairs.{IsBest};
 
 use crate::best::Best;
 use crate::cell_entries::CellEntries;

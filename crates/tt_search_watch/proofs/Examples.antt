@@ -1,6 +1,6 @@
 -- Comparisons of pairs.
 use Rattle.std.proofs.Common.{refl, inl, inr, lit<}
-use Rattle.tt_search_watch.specs.Pairs.{IsLowerPair}
+use Rattle.tt_search_watch.specs.Inner.Pairs.{IsLowerPair}
 
 -- a hard rule weighs more than any cost
 hard_first : IsLowerPair (record { hard = 0; cost = 900 }) (record { hard = 1; cost = 0 })

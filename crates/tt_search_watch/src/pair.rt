@@ -1,7 +1,7 @@
 //! Pairs of a hard count and a cost.
 
 ghost use Rattle.std.specs.Prelude.{◌↔◌, IsTrue};
-ghost use Rattle.tt_search_watch.specs.Pairs.{IsLowerPair};
+ghost use Rattle.tt_search_watch.specs.Inner.Pairs.{IsLowerPair};
 
 /// The number of hard rules that a timetable breaks, and its cost.
 #[derive(Clone, Copy, Debug, PartialEq, Eq)]

@@ -6,7 +6,7 @@ ghost use Rattle.tt_instance_data.specs.Cells.{slot, cell};
 ghost use Rattle.tt_instance_data.specs.Courses.{members, excess};
 ghost use Rattle.tt_instance_data.specs.declared.limit.TheConstants.{MAX_SEATS};
 ghost use Rattle.tt_facts_path.specs.Live.{clash, is_barred, excludes, is_dead, is_live, live_period};
-ghost use Rattle.tt_facts_path.specs.Nested.{is_denied, is_excluded, numbers_given, is_lost, is_day_lost, is_room_lost, are_rooms_lost, is_course_lost};
+ghost use Rattle.tt_facts_path.specs.Inner.Nested.{is_denied, is_excluded, numbers_given, is_lost, is_day_lost, is_room_lost, are_rooms_lost, is_course_lost};
 
 use super::PlainPath;
 use crate::facts::{Pattern, Who};

@@ -1,6 +1,6 @@
 use Rattle.std.proofs.Common.{ap, ◌∙◌}
 use Rattle.tt_bits.proofs.BitLaws.{has_bit-one, shifted}
-use Rattle.tt_bits.specs.Bits.{has_bit}
+use Rattle.tt_bits.specs.Inner.Bits.{has_bit}
 use Rattle.tt_bits.proofs.bits.one.Goals as goal
 
 pub returns : goal.returns

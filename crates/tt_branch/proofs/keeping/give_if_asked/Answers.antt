@@ -2,9 +2,9 @@ use Rattle.std.proofs.Common.{List, refl, sym, subst, arith}
 use Rattle.std.specs.Prelude.{All}
 use Rattle.tt_instance_data.specs.Limits.{IsInstance}
 use Rattle.tt_branch.specs.declared.links.Link.{Link}
-use Rattle.tt_branch.specs.BestSoFar.{table_of}
-use Rattle.tt_branch.specs.Links.{AreLinks}
-use Rattle.tt_branch.specs.Written.{IsWritable}
+use Rattle.tt_branch.specs.Inner.BestSoFar.{table_of}
+use Rattle.tt_branch.specs.Inner.Links.{AreLinks}
+use Rattle.tt_branch.specs.Inner.Written.{IsWritable}
 use Rattle.tt_branch.proofs.Concluding.{writable}
 use Rattle.tt_branch.proofs.keeping.give_if_asked.Goals as goal
 

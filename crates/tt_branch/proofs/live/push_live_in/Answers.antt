@@ -1,6 +1,6 @@
 use Rattle.tt_lists.proofs.Growing.{pushed_more, kept_more}
 use Rattle.tt_facts_path.specs.Live.{is_live}
-use Rattle.tt_branch.specs.Steps.{cells_on}
+use Rattle.tt_branch.specs.Inner.Steps.{cells_on}
 use Rattle.tt_branch.proofs.live.push_live_in.Goals as goal
 
 pub loop-day-preserved : goal.loop-day-preserved

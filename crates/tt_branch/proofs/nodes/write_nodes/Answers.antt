@@ -1,8 +1,8 @@
 use Rattle.std.proofs.Common.{◌-◌, refl, sym, ap, ◌∙◌, subst, arith}
 use Rattle.tt_instance_data.specs.Problem.{Problem}
 use Rattle.tt_proof_check.specs.Nodes.{IsNodeOf}
-use Rattle.tt_branch.specs.Growing.{node_at}
-use Rattle.tt_branch.specs.Written.{IsOnceNode}
+use Rattle.tt_branch.specs.Inner.Growing.{node_at}
+use Rattle.tt_branch.specs.Inner.Written.{IsOnceNode}
 use Rattle.tt_branch.proofs.Taking.{writable_here}
 use Rattle.tt_branch.proofs.nodes.write_nodes.Goals as goal
 

@@ -1,5 +1,5 @@
 use Rattle.std.proofs.Common.{◌≡◌, ◌≤◌, take, length}
-use Rattle.tt_branch.specs.Written.{IsTaken}
+use Rattle.tt_branch.specs.Inner.Written.{IsTaken}
 use Rattle.tt_branch.proofs.nodes.write_nodes.Given as goal
 
 abbrev pub invariant-loop-left : goal.invariant-loop-left

@@ -3,9 +3,9 @@ use Rattle.std.specs.Prelude.{IfSome, IsNone}
 use Rattle.std.specs.List.{list_any}
 use Rattle.tt_instance_data.specs.Problem.{Problem}
 use Rattle.tt_branch.specs.declared.tree_node.TreeNode.{TreeNode}
-use Rattle.tt_branch.specs.Growing.{is_open, IsOpenAt}
-use Rattle.tt_branch.specs.BestSoFar.{Advances}
-use Rattle.tt_branch.specs.State.{IsUnderWay}
+use Rattle.tt_branch.specs.Inner.Growing.{is_open, IsOpenAt}
+use Rattle.tt_branch.specs.Inner.BestSoFar.{Advances}
+use Rattle.tt_branch.specs.Inner.State.{IsUnderWay}
 use Rattle.tt_branch.proofs.Advancing.{advance_twice, ends_closed, ends_by, ends_early}
 use Rattle.tt_branch.proofs.rounds.grow.Goals as goal
 

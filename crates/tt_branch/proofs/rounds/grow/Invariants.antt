@@ -1,7 +1,7 @@
 use Rattle.std.proofs.Common.{◌≡◌, ◌+◌, ◌*◌, ◌≤◌, length}
-use Rattle.tt_branch.specs.Growing.{opened_in}
-use Rattle.tt_branch.specs.BestSoFar.{Advances}
-use Rattle.tt_branch.specs.State.{IsUnderWay}
+use Rattle.tt_branch.specs.Inner.Growing.{opened_in}
+use Rattle.tt_branch.specs.Inner.BestSoFar.{Advances}
+use Rattle.tt_branch.specs.Inner.State.{IsUnderWay}
 use Rattle.tt_branch.proofs.rounds.grow.Given as goal
 
 abbrev pub invariant-loop-opened : goal.invariant-loop-opened

@@ -1,7 +1,7 @@
 use Rattle.std.proofs.Common.{refl, sym, ap, ◌∙◌}
 use Rattle.std.proofs.lemmas.Option.{get_or_from_slice_get}
 use Rattle.tt_branch.specs.declared.tree_node.TreeNode.{TreeNode}
-use Rattle.tt_branch.specs.Growing.{is_open}
+use Rattle.tt_branch.specs.Inner.Growing.{is_open}
 use Rattle.tt_branch.proofs.Advancing.{waits_split, waits_second, waits_same}
 use Rattle.tt_branch.proofs.rounds.make_wait.Goals as goal
 

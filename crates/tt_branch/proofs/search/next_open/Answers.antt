@@ -1,7 +1,7 @@
 use Rattle.std.proofs.Common.{◌<◌, ◌∙◌, length, sym, subst, arith}
 use Rattle.std.proofs.lemmas.Bool.{not-false}
 use Rattle.std.specs.Prelude.{IfSome, IsNone}
-use Rattle.tt_branch.specs.Growing.{IsOpenAt, is_open}
+use Rattle.tt_branch.specs.Inner.Growing.{IsOpenAt, is_open}
 use Rattle.tt_branch.proofs.Nexts.{open_here, none_more}
 use Rattle.tt_branch.proofs.search.next_open.Goals as goal
 use Rattle.tt_branch.proofs.search.next_open.Goals.{then-is_next, else-is_next}

@@ -1,7 +1,7 @@
 use Rattle.std.proofs.Common.{◌≡◌, false, take}
 use Rattle.std.specs.Prelude.{IfSome, IsNone}
 use Rattle.std.specs.List.{list_any}
-use Rattle.tt_branch.specs.Growing.{IsOpenAt, is_open}
+use Rattle.tt_branch.specs.Inner.Growing.{IsOpenAt, is_open}
 use Rattle.tt_branch.proofs.search.next_open.Given as goal
 
 abbrev pub invariant-loop-place : goal.invariant-loop-place

@@ -7,11 +7,11 @@ use Rattle.tt_facts_path.specs.Live.{least}
 use Rattle.tt_leaf_data.specs.declared.leaf.Bound.{Bound}
 use Rattle.tt_branch.specs.declared.tree_node.TreeNode.{TreeNode}
 use Rattle.tt_branch.specs.declared.links.Link.{Link}
-use Rattle.tt_branch.specs.Growing.{nodes_of, worths_of}
-use Rattle.tt_branch.specs.BestSoFar.{table_of}
-use Rattle.tt_branch.specs.Links.{AreLinks}
+use Rattle.tt_branch.specs.Inner.Growing.{nodes_of, worths_of}
+use Rattle.tt_branch.specs.Inner.BestSoFar.{table_of}
+use Rattle.tt_branch.specs.Inner.Links.{AreLinks}
 use Rattle.tt_branch.specs.Outcomes.{IsOutcome}
-use Rattle.tt_branch.specs.Written.{IsWritable}
+use Rattle.tt_branch.specs.Inner.Written.{IsWritable}
 use Rattle.tt_branch.proofs.Concluding.{writable, few_ended, concluded}
 use Rattle.tt_branch.proofs.solving.conclude.Goals as goal
 

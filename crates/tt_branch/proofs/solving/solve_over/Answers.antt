@@ -2,9 +2,9 @@ use Rattle.std.proofs.Common.{Option, refl, sym, ◌∙◌, subst, arith}
 use Rattle.std.proofs.lemmas.Result.{IfOk-weaker}
 use Rattle.tt_instance_data.specs.Problem.{Problem}
 use Rattle.tt_branch.specs.declared.best.Best.{Best}
-use Rattle.tt_branch.specs.BestSoFar.{table_of, Advances}
+use Rattle.tt_branch.specs.Inner.BestSoFar.{table_of, Advances}
 use Rattle.tt_branch.specs.Outcomes.{BeginsWell, IsOutcome, IsOutcomeUntil}
-use Rattle.tt_branch.specs.State.{IsUnderWay}
+use Rattle.tt_branch.specs.Inner.State.{IsUnderWay}
 use Rattle.tt_branch.proofs.Advancing.{advance_twice}
 use Rattle.tt_branch.proofs.Concluding.{begun_still}
 use Rattle.tt_branch.proofs.solving.solve_over.Goals as goal

@@ -6,8 +6,8 @@ use Rattle.tt_facts_path.specs.declared.facts.Fact.{Fact}
 use Rattle.tt_leaf.specs.Found.{ArePatterns}
 use Rattle.tt_branch.specs.declared.tree_node.TreeNode.{TreeNode}
 use Rattle.tt_branch.specs.declared.links.Link.{Link}
-use Rattle.tt_branch.specs.BestSoFar.{IsBestSoFar, table_of}
-use Rattle.tt_branch.specs.Links.{path_at, AreLinks}
+use Rattle.tt_branch.specs.Inner.BestSoFar.{IsBestSoFar, table_of}
+use Rattle.tt_branch.specs.Inner.Links.{path_at, AreLinks}
 use Rattle.tt_branch.proofs.Advancing.{IsThere, each_there, opening_there}
 use Rattle.tt_branch.proofs.visit.open_at.Goals as goal
 

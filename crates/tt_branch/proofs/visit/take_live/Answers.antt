@@ -9,7 +9,7 @@ use Rattle.tt_rules.proofs.Scores.{cost_is}
 use Rattle.tt_facts_path.proofs.LiveCells.{live_cells}
 use Rattle.tt_leaf_data.specs.declared.leaf.Bound.TheVariants.{AtLeast}
 use Rattle.tt_leaf.specs.Found.{Closes}
-use Rattle.tt_branch.specs.BestSoFar.{table_of}
+use Rattle.tt_branch.specs.Inner.BestSoFar.{table_of}
 use Rattle.tt_branch.specs.Outcomes.{final_bound}
 use Rattle.tt_branch.proofs.Advancing.{advance_to}
 use Rattle.tt_branch.proofs.LiveTables.{few_live}

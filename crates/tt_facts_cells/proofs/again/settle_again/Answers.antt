@@ -1,7 +1,7 @@
 use Rattle.std.proofs.Common.{◌≡◌, ◌<◌, length, take, map, refl, sym, ap, ◌∙◌, subst, arith}
 use Rattle.std.proofs.Math.Seq.{take-length}
-use Rattle.tt_facts_cells.specs.Tables.{Shows}
-use Rattle.tt_facts_cells.specs.Touching.{can_touch}
+use Rattle.tt_facts_cells.specs.Inner.Tables.{Shows}
+use Rattle.tt_facts_cells.specs.Inner.Touching.{can_touch}
 use Rattle.tt_facts_cells.proofs.Renewed.{so_far, as_yes, next_settled, next_apart, all_settled, nothing_left, so_far_none}
 use Rattle.tt_facts_cells.proofs.again.settle_again.Goals as goal
 

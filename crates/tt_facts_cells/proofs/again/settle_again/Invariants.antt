@@ -2,8 +2,8 @@ use Rattle.std.proofs.Common.{◌≡◌, false, not, ◌&&◌, List, [], ◌∷�
 use Rattle.tt_facts_path.specs.Facts.{matches}
 use Rattle.tt_facts_path.specs.Live.{is_live}
 use Rattle.tt_facts_path.specs.declared.facts.Fact.{Fact}
-use Rattle.tt_facts_cells.specs.Tables.{IsTable, Shows}
-use Rattle.tt_facts_cells.specs.Shown.{is_free_of, AreListed}
+use Rattle.tt_facts_cells.specs.Inner.Tables.{IsTable, Shows}
+use Rattle.tt_facts_cells.specs.Inner.Shown.{is_free_of, AreListed}
 use Rattle.tt_facts_cells.proofs.Renewed.{so_far, as_yes}
 use Rattle.tt_facts_cells.proofs.again.settle_again.Given as goal
 

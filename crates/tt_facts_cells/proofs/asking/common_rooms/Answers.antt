@@ -2,12 +2,12 @@ use Rattle.std.proofs.Common.{◌≡◌, ℕ, ◌+◌, ◌*◌, not, ◌&&◌, �
 use Rattle.std.specs.Prelude.{◌==◌}
 use Rattle.std.specs.List.{list_all}
 use Rattle.tt_lists.specs.Words.{range_below}
-use Rattle.tt_bits.specs.Bits.{has_bit, bits}
+use Rattle.tt_bits.specs.Inner.Bits.{has_bit, bits}
 use Rattle.tt_bits.proofs.BitLaws.{all_bits}
 use Rattle.tt_facts_path.specs.Facts.{agrees}
-use Rattle.tt_facts_cells.specs.Rooms.{has_room}
-use Rattle.tt_facts_cells.specs.Words.{width}
-use Rattle.tt_facts_cells.specs.Tables.{is_open}
+use Rattle.tt_facts_cells.specs.Inner.Rooms.{has_room}
+use Rattle.tt_facts_cells.specs.Inner.Words.{width}
+use Rattle.tt_facts_cells.specs.Inner.Tables.{is_open}
 use Rattle.tt_facts_cells.proofs.Reading.{all_block, spare-cell}
 use Rattle.tt_facts_cells.proofs.asking.common_rooms.Goals as goal
 use Rattle.tt_lists.proofs.Below.{list_all-more}

@@ -2,9 +2,9 @@ use Rattle.std.proofs.Common.{◌≡◌, ℕ, ◌+◌, ◌*◌, not, ◌||◌}
 use Rattle.std.specs.Prelude.{◌==◌}
 use Rattle.std.specs.List.{list_all}
 use Rattle.tt_lists.specs.Words.{range_below}
-use Rattle.tt_bits.specs.Bits.{bits}
-use Rattle.tt_facts_cells.specs.Rooms.{has_room}
-use Rattle.tt_facts_cells.specs.Tables.{is_open}
+use Rattle.tt_bits.specs.Inner.Bits.{bits}
+use Rattle.tt_facts_cells.specs.Inner.Rooms.{has_room}
+use Rattle.tt_facts_cells.specs.Inner.Tables.{is_open}
 use Rattle.tt_facts_cells.proofs.asking.common_rooms.Given as goal
 
 abbrev pub invariant-loop-block : goal.invariant-loop-block

@@ -1,8 +1,8 @@
 use Rattle.std.proofs.Common.{◌+◌, ◌*◌, not, ap, ◌∙◌}
 use Rattle.std.specs.List.{list_any}
-use Rattle.tt_bits.specs.Bits.{has_bit, bits}
+use Rattle.tt_bits.specs.Inner.Bits.{has_bit, bits}
 use Rattle.tt_bits.proofs.BitLaws.{any_bits}
-use Rattle.tt_facts_cells.specs.Tables.{is_open}
+use Rattle.tt_facts_cells.specs.Inner.Tables.{is_open}
 use Rattle.tt_facts_cells.proofs.asking.has_block.Goals as goal
 use Rattle.tt_lists.proofs.Truth.{not-not}
 

@@ -1,6 +1,6 @@
 use Rattle.std.proofs.Common.{◌+◌, ◌*◌, ◌&&◌, ap, ◌∙◌}
 use Rattle.tt_facts_path.specs.Facts.{agrees}
-use Rattle.tt_facts_cells.specs.Tables.{is_open}
+use Rattle.tt_facts_cells.specs.Inner.Tables.{is_open}
 use Rattle.tt_facts_cells.proofs.Reading.{any_block, spare-cell}
 use Rattle.tt_facts_cells.proofs.asking.has_period.Goals as goal
 

@@ -2,8 +2,8 @@ use Rattle.std.proofs.Common.{◌≡◌, ℕ, ◌<◌, ◌&&◌, None}
 use Rattle.std.specs.Prelude.{nat_lt}
 use Rattle.std.specs.List.{list_any}
 use Rattle.tt_instance_data.specs.Cells.{all_rooms}
-use Rattle.tt_bits.specs.Bits.{has_bit}
-use Rattle.tt_facts_cells.specs.Tables.{is_open}
+use Rattle.tt_bits.specs.Inner.Bits.{has_bit}
+use Rattle.tt_facts_cells.specs.Inner.Tables.{is_open}
 use Rattle.tt_facts_cells.proofs.asking.periods_of.Given as goal
 
 abbrev pub invariant-loop-period : goal.invariant-loop-period

@@ -4,7 +4,7 @@ use Rattle.std.proofs.Math.Seq.{take-length}
 use Rattle.std.specs.Prelude.{slice_index_or}
 use Rattle.tt_lists.specs.Words.{has_number}
 use Rattle.tt_facts_path.specs.Facts.{matches}
-use Rattle.tt_facts_path.specs.Nested.{has_place_of, courses_of}
+use Rattle.tt_facts_path.specs.Inner.Nested.{has_place_of, courses_of}
 use Rattle.tt_facts_cells.proofs.Losing.{loses-same, loses-more}
 use Rattle.tt_facts_cells.proofs.Barred.{course_at, courses_gone}
 use Rattle.tt_facts_cells.proofs.barring.remove_matched.Goals as goal

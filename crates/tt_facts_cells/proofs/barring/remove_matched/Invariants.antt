@@ -1,7 +1,7 @@
 use Rattle.std.proofs.Common.{◌≡◌, ◌&&◌, take}
 use Rattle.tt_lists.specs.Words.{has_number}
-use Rattle.tt_facts_path.specs.Nested.{has_place_of}
-use Rattle.tt_facts_cells.specs.Tables.{Loses}
+use Rattle.tt_facts_path.specs.Inner.Nested.{has_place_of}
+use Rattle.tt_facts_cells.specs.Inner.Tables.{Loses}
 use Rattle.tt_facts_cells.proofs.barring.remove_matched.Given as goal
 
 abbrev pub invariant-loop-course : goal.invariant-loop-course

@@ -1,8 +1,8 @@
 use Rattle.std.proofs.Common.{ℕ, ◌+◌, ◌/◌, ◌%◌, ◌≤◌, ◌&&◌, refl, sym, ◌∙◌, subst, arith}
 use Rattle.std.specs.Prelude.{◌==◌}
 use Rattle.tt_facts_path.specs.Facts.{agrees}
-use Rattle.tt_facts_path.specs.Nested.{has_place_of}
-use Rattle.tt_facts_cells.specs.Tables.{Loses, is_placed}
+use Rattle.tt_facts_path.specs.Inner.Nested.{has_place_of}
+use Rattle.tt_facts_cells.specs.Inner.Tables.{Loses, is_placed}
 use Rattle.tt_instance_data.specs.declared.cell.Cell.{Cell}
 use Rattle.tt_facts_cells.proofs.Losing.{loses-none, loses-same, loses-more}
 use Rattle.tt_facts_cells.proofs.Barred.{is_gone, slot_skipped, slot_gone, none_gone, all_gone}

@@ -1,5 +1,5 @@
 use Rattle.std.proofs.Common.{◌≡◌}
-use Rattle.tt_facts_cells.specs.Tables.{Loses}
+use Rattle.tt_facts_cells.specs.Inner.Tables.{Loses}
 use Rattle.tt_facts_cells.proofs.Barred.{is_gone}
 use Rattle.tt_facts_cells.proofs.barring.remove_within.Given as goal
 

@@ -1,7 +1,7 @@
 use Rattle.std.proofs.Common.{◌≡◌, ℕ, ◌<◌, [], length, take, sym, ap, ◌∙◌, subst, arith}
 use Rattle.std.proofs.Math.Seq.{take-length}
 use Rattle.tt_instance_data.specs.Problem.{Unavailability}
-use Rattle.tt_facts_cells.specs.Tables.{Shows}
+use Rattle.tt_facts_cells.specs.Inner.Tables.{Shows}
 use Rattle.tt_facts_cells.proofs.FirstTable.{is_open_by, full_table, unavailability_in, unavailability_out, up_to_more}
 use Rattle.tt_facts_cells.proofs.first.first_table.Goals as goal
 

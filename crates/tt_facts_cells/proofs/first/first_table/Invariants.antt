@@ -1,5 +1,5 @@
 use Rattle.std.proofs.Common.{◌≡◌, [], take}
-use Rattle.tt_facts_cells.specs.Tables.{Shows}
+use Rattle.tt_facts_cells.specs.Inner.Tables.{Shows}
 use Rattle.tt_facts_cells.proofs.FirstTable.{is_open_by}
 use Rattle.tt_facts_cells.proofs.first.first_table.Given as goal
 

@@ -1,7 +1,7 @@
 use Rattle.std.proofs.Common.{◌≡◌, ◌+◌, ◌-◌, ◌*◌, ◌%◌, length, sym, ap, ◌∙◌, subst, arith}
 use Rattle.std.specs.Prelude.{nat_lt}
-use Rattle.tt_facts_cells.specs.Words.{width, size}
-use Rattle.tt_facts_cells.specs.First.{AreFull}
+use Rattle.tt_facts_cells.specs.Inner.Words.{width, size}
+use Rattle.tt_facts_cells.specs.Inner.First.{AreFull}
 use Rattle.tt_facts_cells.proofs.FirstTable.{full_more}
 use Rattle.tt_facts_cells.proofs.first.full_words.Goals as goal
 

@@ -1,4 +1,4 @@
-use Rattle.tt_facts_cells.specs.First.{AreFull}
+use Rattle.tt_facts_cells.specs.Inner.First.{AreFull}
 use Rattle.tt_facts_cells.proofs.first.full_words.Given as goal
 
 abbrev pub invariant-loop-index : goal.invariant-loop-index

@@ -2,9 +2,9 @@ use Rattle.std.proofs.Common.{◌+◌, ◌≤◌, ◌&&◌, length, refl, ap, �
 use Rattle.std.specs.Prelude.{◌==◌, nat_lt}
 use Rattle.tt_instance_data.specs.declared.cell.Cell.{Cell}
 use Rattle.std.proofs.lemmas.Bool.{lt-ltb, le-ltb}
-use Rattle.tt_facts_cells.specs.Tables.{is_placed}
-use Rattle.tt_facts_cells.specs.Struck.{loses_room}
-use Rattle.tt_facts_cells.specs.Shown.{is_struck}
+use Rattle.tt_facts_cells.specs.Inner.Tables.{is_placed}
+use Rattle.tt_facts_cells.specs.Inner.Struck.{loses_room}
+use Rattle.tt_facts_cells.specs.Inner.Shown.{is_struck}
 use Rattle.tt_facts_cells.proofs.Losing.{loses-none, loses-more, loses-same, course_next}
 use Rattle.tt_facts_cells.proofs.killing.kill.Goals as goal
 

@@ -1,7 +1,7 @@
 use Rattle.std.proofs.Common.{◌≡◌, ◌&&◌}
 use Rattle.std.specs.Prelude.{nat_lt}
-use Rattle.tt_facts_cells.specs.Tables.{Loses}
-use Rattle.tt_facts_cells.specs.Shown.{is_struck}
+use Rattle.tt_facts_cells.specs.Inner.Tables.{Loses}
+use Rattle.tt_facts_cells.specs.Inner.Shown.{is_struck}
 use Rattle.tt_facts_cells.proofs.killing.kill.Given as goal
 
 abbrev pub invariant-loop-course : goal.invariant-loop-course

@@ -1,6 +1,6 @@
 use Rattle.std.proofs.Common.{◌≡◌, length, sym, ◌∙◌, subst, arith}
-use Rattle.tt_facts_cells.specs.Tables.{Loses}
-use Rattle.tt_facts_cells.specs.Shown.{is_struck}
+use Rattle.tt_facts_cells.specs.Inner.Tables.{Loses}
+use Rattle.tt_facts_cells.specs.Inner.Shown.{is_struck}
 use Rattle.tt_facts_cells.proofs.Linked.{list_of_one}
 use Rattle.tt_facts_cells.proofs.killing.kill_by_links.Goals as goal
 

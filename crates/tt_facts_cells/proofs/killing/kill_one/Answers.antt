@@ -1,12 +1,12 @@
 use Rattle.std.proofs.Common.{refl, sym, ap, not, ◌&&◌, ◌||◌, [], ◌∷◌, ◌∙◌, subst}
 use Rattle.std.specs.Prelude.{◌==◌}
 use Rattle.tt_lists.specs.Words.{has_number}
-use Rattle.tt_instance_links.specs.Links.{conflicts_of}
+use Rattle.tt_instance_links.specs.Inner.Links.{conflicts_of}
 use Rattle.tt_facts_path.specs.Facts.{agrees}
-use Rattle.tt_facts_cells.specs.Rooms.{has_room}
-use Rattle.tt_facts_cells.specs.Tables.{Loses, has_cell, is_placed}
+use Rattle.tt_facts_cells.specs.Inner.Rooms.{has_room}
+use Rattle.tt_facts_cells.specs.Inner.Tables.{Loses, has_cell, is_placed}
 use Rattle.tt_instance_data.specs.declared.cell.Cell.{Cell}
-use Rattle.tt_facts_cells.specs.Shown.{is_struck}
+use Rattle.tt_facts_cells.specs.Inner.Shown.{is_struck}
 use Rattle.tt_facts_cells.proofs.Losing.{loses-more}
 use Rattle.tt_facts_cells.proofs.Linked.{struck_by_links, struck_beside}
 use Rattle.tt_facts_cells.proofs.killing.kill_one.Goals as goal

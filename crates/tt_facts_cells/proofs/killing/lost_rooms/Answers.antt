@@ -1,8 +1,8 @@
 use Rattle.std.proofs.Common.{◌≡◌, ◌<◌, ◌&&◌, false, length, sym, ap, ◌∙◌, arith}
 use Rattle.std.specs.Prelude.{slice_index_or}
 use Rattle.std.proofs.lemmas.Bool.{both_ways}
-use Rattle.tt_facts_cells.specs.Rooms.{has_room}
-use Rattle.tt_facts_cells.specs.Struck.{is_lost_to}
+use Rattle.tt_facts_cells.specs.Inner.Rooms.{has_room}
+use Rattle.tt_facts_cells.specs.Inner.Struck.{is_lost_to}
 use Rattle.tt_facts_cells.proofs.Losing.{failed_within}
 use Rattle.tt_facts_cells.proofs.killing.lost_rooms.Goals.{in-Nothing, in_default}
 use Rattle.tt_facts_cells.proofs.killing.lost_rooms.Goals as goal

@@ -1,7 +1,7 @@
 use Rattle.std.proofs.Common.{◌≡◌, ℕ, take}
 use Rattle.std.specs.List.{list_all}
-use Rattle.tt_facts_cells.specs.Rooms.{has_room}
-use Rattle.tt_facts_cells.specs.Struck.{is_lost_to}
+use Rattle.tt_facts_cells.specs.Inner.Rooms.{has_room}
+use Rattle.tt_facts_cells.specs.Inner.Struck.{is_lost_to}
 use Rattle.tt_facts_cells.proofs.killing.lost_rooms.Given as goal
 
 abbrev pub invariant-loop-other : goal.invariant-loop-other

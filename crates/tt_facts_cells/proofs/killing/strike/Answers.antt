@@ -7,9 +7,9 @@ use Rattle.tt_instance_data.specs.declared.cell.Cell.{Cell}
 use Rattle.tt_facts_path.specs.Facts.{agrees}
 use Rattle.tt_instance_data.specs.Cells.{slot, cell, all_rooms, InRange}
 use Rattle.tt_lists.specs.Words.{has_number}
-use Rattle.tt_facts_cells.specs.Rooms.{has_room}
-use Rattle.tt_facts_cells.specs.Tables.{has_cell, is_placed, is_open, IsTable, Loses}
-use Rattle.tt_facts_cells.specs.Struck.{loses_room, is_lost_to}
+use Rattle.tt_facts_cells.specs.Inner.Rooms.{has_room}
+use Rattle.tt_facts_cells.specs.Inner.Tables.{has_cell, is_placed, is_open, IsTable, Loses}
+use Rattle.tt_facts_cells.specs.Inner.Struck.{loses_room, is_lost_to}
 use Rattle.tt_facts_cells.proofs.Struck.{who-has}
 use Rattle.tt_facts_cells.proofs.Losing.{loses-same, placed_at, both_where}
 use Rattle.tt_facts_cells.proofs.killing.strike.Goals as goal

@@ -4,7 +4,7 @@ use Rattle.std.specs.Prelude.{slice_index_or}
 use Rattle.std.proofs.Math.Seq.{take-length}
 use Rattle.tt_lists.specs.Words.{has_number}
 use Rattle.tt_instance_data.specs.declared.cell.Cell.{Cell}
-use Rattle.tt_facts_cells.specs.Tables.{is_placed}
+use Rattle.tt_facts_cells.specs.Inner.Tables.{is_placed}
 use Rattle.tt_facts_cells.proofs.Losing.{loses-same, loses-more}
 use Rattle.tt_facts_cells.proofs.Barred.{course_next_at}
 use Rattle.tt_facts_cells.proofs.killing.strike_period.Goals as goal

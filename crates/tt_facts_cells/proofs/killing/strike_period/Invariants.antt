@@ -1,7 +1,7 @@
 use Rattle.std.proofs.Common.{◌≡◌, ◌&&◌, take}
 use Rattle.std.specs.Prelude.{◌==◌}
 use Rattle.tt_lists.specs.Words.{has_number}
-use Rattle.tt_facts_cells.specs.Tables.{Loses}
+use Rattle.tt_facts_cells.specs.Inner.Tables.{Loses}
 use Rattle.tt_facts_cells.proofs.killing.strike_period.Given as goal
 
 abbrev pub invariant-loop-course : goal.invariant-loop-course

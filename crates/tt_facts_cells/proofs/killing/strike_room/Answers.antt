@@ -2,7 +2,7 @@ use Rattle.std.proofs.Common.{◌+◌, ◌≤◌, not, ◌&&◌, length, refl, a
 use Rattle.std.specs.Prelude.{◌==◌, nat_lt}
 use Rattle.std.proofs.lemmas.Bool.{lt-ltb, le-ltb}
 use Rattle.tt_instance_data.specs.declared.cell.Cell.{Cell}
-use Rattle.tt_facts_cells.specs.Tables.{is_placed}
+use Rattle.tt_facts_cells.specs.Inner.Tables.{is_placed}
 use Rattle.tt_facts_cells.proofs.Losing.{loses-none, loses-more, loses-same, course_next}
 use Rattle.tt_facts_cells.proofs.killing.strike_room.Goals as goal
 

@@ -1,6 +1,6 @@
 use Rattle.std.proofs.Common.{◌≡◌, not, ◌&&◌}
 use Rattle.std.specs.Prelude.{◌==◌, nat_lt}
-use Rattle.tt_facts_cells.specs.Tables.{Loses}
+use Rattle.tt_facts_cells.specs.Inner.Tables.{Loses}
 use Rattle.tt_facts_cells.proofs.killing.strike_room.Given as goal
 
 abbrev pub invariant-loop-other : goal.invariant-loop-other

@@ -2,7 +2,7 @@ use Rattle.std.proofs.Common.{[], ◌∷◌, ◌++◌, map, sym, ap, ◌∙◌, 
 use Rattle.std.proofs.lemmas.List.{map-append}
 use Rattle.tt_lists.specs.Words.{range_below}
 use Rattle.tt_lists.proofs.Below.{range_below_more}
-use Rattle.tt_facts_cells.specs.Order.{ranked}
+use Rattle.tt_facts_cells.specs.Inner.Order.{ranked}
 use Rattle.tt_facts_cells.proofs.order.ranked_rooms.Goals as goal
 
 pub loop-room-preserved : goal.loop-room-preserved

@@ -1,7 +1,7 @@
 use Rattle.std.proofs.Common.{◌≡◌, ℕ, ◌<◌, ◌^◌, map}
 use Rattle.tt_lists.specs.Words.{range_below}
 use Rattle.tt_instance_data.specs.Courses.{capacity}
-use Rattle.tt_facts_cells.specs.Order.{ranked}
+use Rattle.tt_facts_cells.specs.Inner.Order.{ranked}
 use Rattle.tt_facts_cells.proofs.order.ranked_rooms.Given as goal
 
 abbrev pub invariant-loop-room : goal.invariant-loop-room

@@ -1,5 +1,5 @@
 use Rattle.std.proofs.Common.{◌≡◌, sym, ap, ◌∙◌, arith, inl, inr}
-use Rattle.tt_facts_cells.specs.Slots.{is_left_in}
+use Rattle.tt_facts_cells.specs.Inner.Slots.{is_left_in}
 use Rattle.std.proofs.lemmas.Bool.{cases_lt}
 use Rattle.tt_facts_cells.proofs.periods.first_left.Goals as goal
 

@@ -1,4 +1,4 @@
-use Rattle.tt_facts_cells.specs.Slots.{is_left_in, IsNone}
+use Rattle.tt_facts_cells.specs.Inner.Slots.{is_left_in, IsNone}
 use Rattle.tt_facts_cells.proofs.periods.first_left.Given as goal
 
 abbrev pub invariant-loop-slot : goal.invariant-loop-slot

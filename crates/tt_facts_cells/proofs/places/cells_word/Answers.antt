@@ -1,8 +1,8 @@
 use Rattle.std.proofs.Common.{◌≡◌, ◌-◌, true, false, ◌&&◌, sym, ap, ◌∙◌, arith, eq-eqb, ne_eqb}
-use Rattle.tt_bits.specs.Bits.{has_bit}
+use Rattle.tt_bits.specs.Inner.Bits.{has_bit}
 use Rattle.tt_bits.proofs.BitLaws.{has_bit-none}
 use Rattle.std.specs.Prelude.{slice_index_or}
-use Rattle.tt_facts_cells.specs.Words.{size, word_at, in_force}
+use Rattle.tt_facts_cells.specs.Inner.Words.{size, word_at, in_force}
 use Rattle.tt_facts_cells.proofs.Reading.{cell-bit}
 use Rattle.tt_facts_cells.proofs.places.cells_word.Goals as goal
 

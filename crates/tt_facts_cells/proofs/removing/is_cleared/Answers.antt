@@ -1,6 +1,6 @@
 use Rattle.std.proofs.Common.{◌≡◌, ◌-◌, sym, ap, ◌∙◌, arith}
 use Rattle.std.specs.Prelude.{◌==◌, slice_index_or}
-use Rattle.tt_facts_cells.specs.Words.{size}
+use Rattle.tt_facts_cells.specs.Inner.Words.{size}
 use Rattle.tt_facts_cells.proofs.Dropping.{cleared-cell}
 use Rattle.tt_facts_cells.proofs.removing.is_cleared.Goals as goal
 use Rattle.std.proofs.lemmas.Bool.{not-true}

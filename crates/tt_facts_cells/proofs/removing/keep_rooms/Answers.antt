@@ -1,8 +1,8 @@
 use Rattle.std.proofs.Common.{◌≡◌, ℕ, ◌+◌, ◌*◌, ◌<◌, not, ◌&&◌, ap, ◌∙◌, subst, arith}
 use Rattle.std.specs.Prelude.{nat_lt}
-use Rattle.tt_bits.specs.Bits.{Clears}
-use Rattle.tt_facts_cells.specs.Words.{width, is_here, Drops}
-use Rattle.tt_facts_cells.specs.Tables.{is_open}
+use Rattle.tt_bits.specs.Inner.Bits.{Clears}
+use Rattle.tt_facts_cells.specs.Inner.Words.{width, is_here, Drops}
+use Rattle.tt_facts_cells.specs.Inner.Tables.{is_open}
 use Rattle.tt_facts_cells.proofs.Dropping.{block_dropped, word_dropped, rooms_kept}
 use Rattle.tt_facts_cells.proofs.removing.keep_rooms.Goals as goal
 

@@ -1,6 +1,6 @@
 use Rattle.std.proofs.Common.{◌≡◌, ◌-◌, ap, ◌∙◌, arith}
 use Rattle.std.specs.Prelude.{slice_set}
-use Rattle.tt_facts_cells.specs.Words.{size}
+use Rattle.tt_facts_cells.specs.Inner.Words.{size}
 use Rattle.tt_facts_cells.proofs.Dropping.{all_removed}
 use Rattle.tt_facts_cells.proofs.removing.remove_all.Goals as goal
 

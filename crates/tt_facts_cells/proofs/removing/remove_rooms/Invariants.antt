@@ -1,7 +1,7 @@
 use Rattle.std.proofs.Common.{◌≡◌, ◌+◌, ◌*◌, ◌&&◌}
 use Rattle.std.specs.Prelude.{nat_lt}
 use Rattle.tt_facts_path.specs.Facts.{agrees}
-use Rattle.tt_facts_cells.specs.Words.{is_here, Drops}
+use Rattle.tt_facts_cells.specs.Inner.Words.{is_here, Drops}
 use Rattle.tt_facts_cells.proofs.removing.remove_rooms.Given as goal
 
 abbrev pub invariant-loop-block : goal.invariant-loop-block

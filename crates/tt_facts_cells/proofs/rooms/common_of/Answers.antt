@@ -1,6 +1,6 @@
 use Rattle.std.proofs.Common.{ℕ, ◌+◌, ◌*◌, not, ◌&&◌, sym, ap, ◌∙◌, arith}
 use Rattle.std.specs.Prelude.{◌==◌}
-use Rattle.tt_bits.specs.Bits.{has_bit, each_bit}
+use Rattle.tt_bits.specs.Inner.Bits.{has_bit, each_bit}
 use Rattle.tt_bits.proofs.BitLaws.{each_bit-none, each_bit-one, each_bit_at, another_bit}
 use Rattle.std.proofs.lemmas.Bool.{false_from_ne_true, eqb-true, not-true, not-false}
 use Rattle.tt_facts_cells.proofs.rooms.common_of.Goals as goal

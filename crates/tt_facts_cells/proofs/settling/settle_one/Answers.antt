@@ -1,7 +1,7 @@
 use Rattle.std.proofs.Common.{◌≡◌, false, true, sym, subst}
-use Rattle.tt_facts_cells.specs.Tables.{Loses}
-use Rattle.tt_facts_cells.specs.Struck.{is_left}
-use Rattle.tt_facts_cells.specs.Shown.{is_struck}
+use Rattle.tt_facts_cells.specs.Inner.Tables.{Loses}
+use Rattle.tt_facts_cells.specs.Inner.Struck.{is_left}
+use Rattle.tt_facts_cells.specs.Inner.Shown.{is_struck}
 use Rattle.tt_facts_cells.proofs.OneLeft.{none_left, left_unless_all}
 use Rattle.tt_facts_cells.proofs.Settled.{settles-none, settles-there}
 use Rattle.tt_facts_cells.proofs.settling.settle_one.Goals as goal

@@ -1,6 +1,6 @@
 use Rattle.std.proofs.Common.{ℕ, zero, suc, ◌*◌, ◌<◌, subst, arith}
-use Rattle.tt_facts_cells.specs.Slots.{is_left_in, IsNone}
-use Rattle.tt_facts_cells.specs.Spread.{IsSpread}
+use Rattle.tt_facts_cells.specs.Inner.Slots.{is_left_in, IsNone}
+use Rattle.tt_facts_cells.specs.Inner.Spread.{IsSpread}
 use Rattle.tt_facts_cells.proofs.Settled.{settles-nowhere, settles-several}
 use Rattle.tt_facts_cells.proofs.settling.settle_within.Goals as goal
 

@@ -1,6 +1,6 @@
 use Rattle.std.proofs.Common.{◌<◌, ◌+◌, ◌*◌, ◌/◌, arith}
-use Rattle.tt_facts_pins.specs.Tables.{width}
-use Rattle.tt_facts_pins.specs.FactTable.{open_size, slot_rows}
+use Rattle.tt_facts_pins.specs.Inner.Tables.{width}
+use Rattle.tt_facts_pins.specs.Inner.FactTable.{open_size, slot_rows}
 use Rattle.tt_facts_pins.proofs.Grid.{room_within}
 use Rattle.tt_facts_pins.proofs.bit_places.closed_place.Goals as goal
 use Rattle.tt_lists.proofs.Grid.{within_row}

@@ -1,4 +1,4 @@
-use Rattle.tt_facts_pins.specs.FactTable.{fact_rows}
+use Rattle.tt_facts_pins.specs.Inner.FactTable.{fact_rows}
 use Rattle.tt_facts_pins.proofs.bit_places.open_place.Goals as goal
 use Rattle.tt_lists.proofs.Grid.{within_row}
 

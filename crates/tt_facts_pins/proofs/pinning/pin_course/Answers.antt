@@ -1,8 +1,8 @@
 use Rattle.std.proofs.Common.{◌≡◌, ◌∙◌}
 use Rattle.std.specs.Prelude.{◌==◌}
-use Rattle.tt_instance_links.specs.Links.{curricula_of}
+use Rattle.tt_instance_links.specs.Inner.Links.{curricula_of}
 use Rattle.tt_instance_links.proofs.Linked.{curricula_below}
-use Rattle.tt_facts_pins.specs.Tables.{day_place, is_day_of}
+use Rattle.tt_facts_pins.specs.Inner.Tables.{day_place, is_day_of}
 use Rattle.tt_facts_pins.proofs.Joined.{adds_both}
 use Rattle.tt_facts_pins.proofs.Pinned.{course_pins}
 use Rattle.tt_facts_pins.proofs.pinning.pin_course.Goals as goal

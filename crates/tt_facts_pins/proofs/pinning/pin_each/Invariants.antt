@@ -1,5 +1,5 @@
 use Rattle.std.proofs.Common.{◌≡◌, take}
-use Rattle.tt_facts_pins.specs.Tables.{is_day_of, Adds}
+use Rattle.tt_facts_pins.specs.Inner.Tables.{is_day_of, Adds}
 use Rattle.tt_facts_pins.proofs.pinning.pin_each.Given as goal
 
 abbrev pub invariant-loop-curriculum : goal.invariant-loop-curriculum

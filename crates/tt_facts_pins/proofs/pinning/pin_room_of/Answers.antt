@@ -1,5 +1,5 @@
 use Rattle.std.proofs.Common.{◌%◌}
-use Rattle.tt_facts_pins.specs.Tables.{room_place}
+use Rattle.tt_facts_pins.specs.Inner.Tables.{room_place}
 use Rattle.tt_facts_pins.proofs.Joined.{puts_adds}
 use Rattle.tt_facts_pins.proofs.Pinned.{room_pins}
 use Rattle.tt_facts_pins.proofs.pinning.pin_room_of.Goals as goal

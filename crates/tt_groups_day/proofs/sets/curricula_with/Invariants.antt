@@ -1,6 +1,6 @@
 use Rattle.std.proofs.Common.{◌≡◌, ℕ, ◌<◌, ◌&&◌}
 use Rattle.std.specs.Prelude.{nat_lt, slice_index}
-use Rattle.tt_bits.specs.Bits.{has_bit}
+use Rattle.tt_bits.specs.Inner.Bits.{has_bit}
 use Rattle.tt_instance_data.specs.Courses.{in_curriculum}
 use Rattle.tt_groups_day.proofs.sets.curricula_with.Given as goal
 

@@ -1,7 +1,7 @@
 use Rattle.std.proofs.Common.{◌≡◌, ℕ, ◌&&◌, ◌||◌, length, take}
 use Rattle.std.specs.List.{list_any}
 use Rattle.tt_lists.specs.Words.{has_number}
-use Rattle.tt_instance_data.specs.Indexed.{mark_at, IsSquare}
+use Rattle.tt_instance_data.specs.Inner.Indexed.{mark_at, IsSquare}
 use Rattle.tt_instance.proofs.conflicts.add_curricula.Given as goal
 
 abbrev pub invariant-loop-curriculum : goal.invariant-loop-curriculum

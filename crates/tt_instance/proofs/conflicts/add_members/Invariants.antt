@@ -1,6 +1,6 @@
 use Rattle.std.proofs.Common.{◌≡◌, ℕ, ◌&&◌, ◌||◌, length, take}
 use Rattle.tt_lists.specs.Words.{has_number}
-use Rattle.tt_instance_data.specs.Indexed.{mark_at, IsSquare}
+use Rattle.tt_instance_data.specs.Inner.Indexed.{mark_at, IsSquare}
 use Rattle.tt_instance.proofs.conflicts.add_members.Given as goal
 
 abbrev pub invariant-loop-member : goal.invariant-loop-member

@@ -1,6 +1,6 @@
 use Rattle.std.proofs.Common.{◌≡◌, ℕ, not, ◌&&◌, length, nat_lt}
 use Rattle.std.specs.Prelude.{◌==◌}
-use Rattle.tt_instance_data.specs.Indexed.{mark_at, IsSquare}
+use Rattle.tt_instance_data.specs.Inner.Indexed.{mark_at, IsSquare}
 use Rattle.tt_instance.proofs.conflicts.clear_own.Given as goal
 
 abbrev pub invariant-loop-course : goal.invariant-loop-course

@@ -1,5 +1,5 @@
 use Rattle.std.proofs.Common.{◌∙◌, sym, subst}
-use Rattle.tt_instance_data.specs.Indexed.{IsSquare}
+use Rattle.tt_instance_data.specs.Inner.Indexed.{IsSquare}
 use Rattle.tt_instance.proofs.Excluding.{teacher_rows_square, row_for_each, members_have_rows, rows_reported}
 use Rattle.tt_instance.proofs.conflicts.conflict_rows.Goals as goal
 

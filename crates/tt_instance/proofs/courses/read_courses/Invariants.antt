@@ -1,7 +1,7 @@
 use Rattle.std.proofs.Common.{◌≡◌, ◌-◌, length, []}
 use Rattle.tt_instance.specs.Reading.{courses_at}
 use Rattle.tt_instance_data.specs.Seen.{courses_seen}
-use Rattle.tt_instance_data.specs.Indexed.{IsIndexed}
+use Rattle.tt_instance_data.specs.Inner.Indexed.{IsIndexed}
 use Rattle.tt_instance.proofs.courses.read_courses.Given as goal
 
 abbrev pub invariant-loop : goal.invariant-loop

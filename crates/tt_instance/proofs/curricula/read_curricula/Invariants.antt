@@ -1,7 +1,7 @@
 use Rattle.std.proofs.Common.{◌≡◌, ◌-◌, length, []}
 use Rattle.tt_instance.specs.Reading.{curricula_at}
 use Rattle.tt_instance_data.specs.Seen.{curricula_seen}
-use Rattle.tt_instance_data.specs.Indexed.{IsCurriculaIndexed}
+use Rattle.tt_instance_data.specs.Inner.Indexed.{IsCurriculaIndexed}
 use Rattle.tt_instance.proofs.curricula.read_curricula.Given as goal
 
 abbrev pub invariant-loop : goal.invariant-loop

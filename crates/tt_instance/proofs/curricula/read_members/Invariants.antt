@@ -1,6 +1,6 @@
 use Rattle.std.proofs.Common.{◌≡◌, ◌-◌, length, []}
 use Rattle.tt_instance.specs.Reading.{members_at}
-use Rattle.tt_instance_data.specs.Indexed.{IsMarked}
+use Rattle.tt_instance_data.specs.Inner.Indexed.{IsMarked}
 use Rattle.tt_instance.proofs.curricula.read_members.Given as goal
 
 abbrev pub invariant-loop : goal.invariant-loop

@@ -1,7 +1,7 @@
 use Rattle.std.proofs.Common.{◌≡◌, ◌-◌, []}
 use Rattle.tt_instance.specs.Reading.{rooms_at}
 use Rattle.tt_instance_data.specs.Seen.{rooms_seen}
-use Rattle.tt_instance_data.specs.Indexed.{IsRoomsIndexed}
+use Rattle.tt_instance_data.specs.Inner.Indexed.{IsRoomsIndexed}
 use Rattle.tt_instance.proofs.rooms.read_rooms.Given as goal
 
 abbrev pub invariant-loop : goal.invariant-loop

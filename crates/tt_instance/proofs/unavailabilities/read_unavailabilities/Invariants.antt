@@ -1,7 +1,7 @@
 use Rattle.std.proofs.Common.{◌≡◌, ◌-◌, length, []}
 use Rattle.tt_instance.specs.Reading.{unavailabilities_at}
 use Rattle.tt_instance_data.specs.Seen.{unavailabilities_seen}
-use Rattle.tt_instance_data.specs.Indexed.{IsBarred}
+use Rattle.tt_instance_data.specs.Inner.Indexed.{IsBarred}
 use Rattle.tt_instance.proofs.unavailabilities.read_unavailabilities.Given as goal
 
 abbrev pub invariant-loop : goal.invariant-loop

@@ -1,7 +1,7 @@
 use Rattle.std.proofs.Common.{◌<◌, length, ap, arith}
 use Rattle.tt_instance_data.specs.Cells.{all_slots}
 use Rattle.tt_instance_data.specs.Courses.{lectures}
-use Rattle.tt_leaf.specs.Seated.{is_seated}
+use Rattle.tt_leaf.specs.Inner.Seated.{is_seated}
 use Rattle.tt_leaf.proofs.Seated.{passes_among}
 use Rattle.tt_instance_data.proofs.Slots.{slots_count_yes, slots_count_no}
 use Rattle.tt_leaf.proofs.prices.has_seats.Goals as goal

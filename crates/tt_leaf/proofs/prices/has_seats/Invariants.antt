@@ -1,7 +1,7 @@
 use Rattle.std.proofs.Common.{◌≡◌, take}
 use Rattle.std.specs.Prelude.{count_by}
 use Rattle.tt_instance_data.specs.Cells.{all_slots}
-use Rattle.tt_leaf.specs.Seated.{is_seated}
+use Rattle.tt_leaf.specs.Inner.Seated.{is_seated}
 use Rattle.tt_leaf.proofs.prices.has_seats.Given as goal
 
 abbrev pub invariant-loop-place : goal.invariant-loop-place

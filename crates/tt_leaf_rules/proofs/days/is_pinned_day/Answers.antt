@@ -1,6 +1,6 @@
 use Rattle.std.proofs.Common.{◌≤◌, not, ap, ◌∙◌, arith}
 use Rattle.std.specs.List.{list_any}
-use Rattle.tt_bits.specs.Bits.{has_bit, bits}
+use Rattle.tt_bits.specs.Inner.Bits.{has_bit, bits}
 use Rattle.tt_bits.proofs.Counts.{any-set}
 use Rattle.tt_instance_data.specs.Cells.{slot}
 use Rattle.tt_facts_path.specs.Live.{pinned}

@@ -1,6 +1,6 @@
 use Rattle.std.proofs.Common.{◌≡◌, length}
 use Rattle.tt_lists.specs.Words.{are_distinct}
-use Rattle.tt_leaf_rules.specs.NumberSet.{are_new}
+use Rattle.tt_leaf_rules.specs.Inner.NumberSet.{are_new}
 use Rattle.tt_leaf_data.specs.Ranges.{AreBelow}
 use Rattle.tt_leaf_rules.proofs.groups.are_new.Given as goal
 

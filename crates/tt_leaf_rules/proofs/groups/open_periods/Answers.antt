@@ -1,5 +1,5 @@
 use Rattle.std.proofs.Common.{◌*◌, ◌≤◌, ap, subst, arith}
-use Rattle.tt_leaf_rules.specs.Nested.{live_for}
+use Rattle.tt_leaf_rules.specs.Inner.Nested.{live_for}
 use Rattle.tt_leaf_rules.proofs.Week.{week_next, week_whole, week_within}
 use Rattle.tt_leaf_rules.proofs.groups.open_periods.Goals as goal
 

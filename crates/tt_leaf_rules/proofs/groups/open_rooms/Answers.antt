@@ -3,7 +3,7 @@ use Rattle.std.specs.Prelude.{sum_by}
 use Rattle.std.proofs.Math.Seq.{take-length}
 use Rattle.tt_lists.proofs.Sums.{sum_by-swap}
 use Rattle.tt_instance_data.specs.Cells.{all_rooms, all_slots}
-use Rattle.tt_leaf_rules.specs.Nested.{live_in, open_in_period}
+use Rattle.tt_leaf_rules.specs.Inner.Nested.{live_in, open_in_period}
 use Rattle.tt_leaf_rules.proofs.groups.open_rooms.Goals as goal
 
 pub returns-clause-value : goal.returns-clause-value

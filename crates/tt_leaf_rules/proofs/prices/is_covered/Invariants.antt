@@ -1,5 +1,5 @@
 use Rattle.std.proofs.Common.{◌≡◌, ℕ, ◌*◌, ◌<◌, true, length}
-use Rattle.tt_leaf_rules.specs.Nested.{covered_in}
+use Rattle.tt_leaf_rules.specs.Inner.Nested.{covered_in}
 use Rattle.tt_leaf_rules.proofs.prices.is_covered.Given as goal
 
 abbrev pub invariant-loop-block : goal.invariant-loop-block

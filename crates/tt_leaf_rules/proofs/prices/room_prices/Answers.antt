@@ -5,7 +5,7 @@ use Rattle.tt_lists.proofs.Sums.{sum_by-swap}
 use Rattle.tt_instance_data.specs.Cells.{all_slots}
 use Rattle.tt_instance_data.specs.Problem.{Problem}
 use Rattle.tt_instance_data.specs.declared.cell.Slot.{Slot}
-use Rattle.tt_leaf_rules.specs.Nested.{priced_live_in}
+use Rattle.tt_leaf_rules.specs.Inner.Nested.{priced_live_in}
 use Rattle.tt_leaf_rules.proofs.Covering.{paid_by_room}
 use Rattle.tt_leaf_rules.proofs.prices.room_prices.Goals as goal
 

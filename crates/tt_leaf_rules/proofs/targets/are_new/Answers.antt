@@ -1,7 +1,7 @@
 use Rattle.std.proofs.Common.{All, subst, ap}
 use Rattle.std.specs.Prelude.{flat_map}
 use Rattle.std.proofs.lemmas.List.Elements.{All-head, All-rest}
-use Rattle.tt_leaf_rules.specs.NumberSet.{places_of, IsPlaced}
+use Rattle.tt_leaf_rules.specs.Inner.NumberSet.{places_of, IsPlaced}
 use Rattle.tt_leaf_rules.specs.Tests.{claims_once}
 use Rattle.tt_leaf_rules.proofs.Meeting.{claims_at_first, met_goes_on}
 use Rattle.tt_leaf_rules.proofs.targets.are_new.Goals as goal

@@ -1,6 +1,6 @@
 use Rattle.std.proofs.Common.{◌≡◌, length}
 use Rattle.std.specs.Prelude.{All, flat_map}
-use Rattle.tt_leaf_rules.specs.NumberSet.{are_new, places_of, IsPlaced}
+use Rattle.tt_leaf_rules.specs.Inner.NumberSet.{are_new, places_of, IsPlaced}
 use Rattle.tt_leaf_rules.specs.Tests.{claims_once}
 use Rattle.tt_leaf_rules.proofs.targets.are_new.Given as goal
 

@@ -1,6 +1,6 @@
 use Rattle.std.proofs.Common.{◌≡◌, length}
 use Rattle.std.specs.Prelude.{All}
-use Rattle.tt_leaf_rules.specs.Nested.{IsOnce}
+use Rattle.tt_leaf_rules.specs.Inner.Nested.{IsOnce}
 use Rattle.tt_leaf_rules.specs.Tests.{claims_once}
 use Rattle.tt_leaf_rules.proofs.targets.are_pairwise_apart.Given as goal
 

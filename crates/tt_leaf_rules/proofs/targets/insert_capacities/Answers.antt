@@ -1,6 +1,6 @@
 use Rattle.std.proofs.Common.{ℕ, List, [], ◌*◌, ◌<◌, ◌∷◌, ◌++◌, map, ap}
 use Rattle.std.proofs.lemmas.List.Elements.{All-rest}
-use Rattle.tt_leaf_rules.specs.NumberSet.{are_new}
+use Rattle.tt_leaf_rules.specs.Inner.NumberSet.{are_new}
 use Rattle.tt_leaf_rules.proofs.Meeting.{met_goes_on}
 use Rattle.tt_leaf_rules.proofs.targets.insert_capacities.Goals as goal
 

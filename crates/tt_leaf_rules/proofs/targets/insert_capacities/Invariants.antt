@@ -1,6 +1,6 @@
 use Rattle.std.proofs.Common.{◌≡◌, ℕ, ◌*◌, ◌<◌, ◌++◌, List, map, length}
 use Rattle.std.specs.Prelude.{All}
-use Rattle.tt_leaf_rules.specs.NumberSet.{are_new}
+use Rattle.tt_leaf_rules.specs.Inner.NumberSet.{are_new}
 use Rattle.tt_leaf_rules.proofs.targets.insert_capacities.Given as goal
 
 abbrev pub invariant-loop-first : goal.invariant-loop-first

@@ -1,5 +1,5 @@
 use Rattle.std.proofs.Common.{All, inl, inr, ◌+◌, ◌*◌, ◌<◌, ◌++◌, [], map, subst, sym, ap, ◌∙◌}
-use Rattle.tt_leaf_rules.specs.NumberSet.{are_new, places_of}
+use Rattle.tt_leaf_rules.specs.Inner.NumberSet.{are_new, places_of}
 use Rattle.tt_leaf_rules.proofs.Meeting.{placed_first, priced_places}
 use Rattle.tt_leaf_rules.proofs.targets.insert_targets.Goals as goal
 

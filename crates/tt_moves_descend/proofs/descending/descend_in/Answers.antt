@@ -1,5 +1,5 @@
 use Rattle.std.proofs.Common.{sym, ◌∙◌}
-use Rattle.tt_moves_descend.specs.Scan.{NoMove, NoSwap}
+use Rattle.tt_moves_descend.specs.Inner.Scan.{NoMove, NoSwap}
 use Rattle.tt_moves_descend.proofs.Scans.{from_ok, from_err, scan_none, scan_then, scan_spent, descent_settled, descent_spent}
 use Rattle.tt_moves_descend.proofs.descending.descend_in.Goals as goal
 

@@ -1,4 +1,4 @@
-use Rattle.tt_moves_descend.specs.Scan.{IsScan}
+use Rattle.tt_moves_descend.specs.Inner.Scan.{IsScan}
 use Rattle.tt_moves_descend.proofs.descending.descend_in.Given as goal
 
 abbrev pub invariant-rounds : goal.invariant-rounds

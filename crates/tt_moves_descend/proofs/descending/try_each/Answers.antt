@@ -1,5 +1,5 @@
 use Rattle.std.proofs.lemmas.Result.{on_err_weaker, on_ok_weaker}
-use Rattle.tt_moves_descend.specs.Scan.{NoMove, NoSwap}
+use Rattle.tt_moves_descend.specs.Inner.Scan.{NoMove, NoSwap}
 use Rattle.tt_moves_descend.proofs.Scans.{scan_then, scan_spent}
 use Rattle.tt_moves_descend.proofs.descending.try_each.Goals as goal
 

@@ -1,5 +1,5 @@
 use Rattle.std.proofs.Common.{ℕ, ◌<◌}
-use Rattle.tt_moves_descend.specs.Scan.{NoMoveTo, IsScan}
+use Rattle.tt_moves_descend.specs.Inner.Scan.{NoMoveTo, IsScan}
 use Rattle.tt_moves_descend.proofs.moving.move_of.Given as goal
 
 abbrev pub invariant-loop-room : goal.invariant-loop-room

@@ -1,5 +1,5 @@
 use Rattle.tt_moves.specs.declared.step.Step.TheVariants.{Move}
-use Rattle.tt_moves_descend.specs.Scan.{Lowers}
+use Rattle.tt_moves_descend.specs.Inner.Scan.{Lowers}
 use Rattle.tt_moves_descend.proofs.Scans.{on_err, scan_begin, scan_next, scan_spent}
 use Rattle.tt_moves_descend.proofs.moving.move_on.Goals as goal
 

@@ -1,6 +1,6 @@
 use Rattle.std.proofs.Common.{ℕ, ◌<◌}
 use Rattle.tt_moves.specs.declared.step.Step.TheVariants.{Move}
-use Rattle.tt_moves_descend.specs.Scan.{Lowers, IsScan}
+use Rattle.tt_moves_descend.specs.Inner.Scan.{Lowers, IsScan}
 use Rattle.tt_moves_descend.proofs.moving.move_on.Given as goal
 
 abbrev pub invariant-loop-period : goal.invariant-loop-period

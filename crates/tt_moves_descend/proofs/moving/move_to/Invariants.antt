@@ -1,5 +1,5 @@
 use Rattle.std.proofs.Common.{ℕ, ◌<◌}
-use Rattle.tt_moves_descend.specs.Scan.{NoMoveOn, IsScan}
+use Rattle.tt_moves_descend.specs.Inner.Scan.{NoMoveOn, IsScan}
 use Rattle.tt_moves_descend.proofs.moving.move_to.Given as goal
 
 abbrev pub invariant-loop-day : goal.invariant-loop-day

@@ -1,4 +1,4 @@
-use Rattle.tt_moves_descend.specs.Scan.{NoMoveOf}
+use Rattle.tt_moves_descend.specs.Inner.Scan.{NoMoveOf}
 use Rattle.tt_moves_descend.proofs.Scans.{on_err, scan_begin, scan_next, scan_spent}
 use Rattle.tt_moves_descend.proofs.moving.try_moves.Goals as goal
 

@@ -1,5 +1,5 @@
 use Rattle.std.proofs.Common.{ℕ, ◌<◌}
-use Rattle.tt_moves_descend.specs.Scan.{NoMoveOf, IsScan}
+use Rattle.tt_moves_descend.specs.Inner.Scan.{NoMoveOf, IsScan}
 use Rattle.tt_moves_descend.proofs.moving.try_moves.Given as goal
 
 abbrev pub invariant-loop-entry : goal.invariant-loop-entry

@@ -1,6 +1,6 @@
 use Rattle.std.proofs.Common.{ℕ, ◌+◌, ◌<◌, arith}
 use Rattle.tt_moves.specs.declared.step.Step.TheVariants.{Swap}
-use Rattle.tt_moves_descend.specs.Scan.{Lowers}
+use Rattle.tt_moves_descend.specs.Inner.Scan.{Lowers}
 use Rattle.tt_moves_descend.proofs.Scans.{on_err, scan_more, scan_next, scan_none, scan_spent}
 use Rattle.tt_moves_descend.proofs.swapping.swap_of.Goals as goal
 

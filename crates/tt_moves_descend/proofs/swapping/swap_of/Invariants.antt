@@ -1,6 +1,6 @@
 use Rattle.std.proofs.Common.{ℕ, ◌<◌}
 use Rattle.tt_moves.specs.declared.step.Step.TheVariants.{Swap}
-use Rattle.tt_moves_descend.specs.Scan.{Lowers, IsScan}
+use Rattle.tt_moves_descend.specs.Inner.Scan.{Lowers, IsScan}
 use Rattle.tt_moves_descend.proofs.swapping.swap_of.Given as goal
 
 abbrev pub invariant-loop-second : goal.invariant-loop-second

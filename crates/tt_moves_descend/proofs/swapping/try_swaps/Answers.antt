@@ -1,4 +1,4 @@
-use Rattle.tt_moves_descend.specs.Scan.{NoSwapOf}
+use Rattle.tt_moves_descend.specs.Inner.Scan.{NoSwapOf}
 use Rattle.tt_moves_descend.proofs.Scans.{on_err, scan_begin, scan_next, scan_spent}
 use Rattle.tt_moves_descend.proofs.swapping.try_swaps.Goals as goal
 

@@ -1,5 +1,5 @@
 use Rattle.std.proofs.Common.{ℕ, ◌<◌}
-use Rattle.tt_moves_descend.specs.Scan.{NoSwapOf, IsScan}
+use Rattle.tt_moves_descend.specs.Inner.Scan.{NoSwapOf, IsScan}
 use Rattle.tt_moves_descend.proofs.swapping.try_swaps.Given as goal
 
 abbrev pub invariant-loop-first : goal.invariant-loop-first

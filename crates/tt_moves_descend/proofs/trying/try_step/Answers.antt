@@ -1,5 +1,5 @@
 use Rattle.std.proofs.Common.{◌-◌, arith}
-use Rattle.tt_moves_descend.specs.Scan.{Lowers}
+use Rattle.tt_moves_descend.specs.Inner.Scan.{Lowers}
 use Rattle.tt_moves_descend.proofs.Scans.{scan_none, scan_step, spent_here}
 use Rattle.tt_moves_descend.proofs.trying.try_step.Goals as goal
 

@@ -1,6 +1,6 @@
 use Rattle.std.proofs.Common.{get_or, take, sym, subst, arith}
 use Rattle.std.proofs.lemmas.List.{take_all, take_more}
-use Rattle.tt_occupancy.specs.NeighbourCounts.{IsIsolationChange}
+use Rattle.tt_occupancy.specs.Inner.NeighbourCounts.{IsIsolationChange}
 use Rattle.tt_occupancy.proofs.isolation_change.isolation_change_at.Goals as goal
 
 pub loop-row-preserved : goal.loop-row-preserved

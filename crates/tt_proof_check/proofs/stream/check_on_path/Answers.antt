@@ -5,7 +5,7 @@ use Rattle.tt_leaf_data.specs.declared.leaf.Bound.{Bound}
 use Rattle.tt_proof_check.specs.declared.fault.CheckFault.TheVariants.{Text}
 use Rattle.tt_proof_check.specs.Faults.{OutOfMemoryIsNoTextFault, is_failed_read as is_failed}
 use Rattle.tt_proof_check.specs.Visited.{Visited}
-use Rattle.tt_proof_check.specs.CheckedPart.{Proved}
+use Rattle.tt_proof_check.specs.Inner.CheckedPart.{Proved}
 use Rattle.tt_proof_check.specs.Streams.{IsProofFault}
 use Rattle.tt_proof_check.proofs.TextFaults.{memory_text, text_cases, err_gives, err_read, err_reads, err_same, same_reads}
 use Rattle.tt_proof_check.proofs.stream.check_on_path.Goals as goal

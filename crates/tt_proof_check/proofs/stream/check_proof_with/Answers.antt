@@ -5,7 +5,7 @@ use Rattle.tt_instance_data.specs.Problem.{Problem}
 use Rattle.tt_proof_check.specs.Derives.{HoldsOfAll}
 use Rattle.tt_proof_check.specs.FailedReads.{IsCutOff, UpToFailure}
 use Rattle.tt_proof_check.specs.Visited.{Visited, IsVisitedProof}
-use Rattle.tt_proof_check.specs.CheckedPart.{Proved}
+use Rattle.tt_proof_check.specs.Inner.CheckedPart.{Proved}
 use Rattle.tt_proof_check.specs.Streams.{IsProved, IsProofFault}
 use Rattle.tt_proof_check.proofs.FailedReads.{of_given}
 use Rattle.tt_proof_check.proofs.Texts.{proof_found, proof_visited, proof_holds, proof_only}

@@ -8,7 +8,7 @@ use Rattle.tt_proof_check.specs.declared.fault.CheckFault.TheVariants.{Text}
 use Rattle.tt_proof_check.specs.declared.walk.Stop.TheVariants.{Rule, TooDeep}
 use Rattle.tt_proof_check.specs.Faults.{OutOfMemoryIsNoTextFault}
 use Rattle.tt_proof_check.specs.Visited.{Visited, Unvisited}
-use Rattle.tt_proof_check.specs.CheckedPart.{ExplainsNodes}
+use Rattle.tt_proof_check.specs.Inner.CheckedPart.{ExplainsNodes}
 use Rattle.tt_proof_check.specs.Nodes.{IsNodeOf}
 use Rattle.tt_proof_check.proofs.Nodes.{node_numbers}
 use Rattle.tt_proof_check.proofs.Streaming.{sofar_start, sofar_next, sofar_wrong, sofar_deep, sofar_end, sofar_unread, sofar_breaks, sofar_deep_breaks, visited_push}

@@ -1,5 +1,5 @@
 use Rattle.std.proofs.Common.{◌≡◌, ◌≤◌, length}
-use Rattle.tt_proof_check.specs.Pending.{pending}
+use Rattle.tt_proof_check.specs.Inner.Pending.{pending}
 use Rattle.tt_proof_check.proofs.walk.advance.Given as goal
 
 abbrev pub invariant-loop-path : goal.invariant-loop-path

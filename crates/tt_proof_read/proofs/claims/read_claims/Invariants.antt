@@ -1,8 +1,8 @@
 use Rattle.std.proofs.Common.{All}
 use Rattle.std.specs.List.{push}
 use Rattle.tt_text.specs.Feeds.{room_of}
-use Rattle.tt_proof_read.specs.Contract.{state_of}
-use Rattle.tt_proof_read.specs.Pricing.{AreTables}
+use Rattle.tt_proof_read.specs.Inner.Contract.{state_of}
+use Rattle.tt_proof_read.specs.Inner.Pricing.{AreTables}
 use Rattle.tt_proof_read.specs.Readers.{IsClaimAt}
 use Rattle.tt_proof_read.specs.Reading.{claim_at, claims_at}
 use Rattle.tt_proof_read.proofs.Underway.{IsUnderway}

@@ -1,7 +1,7 @@
 use Rattle.std.proofs.Common.{◌<◌, ◌==◌, refl, ap, ◌∙◌}
 use Rattle.std.proofs.lemmas.Result.{err_from_is_err_and}
 use Rattle.std.proofs.lemmas.List.Elements.{All-nil, All-push}
-use Rattle.tt_proof_read.specs.Listed.{Listed}
+use Rattle.tt_proof_read.specs.Inner.Listed.{Listed}
 use Rattle.tt_proof_read.proofs.Distinct.{each_two_push}
 use Rattle.tt_proof_read.proofs.ListTurns.{list_left}
 use Rattle.tt_proof_read.proofs.Progress.{listed_takes}

@@ -4,7 +4,7 @@ use Rattle.std.specs.List.{push}
 use Rattle.tt_lists.specs.Words.{each_two}
 use Rattle.tt_leaf_data.specs.Ranges.{AreBelow}
 use Rattle.tt_text.specs.Feeds.{room_of}
-use Rattle.tt_proof_read.specs.Contract.{state_of}
+use Rattle.tt_proof_read.specs.Inner.Contract.{state_of}
 use Rattle.tt_proof_read.specs.Reading.{listed_at, list_at}
 use Rattle.tt_proof_read.proofs.Underway.{IsUnderway}
 use Rattle.tt_proof_read.proofs.lists.read_list.Given as goal

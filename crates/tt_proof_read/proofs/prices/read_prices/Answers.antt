@@ -1,7 +1,7 @@
 use Rattle.std.proofs.Common.{◌≡◌, [], refl, sym, ap, subst, arith, ◌∙◌}
 use Rattle.std.proofs.lemmas.Result.{err_from_is_err_and}
-use Rattle.tt_proof_read.specs.Listed.{Listed}
-use Rattle.tt_proof_read.specs.Pricing.{price_lists_of, seen_of, with_seen, IsUnseen}
+use Rattle.tt_proof_read.specs.Inner.Listed.{Listed}
+use Rattle.tt_proof_read.specs.Inner.Pricing.{price_lists_of, seen_of, with_seen, IsUnseen}
 use Rattle.tt_proof_read.specs.Reading.{seen_in}
 use Rattle.tt_proof_read.proofs.PriceTurns.{prices_left, kept_nothing, kept_push, seen_push, pair_kept}
 use Rattle.tt_proof_read.proofs.Progress.{pair_takes}

@@ -1,7 +1,7 @@
 use Rattle.std.proofs.Common.{◌≡◌, ◌≤◌}
 use Rattle.tt_text.specs.Feeds.{room_of}
-use Rattle.tt_proof_read.specs.Contract.{state_of}
-use Rattle.tt_proof_read.specs.Pricing.{price_lists_of, seen_of, AreTables, ArePriceLists}
+use Rattle.tt_proof_read.specs.Inner.Contract.{state_of}
+use Rattle.tt_proof_read.specs.Inner.Pricing.{price_lists_of, seen_of, AreTables, ArePriceLists}
 use Rattle.tt_proof_read.specs.Reading.{seen_in, with_pair, next_pair_at, prices_at}
 use Rattle.tt_proof_read.proofs.Underway.{IsUnderway}
 use Rattle.tt_proof_read.proofs.prices.read_prices.Given as goal

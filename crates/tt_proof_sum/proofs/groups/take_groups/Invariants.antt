@@ -1,6 +1,6 @@
 use Rattle.std.proofs.Common.{◌≡◌}
 use Rattle.tt_text.specs.Feeds.{room_of}
-use Rattle.tt_proof_sum.specs.Claiming.{Underway}
+use Rattle.tt_proof_sum.specs.Inner.Claiming.{Underway}
 use Rattle.tt_proof_sum.proofs.groups.take_groups.Given as goal
 
 abbrev pub invariant-loop-claim : goal.invariant-loop-claim

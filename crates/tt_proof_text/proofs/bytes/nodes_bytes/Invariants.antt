@@ -1,7 +1,7 @@
 use Rattle.std.proofs.Common.{◌≡◌, ◌+◌, length, take}
 use Rattle.std.specs.List.{flat_map}
 use Rattle.tt_text.specs.Lines.{line_text}
-use Rattle.tt_proof_text.specs.Bytes.{clipped}
+use Rattle.tt_proof_text.specs.Inner.Bytes.{clipped}
 use Rattle.tt_proof_text.specs.Written.{node_pieces}
 use Rattle.tt_proof_text.proofs.bytes.nodes_bytes.Given as goal
 

@@ -1,7 +1,7 @@
 use Rattle.std.proofs.Common.{List, [], length, refl, ap, ◌∙◌}
 use Rattle.std.proofs.lemmas.List.{append-nil}
 use Rattle.tt_text.specs.Pieces.{Piece}
-use Rattle.tt_proof_text.specs.Bytes.{clipped}
+use Rattle.tt_proof_text.specs.Inner.Bytes.{clipped}
 use Rattle.tt_proof_text.specs.Written.{priced_pieces, tail_text}
 use Rattle.tt_proof_text.proofs.ByteLaws.{rows_counted}
 use Rattle.tt_proof_text.proofs.bytes.prices_bytes.Goals as goal

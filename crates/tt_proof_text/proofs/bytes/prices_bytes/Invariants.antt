@@ -1,6 +1,6 @@
 use Rattle.std.proofs.Common.{◌≡◌, ℕ, ◌+◌, length, take}
 use Rattle.std.specs.List.{flat_map}
-use Rattle.tt_proof_text.specs.Bytes.{clipped}
+use Rattle.tt_proof_text.specs.Inner.Bytes.{clipped}
 use Rattle.tt_proof_text.specs.Written.{priced_pieces, tail_text}
 use Rattle.tt_proof_text.proofs.bytes.prices_bytes.Given as goal
 

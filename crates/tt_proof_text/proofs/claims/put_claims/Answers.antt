@@ -1,7 +1,7 @@
 use Rattle.std.proofs.Common.{refl}
 use Rattle.std.proofs.lemmas.Result.{IfOk-equal}
 use Rattle.tt_proof_text.specs.Written.{claim_pieces, tail_text}
-use Rattle.tt_proof_text.specs.Numbers.{IsNarrowClaim}
+use Rattle.tt_proof_text.specs.Inner.Numbers.{IsNarrowClaim}
 use Rattle.tt_proof_text.proofs.TextLaws.{rows_written, pieces_behind, one_more, on_ok}
 use Rattle.tt_proof_text.proofs.claims.put_claims.Goals as goal
 use Rattle.tt_lists.proofs.Beginnings.{All_more, All_done}

@@ -1,6 +1,6 @@
 use Rattle.std.proofs.Common.{◌≡◌, ◌++◌, take, All}
 use Rattle.std.specs.List.{flat_map}
-use Rattle.tt_proof_text.specs.Numbers.{IsNarrowClaim}
+use Rattle.tt_proof_text.specs.Inner.Numbers.{IsNarrowClaim}
 use Rattle.tt_proof_text.specs.Written.{claim_pieces, tail_text}
 use Rattle.tt_proof_text.proofs.claims.put_claims.Given as goal
 

@@ -1,6 +1,6 @@
 use Rattle.std.proofs.Common.{arith, refl}
 use Rattle.std.proofs.lemmas.Grind.{common_steps}
-use Rattle.tt_proof_text.specs.Numbers.{IsNarrowPair}
+use Rattle.tt_proof_text.specs.Inner.Numbers.{IsNarrowPair}
 use Rattle.tt_proof_text.specs.Written.{priced_pieces}
 use Rattle.tt_proof_text.proofs.TextLaws.{rows_written}
 use Rattle.tt_proof_text.proofs.claims.put_prices.Goals as goal

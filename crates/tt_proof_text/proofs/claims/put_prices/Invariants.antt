@@ -1,6 +1,6 @@
 use Rattle.std.proofs.Common.{◌≡◌, ◌++◌, take, All}
 use Rattle.std.specs.List.{flat_map}
-use Rattle.tt_proof_text.specs.Numbers.{IsNarrowPair}
+use Rattle.tt_proof_text.specs.Inner.Numbers.{IsNarrowPair}
 use Rattle.tt_proof_text.specs.Written.{priced_pieces, tail_text}
 use Rattle.tt_proof_text.proofs.claims.put_prices.Given as goal
 

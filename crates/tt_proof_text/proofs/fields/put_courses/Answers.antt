@@ -1,7 +1,7 @@
 use Rattle.std.proofs.Common.{refl, [], ◌∷◌}
 use Rattle.std.proofs.lemmas.Result.{IfOk-equal}
 use Rattle.tt_proof_read.specs.Spelling.{course_piece}
-use Rattle.tt_proof_text.specs.Numbers.{IsNarrow}
+use Rattle.tt_proof_text.specs.Inner.Numbers.{IsNarrow}
 use Rattle.tt_proof_text.specs.Written.{tail_text}
 use Rattle.tt_proof_text.proofs.TextLaws.{pieces_written, pieces_behind, one_more}
 use Rattle.tt_proof_text.proofs.fields.put_courses.Goals as goal

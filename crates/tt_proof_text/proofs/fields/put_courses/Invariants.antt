@@ -1,7 +1,7 @@
 use Rattle.std.proofs.Common.{◌≡◌, [], ◌∷◌, ◌++◌, take, All}
 use Rattle.std.specs.List.{flat_map}
 use Rattle.tt_proof_read.specs.Spelling.{course_piece}
-use Rattle.tt_proof_text.specs.Numbers.{IsNarrow}
+use Rattle.tt_proof_text.specs.Inner.Numbers.{IsNarrow}
 use Rattle.tt_proof_text.specs.Written.{tail_text}
 use Rattle.tt_proof_text.proofs.fields.put_courses.Given as goal
 

@@ -1,5 +1,5 @@
 use Rattle.tt_text.specs.Lines.{line_text}
-use Rattle.tt_proof_text.specs.Numbers.{IsNarrowNode}
+use Rattle.tt_proof_text.specs.Inner.Numbers.{IsNarrowNode}
 use Rattle.tt_proof_text.specs.Written.{node_pieces}
 use Rattle.tt_proof_text.proofs.TextLaws.{lines_written, one_more}
 use Rattle.tt_proof_text.proofs.nodes.put_nodes.Goals as goal

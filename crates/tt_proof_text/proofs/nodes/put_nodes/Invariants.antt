@@ -1,7 +1,7 @@
 use Rattle.std.proofs.Common.{◌≡◌, ◌++◌, take, All}
 use Rattle.std.specs.List.{flat_map}
 use Rattle.tt_text.specs.Lines.{line_text}
-use Rattle.tt_proof_text.specs.Numbers.{IsNarrowNode}
+use Rattle.tt_proof_text.specs.Inner.Numbers.{IsNarrowNode}
 use Rattle.tt_proof_text.specs.Written.{node_pieces}
 use Rattle.tt_proof_text.proofs.nodes.put_nodes.Given as goal
 

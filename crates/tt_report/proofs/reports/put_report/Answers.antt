@@ -5,7 +5,7 @@ use Rattle.tt_instance_data.specs.Courses.{teachers}
 use Rattle.tt_instance_data.specs.declared.cell.Cell.{Cell}
 use Rattle.tt_table.specs.Groups.{Grouped}
 use Rattle.tt_text_output.specs.Puts.{Puts}
-use Rattle.tt_report.specs.Blocks.{block_text}
+use Rattle.tt_report.specs.Inner.Blocks.{block_text}
 use Rattle.tt_report.specs.Reports.{report_text}
 use Rattle.tt_report.specs.declared.blocks.Block.TheVariants as of
 use Rattle.tt_report.proofs.Written.{rooms_are, teachers_are, curricula_are}

@@ -1,4 +1,4 @@
-use Rattle.tt_report.specs.Blocks.{block_text}
+use Rattle.tt_report.specs.Inner.Blocks.{block_text}
 use Rattle.tt_report.specs.declared.blocks.Block.TheVariants as of
 use Rattle.tt_report.proofs.Written.{puts_further}
 use Rattle.tt_report.proofs.reports.put_teachers.Goals as goal

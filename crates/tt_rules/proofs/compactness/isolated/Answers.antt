@@ -5,7 +5,7 @@ use Rattle.tt_lists.proofs.Counting.{few_counted}
 use Rattle.tt_instance_data.specs.Cells.{is_of}
 use Rattle.tt_instance_data.specs.Courses.{in_curriculum}
 use Rattle.tt_rules.specs.Soft.{is_isolated}
-use Rattle.tt_rules.specs.Places.{place_of, is_alone}
+use Rattle.tt_rules.specs.Inner.Places.{place_of, is_alone}
 use Rattle.tt_rules.proofs.Neighbours.{isolated_counted, members_few}
 use Rattle.tt_rules.proofs.compactness.isolated.Goals as goal
 

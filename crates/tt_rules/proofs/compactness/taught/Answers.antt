@@ -5,7 +5,7 @@ use Rattle.std.proofs.lemmas.List.Folds.{list_any_more}
 use Rattle.std.proofs.lemmas.List.Elements.{All-filter}
 use Rattle.tt_lists.proofs.Filters.{list_any-of_filter}
 use Rattle.tt_instance_data.specs.Cells.{InRange, is_of}
-use Rattle.tt_rules.specs.Places.{place_of}
+use Rattle.tt_rules.specs.Inner.Places.{place_of}
 use Rattle.tt_rules.proofs.compactness.taught.Goals as goal
 
 pub mark_places-requires : goal.mark_places-requires

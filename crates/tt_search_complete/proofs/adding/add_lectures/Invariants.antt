@@ -1,5 +1,5 @@
-use Rattle.tt_search_construct.specs.Filled.{HasMore}
-use Rattle.tt_search_complete.specs.Progress.{Begins}
+use Rattle.tt_search_construct.specs.Inner.Filled.{HasMore}
+use Rattle.tt_search_complete.specs.Inner.Progress.{Begins}
 use Rattle.tt_search_complete.proofs.adding.add_lectures.Given as goal
 
 abbrev pub invariant-loop : goal.invariant-loop

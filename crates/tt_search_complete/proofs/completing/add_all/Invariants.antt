@@ -1,4 +1,4 @@
-use Rattle.tt_search_complete.specs.Progress.{IsCompletedTo}
+use Rattle.tt_search_complete.specs.Inner.Progress.{IsCompletedTo}
 use Rattle.tt_search_complete.proofs.completing.add_all.Given as goal
 
 abbrev pub invariant-loop-course : goal.invariant-loop-course

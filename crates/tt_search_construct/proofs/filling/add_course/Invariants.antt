@@ -1,4 +1,4 @@
-use Rattle.tt_search_construct.specs.Filled.{HasMore}
+use Rattle.tt_search_construct.specs.Inner.Filled.{HasMore}
 use Rattle.tt_search_construct.proofs.filling.add_course.Given as goal
 
 abbrev pub invariant-loop : goal.invariant-loop

@@ -1,7 +1,7 @@
 use Rattle.std.proofs.Common.{◌<◌, ◌≤◌, length, ◌∙◌, arith, length-append, ap}
 use Rattle.std.proofs.lemmas.List.{length-set}
 use Rattle.std.proofs.lemmas.Grind.{get_or_default_zero}
-use Rattle.tt_bits.specs.TrailStates.{TrailStates}
+use Rattle.tt_bits.specs.Inner.TrailStates.{TrailStates}
 use Rattle.tt_bits.proofs.Undoing.{climb_further, climb_at_most, tables_at-write, within_more}
 use Rattle.tt_bits.proofs.trail.Trail.set.Goals as goal
 

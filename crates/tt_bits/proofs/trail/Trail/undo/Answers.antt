@@ -1,6 +1,6 @@
 use Rattle.std.proofs.Common.{◌≡◌, ◌+◌, ◌≤◌, ◌++◌, [], ◌∷◌, refl, length, arith, ◌∙◌, ap, sym, length-append}
 use Rattle.std.proofs.lemmas.List.{length-set}
-use Rattle.tt_bits.specs.Undone.{table_at, tables_at}
+use Rattle.tt_bits.specs.Inner.Undone.{table_at, tables_at}
 use Rattle.tt_bits.proofs.Undoing.{climb_parts, last_taken, table_at-back, tables_at-back, within_parts, climb_at_most, at_most_all}
 use Rattle.tt_bits.proofs.trail.Trail.undo.Goals as goal
 

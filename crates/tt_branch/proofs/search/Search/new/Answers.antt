@@ -2,9 +2,9 @@ use Rattle.std.proofs.Common.{◌∷◌, ◌++◌, [], sym, ap, ◌∙◌, subst
 use Rattle.std.specs.Prelude.{slice_get}
 use Rattle.tt_branch.specs.declared.tree_node.TreeNode.{TreeNode}
 use Rattle.tt_branch.specs.declared.tree_node.NodeState.TheVariants.{Unopened}
-use Rattle.tt_branch.specs.Growing.{IsGrown}
-use Rattle.tt_branch.specs.BestSoFar.{table_of}
-use Rattle.tt_branch.specs.Links.{AreLinks}
+use Rattle.tt_branch.specs.Inner.Growing.{IsGrown}
+use Rattle.tt_branch.specs.Inner.BestSoFar.{table_of}
+use Rattle.tt_branch.specs.Inner.Links.{AreLinks}
 use Rattle.tt_branch.proofs.Chains.{no_links}
 use Rattle.tt_branch.proofs.Searching.{grow_root}
 use Rattle.tt_branch.proofs.search.Search.new.Goals as goal

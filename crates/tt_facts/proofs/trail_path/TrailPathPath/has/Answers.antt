@@ -1,5 +1,5 @@
 use Rattle.std.proofs.Common.{true, sym, ap, ◌∙◌}
-use Rattle.tt_facts_path.specs.Paths.{Facts}
+use Rattle.tt_facts_path.specs.Inner.Paths.{Facts}
 use Rattle.tt_facts_path.specs.Facts.{has_fact}
 use Rattle.tt_facts.proofs.Halving.{stands_by_yes, by_halves}
 use Rattle.tt_facts.proofs.trail_path.TrailPathPath.has.Goals as goal

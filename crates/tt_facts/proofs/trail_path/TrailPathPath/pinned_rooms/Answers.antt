@@ -1,5 +1,5 @@
 use Rattle.std.proofs.Common.{◌+◌, ◌*◌, ◌&&◌, length, ap, ◌∙◌}
-use Rattle.tt_facts_path.specs.Paths.{Facts}
+use Rattle.tt_facts_path.specs.Inner.Paths.{Facts}
 use Rattle.std.specs.Prelude.{nat_lt}
 use Rattle.tt_facts_path.specs.Live.{pinned_room}
 use Rattle.tt_facts.proofs.Halving.{room_pinned_by_yes, by_halves}

@@ -1,7 +1,7 @@
 use Rattle.std.proofs.Common.{not, sym, ap, ◌∙◌, subst}
 use Rattle.tt_instance_data.specs.Cells.{InRange}
 use Rattle.tt_facts_path.specs.Live.{is_dead}
-use Rattle.tt_facts_path.specs.Paths.{Facts}
+use Rattle.tt_facts_path.specs.Inner.Paths.{Facts}
 use Rattle.tt_facts_cells.proofs.Asked.{dead-cell}
 use Rattle.tt_facts_cells.proofs.cells.Cells.dead.Goals as goal
 

@@ -1,6 +1,6 @@
 use Rattle.std.proofs.Common.{◌-◌, Some, sym, ap, ◌∙◌}
 use Rattle.tt_instance_data.specs.Cells.{slot}
-use Rattle.tt_facts_path.specs.Paths.{Facts}
+use Rattle.tt_facts_path.specs.Inner.Paths.{Facts}
 use Rattle.tt_instance_data.specs.Courses.{students}
 use Rattle.tt_facts_cells.proofs.Ranked.{least_excess-roomiest, least_excess-none}
 use Rattle.tt_facts_cells.proofs.cells.Cells.least_excess.Goals as goal

@@ -1,11 +1,11 @@
 use Rattle.std.proofs.Common.{◌≤◌, not, ap, ◌∙◌, arith}
 use Rattle.std.specs.List.{list_any}
 use Rattle.std.proofs.Math.Bool.{not-not}
-use Rattle.tt_bits.specs.Bits.{has_bit, bits}
+use Rattle.tt_bits.specs.Inner.Bits.{has_bit, bits}
 use Rattle.tt_bits.proofs.Counts.{any-set}
 use Rattle.tt_instance_data.specs.Cells.{slot}
 use Rattle.tt_facts_path.specs.Live.{live_period}
-use Rattle.tt_facts_path.specs.Paths.{Facts}
+use Rattle.tt_facts_path.specs.Inner.Paths.{Facts}
 use Rattle.tt_facts_cells.proofs.cells.Cells.live_day.Goals as goal
 
 pub returns : goal.returns

@@ -2,7 +2,7 @@ use Rattle.std.proofs.Common.{◌<◌, ◌&&◌, length, ap, ◌∙◌, arith}
 use Rattle.std.specs.Prelude.{nat_lt}
 use Rattle.tt_instance_data.specs.Cells.{slot}
 use Rattle.tt_facts_path.specs.Live.{live_period}
-use Rattle.tt_facts_path.specs.Paths.{Facts}
+use Rattle.tt_facts_path.specs.Inner.Paths.{Facts}
 use Rattle.tt_facts_cells.proofs.Asked.{live-periods}
 use Rattle.tt_facts_cells.proofs.cells.Cells.live_periods.Goals as goal
 

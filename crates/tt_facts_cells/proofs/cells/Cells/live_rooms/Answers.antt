@@ -2,7 +2,7 @@ use Rattle.std.proofs.Common.{◌+◌, ◌*◌, ◌<◌, ◌&&◌, length, ap, �
 use Rattle.std.specs.Prelude.{nat_lt}
 use Rattle.tt_instance_data.specs.Cells.{slot, cell}
 use Rattle.tt_facts_path.specs.Live.{is_live}
-use Rattle.tt_facts_path.specs.Paths.{Facts}
+use Rattle.tt_facts_path.specs.Inner.Paths.{Facts}
 use Rattle.tt_facts_cells.proofs.Asked.{live-rooms}
 use Rattle.tt_facts_cells.proofs.cells.Cells.live_rooms.Goals as goal
 

@@ -1,8 +1,8 @@
 use Rattle.std.proofs.Common.{◌≡◌, true, [], ◌∷◌, ◌++◌, length, ap, ◌∙◌, subst, sym, arith}
 use Rattle.std.proofs.Common.{length-append}
 use Rattle.tt_facts_path.specs.Facts.{has_fact}
-use Rattle.tt_facts_path.specs.Paths.{Facts}
-use Rattle.tt_facts_cells.specs.Shown.{AreListed, AreTables}
+use Rattle.tt_facts_path.specs.Inner.Paths.{Facts}
+use Rattle.tt_facts_cells.specs.Inner.Shown.{AreListed, AreTables}
 use Rattle.tt_facts_cells.proofs.Listed.{listing-now, listed-fact, listed-before}
 use Rattle.tt_facts_cells.proofs.Earlier.{earlier_pushed}
 use Rattle.tt_facts_cells.proofs.cells.Cells.push.Goals as goal

@@ -3,8 +3,8 @@ use Rattle.std.proofs.lemmas.Bool.{both_ways, false_from_ne_true}
 use Rattle.tt_lists.proofs.Numbers.{any_below}
 use Rattle.tt_instance_data.specs.Cells.{slot, cell}
 use Rattle.tt_facts_path.specs.Live.{is_live, live_period}
-use Rattle.tt_facts_path.specs.Paths.{Facts}
-use Rattle.tt_facts_cells.specs.Order.{IsRoomOrder}
+use Rattle.tt_facts_path.specs.Inner.Paths.{Facts}
+use Rattle.tt_facts_cells.specs.Inner.Order.{IsRoomOrder}
 use Rattle.tt_facts_cells.specs.declared.order.Ranked.{Ranked}
 use Rattle.tt_facts_cells.proofs.Ranked.{is_ranked, roomiest_at, none_live}
 use Rattle.tt_facts_cells.proofs.cells.Cells.roomiest.Goals as goal

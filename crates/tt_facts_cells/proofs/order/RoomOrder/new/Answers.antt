@@ -1,7 +1,7 @@
 use Rattle.std.proofs.Common.{rules, subst}
 use Rattle.std.specs.Prelude.{IsPermutation}
 use Rattle.std.proofs.lemmas.List.Sorted.{IsNonDecreasingBy-from_sort_by_key}
-use Rattle.tt_facts_cells.specs.Order.{rank}
+use Rattle.tt_facts_cells.specs.Inner.Order.{rank}
 use Rattle.tt_facts_cells.proofs.order.RoomOrder.new.Goals as goal
 
 pub returns : goal.returns

@@ -2,8 +2,8 @@ use Rattle.std.proofs.Common.{◌≡◌, ◌-◌, length, refl, ap, ◌∙◌, r
 use Rattle.std.specs.List.{list_all, range_with_len}
 use Rattle.std.proofs.lemmas.Iterator.{YieldsList-from_range}
 use Rattle.std.proofs.lemmas.Iterator.Search.{all_from_yields_List}
-use Rattle.tt_facts_path.specs.Nested.{numbers_given, is_room_lost}
-use Rattle.tt_facts_path.specs.Paths.{Facts}
+use Rattle.tt_facts_path.specs.Inner.Nested.{numbers_given, is_room_lost}
+use Rattle.tt_facts_path.specs.Inner.Paths.{Facts}
 use Rattle.tt_facts_path.proofs.plain.PlainPath.are_rooms_lost.Goals as goal
 
 pub returns : goal.returns

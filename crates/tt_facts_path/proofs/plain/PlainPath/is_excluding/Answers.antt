@@ -1,5 +1,5 @@
 use Rattle.std.proofs.Common.{◌≤◌, length, sym, ap, ◌∙◌, arith, le-leb}
-use Rattle.tt_facts_path.specs.Paths.{Facts}
+use Rattle.tt_facts_path.specs.Inner.Paths.{Facts}
 use Rattle.tt_facts_path.proofs.Lost.{excludes-by_one, excludes-by_members, excludes-by_nobody}
 use Rattle.tt_facts_path.proofs.plain.PlainPath.is_excluding.Goals as goal
 

@@ -1,5 +1,5 @@
 use Rattle.std.proofs.Common.{sym, ap, ◌∙◌, rules}
-use Rattle.tt_facts_path.specs.Nested.{numbers_given}
+use Rattle.tt_facts_path.specs.Inner.Nested.{numbers_given}
 use Rattle.tt_facts_path.proofs.Given.{each_number, one_number, no_number}
 use Rattle.tt_facts_path.proofs.plain.cells.numbers_given.Goals as goal
 

@@ -1,6 +1,6 @@
 use Rattle.std.proofs.Common.{sym, ap, ◌∙◌}
 use Rattle.tt_facts_path.specs.Facts.{has_fact}
-use Rattle.tt_facts_path.specs.Paths.{Facts}
+use Rattle.tt_facts_path.specs.Inner.Paths.{Facts}
 use Rattle.tt_facts_pins.proofs.FactTable.{unplaced_has_fact}
 use Rattle.tt_facts_pins.proofs.pins.Pins.has.Goals as goal
 

@@ -1,8 +1,8 @@
 use Rattle.std.proofs.Common.{◌+◌, ◌*◌, ◌<◌, ◌&&◌, length, ap, ◌∙◌, arith}
 use Rattle.std.specs.Prelude.{nat_lt, slice_index_or}
 use Rattle.tt_facts_path.specs.Live.{pinned_room}
-use Rattle.tt_facts_path.specs.Paths.{Facts}
-use Rattle.tt_bits.specs.Bits.{has_bit}
+use Rattle.tt_facts_path.specs.Inner.Paths.{Facts}
+use Rattle.tt_bits.specs.Inner.Bits.{has_bit}
 use Rattle.tt_facts_pins.proofs.Shown.{block_shown}
 use Rattle.tt_facts_pins.proofs.pins.Pins.pinned_rooms.Goals as goal
 

@@ -1,6 +1,6 @@
 use Rattle.std.proofs.Common.{◌≡◌, ◌++◌, [], ◌∷◌, length, length-append, ap, arith}
-use Rattle.tt_facts_pins.specs.Tables.{ShowsPins}
-use Rattle.tt_facts_pins.specs.FactTable.{ShowsFacts}
+use Rattle.tt_facts_pins.specs.Inner.Tables.{ShowsPins}
+use Rattle.tt_facts_pins.specs.Inner.FactTable.{ShowsFacts}
 use Rattle.tt_facts_pins.proofs.Earlier.{earlier_popped}
 use Rattle.tt_facts_pins.proofs.pins.Pins.pop.Goals as goal
 

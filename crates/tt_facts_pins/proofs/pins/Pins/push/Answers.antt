@@ -1,7 +1,7 @@
 use Rattle.std.proofs.Common.{◌≡◌, ◌++◌, [], ◌∷◌, length, length-append, ap, arith}
-use Rattle.tt_facts_path.specs.Paths.{Facts}
-use Rattle.tt_facts_pins.specs.Tables.{ShowsPins}
-use Rattle.tt_facts_pins.specs.FactTable.{ShowsFacts}
+use Rattle.tt_facts_path.specs.Inner.Paths.{Facts}
+use Rattle.tt_facts_pins.specs.Inner.Tables.{ShowsPins}
+use Rattle.tt_facts_pins.specs.Inner.FactTable.{ShowsFacts}
 use Rattle.tt_facts_pins.proofs.Earlier.{earlier_pushed}
 use Rattle.tt_facts_pins.proofs.Shown.{shown_more}
 use Rattle.tt_facts_pins.proofs.FactTable.{fact_table_more}

@@ -1,5 +1,5 @@
 use Rattle.std.proofs.Common.{◌≡◌, ℕ, List, Bool, false, ◌||◌, get_or, sym, ap, ◌∙◌}
-use Rattle.tt_instance_data.specs.Flags.{flags_in}
+use Rattle.tt_instance_data.specs.Inner.Flags.{flags_in}
 use Rattle.tt_instance_data.proofs.Flagging.{added, same_length}
 use Rattle.tt_instance_data.proofs.marks.Marks.mark_all.Goals as goal
 

@@ -1,5 +1,5 @@
 use Rattle.std.proofs.Common.{◌≡◌, ℕ, ◌<◌, [], length, slice_index_or}
-use Rattle.tt_instance_links.specs.Links.{conflicts_of}
+use Rattle.tt_instance_links.specs.Inner.Links.{conflicts_of}
 use Rattle.tt_instance_links.proofs.links.Conflicts.new.Given as goal
 
 abbrev pub invariant-loop-course : goal.invariant-loop-course

@@ -1,5 +1,5 @@
 use Rattle.std.proofs.Common.{not, ◌&&◌, sym, ap, ◌∙◌}
-use Rattle.tt_leaf_rules.specs.NumberSet.{are_new}
+use Rattle.tt_leaf_rules.specs.Inner.NumberSet.{are_new}
 use Rattle.tt_leaf_rules.proofs.Meeting.{new_then}
 use Rattle.tt_leaf_rules.proofs.number_set.NumberSet.insert.Goals as goal
 

@@ -3,7 +3,7 @@ use Rattle.std.specs.Prelude.{filter}
 use Rattle.std.proofs.lemmas.List.{take_all, take_more}
 use Rattle.tt_instance_data.specs.Cells.{all_curricula}
 use Rattle.tt_instance_data.specs.Courses.{in_curriculum}
-use Rattle.tt_occupancy.specs.NeighbourCounts.{IsIsolationChange}
+use Rattle.tt_occupancy.specs.Inner.NeighbourCounts.{IsIsolationChange}
 use Rattle.tt_occupancy.proofs.TakenPeriods.{gaps_alone, gaps_joined}
 use Rattle.tt_moves.proofs.rest.WithoutEntry.isolation_change.Goals as goal
 

@@ -1,7 +1,7 @@
 use Rattle.std.proofs.Common.{◌+◌, ◌*◌, ◌≤◌, List, take}
 use Rattle.tt_instance_data.specs.declared.cell.Cell.{Cell}
-use Rattle.tt_occupancy.specs.NeighbourCounts.{IsIsolationChange}
-use Rattle.tt_moves.specs.Rests.{IsRest}
+use Rattle.tt_occupancy.specs.Inner.NeighbourCounts.{IsIsolationChange}
+use Rattle.tt_moves.specs.Inner.Rests.{IsRest}
 use Rattle.tt_table.specs.declared.table.TheConstants.{MAX_ENTRIES}
 use Rattle.tt_moves.proofs.rest.WithoutEntry.isolation_change.Given as goal
 

@@ -1,9 +1,9 @@
 use Rattle.std.proofs.Common.{◌&&◌, cond, refl, sym, ap, ◌∙◌, arith, eq-eqb}
 use Rattle.std.specs.Prelude.{◌==◌, nat_lt, slice_index}
 use Rattle.std.proofs.lemmas.Bool.{lt-ltb}
-use Rattle.tt_bits.specs.Bits.{has_bit}
+use Rattle.tt_bits.specs.Inner.Bits.{has_bit}
 use Rattle.tt_lists.proofs.Sums.{one_if}
-use Rattle.tt_occupancy_tallies.specs.Counts.{in_period}
+use Rattle.tt_occupancy_tallies.specs.Inner.Counts.{in_period}
 use Rattle.tt_occupancy_tallies.proofs.Marks.{marks_kept}
 use Rattle.tt_occupancy_tallies.proofs.Places.{at_period}
 use Rattle.tt_occupancy_tallies.proofs.marked.Marked.add.Goals as goal

@@ -1,6 +1,6 @@
 use Rattle.std.proofs.Common.{◌&&◌, cond, take}
 use Rattle.std.specs.Prelude.{count_by, ◌==◌}
-use Rattle.tt_occupancy_tallies.specs.Counts.{IsMore}
+use Rattle.tt_occupancy_tallies.specs.Inner.Counts.{IsMore}
 use Rattle.tt_occupancy_tallies.proofs.marked.Marked.add_rows.Given as goal
 
 abbrev pub invariant-loop-row : goal.invariant-loop-row

@@ -1,8 +1,8 @@
 use Rattle.std.proofs.Common.{◌<◌, cond, sym, ap, ◌∙◌, subst, arith}
 use Rattle.std.specs.Prelude.{◌==◌, nat_lt, slice_index}
-use Rattle.tt_bits.specs.Bits.{has_bit}
+use Rattle.tt_bits.specs.Inner.Bits.{has_bit}
 use Rattle.tt_lists.proofs.Sums.{one_if}
-use Rattle.tt_occupancy_tallies.specs.Counts.{in_period}
+use Rattle.tt_occupancy_tallies.specs.Inner.Counts.{in_period}
 use Rattle.tt_occupancy_tallies.proofs.Marks.{marks_kept}
 use Rattle.tt_occupancy_tallies.proofs.marked.Marked.take.Goals as goal
 

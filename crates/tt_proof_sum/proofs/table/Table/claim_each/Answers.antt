@@ -1,5 +1,5 @@
 use Rattle.std.proofs.Common.{ℕ, ◌<◌, sym, subst}
-use Rattle.tt_leaf_rules.specs.NumberSet.{places_of}
+use Rattle.tt_leaf_rules.specs.Inner.NumberSet.{places_of}
 use Rattle.tt_leaf_data.specs.declared.leaf.Claim.{Claim}
 use Rattle.tt_proof_sum.specs.Tables.{at_node}
 use Rattle.tt_proof_sum.proofs.Tables.{claims_more_is}

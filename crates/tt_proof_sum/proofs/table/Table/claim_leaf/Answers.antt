@@ -1,6 +1,6 @@
 use Rattle.std.proofs.Common.{ℕ, List, map, sym, ap, ◌∙◌, subst}
 use Rattle.std.specs.Prelude.{flat_map}
-use Rattle.tt_leaf_rules.specs.NumberSet.{place, places_of}
+use Rattle.tt_leaf_rules.specs.Inner.NumberSet.{place, places_of}
 use Rattle.tt_leaf_data.specs.declared.leaf.Claim.{Claim}
 use Rattle.tt_leaf_data.specs.declared.leaf.Leaf.{Leaf}
 use Rattle.tt_proof_sum.specs.Sums.{claimed_in}

@@ -1,6 +1,6 @@
 use Rattle.std.proofs.Common.{ℕ, ◌*◌, List, [], ◌∷◌, sym, ap, ◌∙◌, subst}
 use Rattle.std.specs.Prelude.{flat_map}
-use Rattle.tt_leaf_rules.specs.NumberSet.{places_of}
+use Rattle.tt_leaf_rules.specs.Inner.NumberSet.{places_of}
 use Rattle.tt_leaf_data.specs.declared.leaf.Claim.{Claim}
 use Rattle.tt_proof_sum.specs.Tables.{Claims, at_node}
 use Rattle.tt_proof_sum.proofs.Tables.{priced_places}

@@ -1,5 +1,5 @@
 use Rattle.std.proofs.Common.{◌≡◌, ap, inl, inr}
-use Rattle.tt_report.specs.Blocks.{shown_in}
+use Rattle.tt_report.specs.Inner.Blocks.{shown_in}
 use Rattle.tt_report.specs.Reports.{course_and_room}
 use Rattle.tt_report.proofs.Written.{course_put, course_and_room_put}
 use Rattle.tt_report.proofs.blocks.Block.put_entry.Goals as goal

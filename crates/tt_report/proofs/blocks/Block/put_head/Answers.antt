@@ -1,4 +1,4 @@
-use Rattle.tt_report.specs.Blocks.{head_of}
+use Rattle.tt_report.specs.Inner.Blocks.{head_of}
 use Rattle.tt_report.proofs.Written.{head_put}
 use Rattle.tt_report.proofs.blocks.Block.put_head.Goals as goal
 

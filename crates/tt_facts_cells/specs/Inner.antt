@@ -1,0 +1,13 @@
+-- Definitions that only clauses of private functions name: not part of the trusted statement.
+pub mod First
+pub mod Killing
+pub mod Listing
+pub mod Order
+pub mod Rooms
+pub mod Shown
+pub mod Slots
+pub mod Spread
+pub mod Struck
+pub mod Tables
+pub mod Touching
+pub mod Words

@@ -1,0 +1,5 @@
+-- Definitions that only clauses of private functions name: not part of the trusted statement.
+pub mod Counted
+pub mod Fields
+pub mod NeighbourCounts
+pub mod Weights

@@ -1,0 +1,5 @@
+-- Definitions that only clauses of private functions name: not part of the trusted statement.
+pub mod Counts
+pub mod Links
+pub mod Neighbours
+pub mod Tables

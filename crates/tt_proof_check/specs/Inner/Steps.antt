@@ -1,0 +1,34 @@
+-- The change of a path by one node.
+use Rattle.std.specs.Prelude.{◌≡◌, true, List, length, Some, ⊤}
+use Rattle.tt_instance_data.specs.Problem.{Problem}
+use Rattle.tt_facts_path.specs.declared.facts.Fact.{Fact}
+use Rattle.tt_facts_path.specs.declared.path.PathFault.{PathFault}
+use Rattle.tt_facts_path.specs.declared.path.PathFault.TheVariants as path
+use Rattle.tt_leaf_rules.specs.Faults.{fault_of}
+use Rattle.tt_leaf_rules.specs.Leaves.{IsRight}
+use Rattle.tt_leaf_data.specs.declared.leaf.Bound.{Bound}
+use Rattle.tt_proof_read.specs.Trees.{with_fact}
+use Rattle.tt_proof_read.specs.declared.node.Node.{Node}
+use Rattle.tt_proof_read.specs.declared.node.Node.TheVariants.{Split, Leaf}
+use Rattle.tt_proof_check.specs.declared.walk.Stop.{Stop}
+use Rattle.tt_proof_check.specs.declared.walk.Stop.TheVariants.{Rule, TooDeep, OutOfMemory}
+use Rattle.tt_proof_check.specs.Inner.Pending.{ContinuesWith}
+use Rattle.tt_facts_path.specs.declared.path.TheConstants.{MAX_FACTS}
+
+-- a split leads down to its first child, and a right leaf to the next place
+abbrev pub Steps : Problem → Bound → List Fact → Node → List Fact → Type 0
+Steps p b facts (Split g) next = next ≡ with_fact facts g true
+Steps p b facts (Leaf leaf) next = IsRight p facts b leaf × ContinuesWith facts next
+
+-- only a leaf breaks a rule, and only a split can be too deep
+abbrev pub Stops : Problem → Bound → List Fact → Node → Stop → Type 0
+Stops p b facts (Split g) (Rule f) = ⊥
+Stops p b facts (Leaf leaf) (Rule f) = fault_of p facts b leaf ≡ Some f
+Stops p b facts (Split g) TooDeep = length facts ≡ MAX_FACTS
+Stops p b facts (Leaf leaf) TooDeep = ⊥
+Stops p b facts node OutOfMemory = ⊤
+
+-- the reason to stop if a fact was not added
+abbrev pub stop_of : PathFault → Stop
+stop_of path.TooDeep = TooDeep
+stop_of path.OutOfMemory = OutOfMemory
