@@ -56,16 +56,20 @@ read_upgraded upgrade.OutOfMemory e = cc
 -- ---- whether a read or a write has failed, after an error that a call passed on
 
 -- the call reports a failure exactly if the one below it does
-pub passed : {A E : Type 0} (r : Result A E) (f : E) (passes : E → Bool) (below before after : Bool) → IsErrAnd r (λ e. e ≡ f) → passes f ≡ below → after ≡ (if below then true else before)
+pub passed : {A E : Type 0} (r : Result A E) (f : E) (passes : E → Bool) (below before after : Bool) → IsErrAnd r (λ e. e ≡ f)
+    → passes f ≡ below → after ≡ (if below then true else before)
     → after ≡ (if is_err_and r passes then true else before)
-passed r f passes below before after e is h = same_reads r f passes before before after e (h ∙ ap (λ (b : Bool). if b then true else before) (sym is)) refl
+passed r f passes below before after e is h = same_reads r f passes before before after e
+    (h ∙ ap (λ (b : Bool). if b then true else before) (sym is)) refl
 
 -- the error is no failure, and there was none
-pub calm : {A E : Type 0} (r : Result A E) (f : E) (passes : E → Bool) (before after : Bool) → IsErrAnd r (λ e. e ≡ f) → passes f ≡ false → after ≡ before → after ≡ (if is_err_and r passes then true else before)
+pub calm : {A E : Type 0} (r : Result A E) (f : E) (passes : E → Bool) (before after : Bool) → IsErrAnd r (λ e. e ≡ f)
+    → passes f ≡ false → after ≡ before → after ≡ (if is_err_and r passes then true else before)
 calm r f passes before after e quiet h = passed r f passes false before after e quiet h
 
 -- a source that isn't read is as it was
-pub unread : {R : Type 0} (failed : R → Bool) (all : List R) (i : ℕ) (r : R) → slice_get all i ≡ Some r → failed r ≡ failed (slice_index_or all i r)
+pub unread : {R : Type 0} (failed : R → Bool) (all : List R) (i : ℕ) (r : R) → slice_get all i ≡ Some r
+    → failed r ≡ failed (slice_index_or all i r)
 unread failed all i r found = ap failed (sym (get_or_from_slice_get all i r r found))
 
 pub check_read : (f : CheckFault) → is_failed_read (fault_from_check f) ≡ checks.is_failed_read f

@@ -23,12 +23,14 @@ tells_instance i s instance.OutOfMemory h = tt
 tells_instance i s f h = h
 
 -- an error of the solution is reported
-pub tells_solution : (i s : List ℕ) (p : Problem) (f : SolutionFault) → Spells i p → FailsTable f (solution_of p s) → IsFileRefusal i s (fault_from_solution f)
+pub tells_solution : (i s : List ℕ) (p : Problem) (f : SolutionFault) → Spells i p → FailsTable f (solution_of p s)
+    → IsFileRefusal i s (fault_from_solution f)
 tells_solution i s p solution.OutOfMemory spelled h = tt
 tells_solution i s p f spelled h = record { problem = p; spelled = spelled; fails = h }
 
 -- if both are spelled, the only error is being out of memory
-pub only_memory : (i s : List ℕ) (p : Problem) (t : List Cell) (f : AppFault) → SpellsBoth i s p t → IsFileRefusal i s f → f ≡ fault.OutOfMemory
+pub only_memory : (i s : List ℕ) (p : Problem) (t : List Cell) (f : AppFault) → SpellsBoth i s p t → IsFileRefusal i s f
+    → f ≡ fault.OutOfMemory
 only_memory i s p t (fault.Instance f) both h = let e = is_read i p both.spelled in absurd cc
 only_memory i s p t (fault.Solution f) both h =
     let same : h.problem ≡ p = spelled_once i h.problem p h.spelled both.spelled in

@@ -24,5 +24,7 @@ pub record SumHere (p : Problem) (proofs : List (List ℕ)) (b : Bound) : Type 0
   pub is : IsSum p proofs b
   pub within : all_points is.parts < 2 ^ 64
 
-pub sum_here : (i : List ℕ) (proofs : List (List ℕ)) (p read : Problem) (b : Bound) → Spells i p → Spells i read → (h : IsSum p proofs b) → all_points h.parts < 2 ^ 64 → SumHere read proofs b
-sum_here i proofs p read b spells found h within = subst (λ (q : Problem). SumHere q proofs b) (spelled_once i p read spells found) (record { is = h; within = within })
+pub sum_here : (i : List ℕ) (proofs : List (List ℕ)) (p read : Problem) (b : Bound) → Spells i p → Spells i read
+    → (h : IsSum p proofs b) → all_points h.parts < 2 ^ 64 → SumHere read proofs b
+sum_here i proofs p read b spells found h within = subst (λ (q : Problem). SumHere q proofs b) (spelled_once i p read spells found)
+    (record { is = h; within = within })

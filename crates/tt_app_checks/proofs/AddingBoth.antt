@@ -45,7 +45,8 @@ module _ (i s : List ℕ) (p : Problem) (t : List Cell) (spelled : Spells i p) (
   both : SpellsBoth i s p t
   both = record { spelled = spelled; solved = solved }
 
-  pub sum_certified : (files : List (List ℕ)) (c b : ℕ) (h : CertifiesSum i s files c b) → all_points h.sum.parts < 2 ^ 64 → Certified p t files c b
+  pub sum_certified : (files : List (List ℕ)) (c b : ℕ) (h : CertifiesSum i s files c b) → all_points h.sum.parts < 2 ^ 64
+      → Certified p t files c b
   sum_certified files c b h within =
       let same : h.solves.problem ≡ p = spelled_once i h.solves.problem p h.solves.both.spelled spelled in
       let there : SpellsTable p s h.solves.table × Certified p h.solves.table files c b =
@@ -54,8 +55,10 @@ module _ (i s : List ℕ) (p : Problem) (t : List Cell) (spelled : Spells i p) (
       subst (λ (u : List Cell). Certified p u files c b) (one_table s i p h.solves.table t spelled there.0 solved) there.1
 
   module _ (score : Score) (is : IsScore p t score) where
-    pub sum_not_certified : (files : List (List ℕ)) (c b : ℕ) → (broken_by score ≡ 0 → ⊥) → (h : CertifiesSum i s files c b) → all_points h.sum.parts < 2 ^ 64 → ⊥
-    sum_not_certified files c b broken h within = broken ((feasible_is p t score solved.in_range is).1 (sum_certified files c b h within).feasible)
+    pub sum_not_certified : (files : List (List ℕ)) (c b : ℕ) → (broken_by score ≡ 0 → ⊥) → (h : CertifiesSum i s files c b)
+        → all_points h.sum.parts < 2 ^ 64 → ⊥
+    sum_not_certified files c b broken h within =
+        broken ((feasible_is p t score solved.in_range is).1 (sum_certified files c b h within).feasible)
 
     pub sum_cost : (files : List (List ℕ)) (c b : ℕ) (h : CertifiesSum i s files c b) → all_points h.sum.parts < 2 ^ 64 → costs_of score ≡ c
     sum_cost files c b h within = cost_is p t score is ∙ (sum_certified files c b h within).costs
@@ -67,15 +70,24 @@ module _ (i s : List ℕ) (p : Problem) (t : List Cell) (spelled : Spells i p) (
     solves_here e = record { problem = p; table = t; both = both; feasible = feasible_here e; costs = sym (cost_is p t score is) }
 
     -- an error of the proofs is reported
-    pub sum_fails : (gives : List (List ℕ) → Type 0) (f : SumFault) → broken_by score ≡ 0 → ((files : List (List ℕ)) → gives files → IsSumFault p files f) → IsSumCheckFault i s gives (fault_from_sum f)
+    pub sum_fails : (gives : List (List ℕ) → Type 0) (f : SumFault) → broken_by score ≡ 0
+        → ((files : List (List ℕ)) → gives files → IsSumFault p files f) → IsSumCheckFault i s gives (fault_from_sum f)
     sum_fails gives (sum.Proof n f) e h = record { problem = p; table = t; both = both; feasible = feasible_here e; fails = h }
     sum_fails gives (sum.Groups n f) e h = record { problem = p; table = t; both = both; feasible = feasible_here e; fails = h }
     sum_fails gives (sum.ClaimedElsewhere n k x) e h = record { problem = p; table = t; both = both; feasible = feasible_here e; fails = h }
     sum_fails gives (sum.TooLarge n) e h = record { problem = p; table = t; both = both; feasible = feasible_here e; fails = h }
     sum_fails gives sum.OutOfMemory e h = tt
 
-    pub sum_yes : (gives : List (List ℕ) → Type 0) (b : ℕ) → broken_by score ≡ 0 → ((files : List (List ℕ)) → gives files → IsSum p files (AtLeast b)) → HoldsOfAll p (AtLeast b) → IsSumYes i s gives (costs_of score) b
+    pub sum_yes : (gives : List (List ℕ) → Type 0) (b : ℕ) → broken_by score ≡ 0
+        → ((files : List (List ℕ)) → gives files → IsSum p files (AtLeast b)) → HoldsOfAll p (AtLeast b)
+        → IsSumYes i s gives (costs_of score) b
     sum_yes gives b e derived holds =
-        let all : BoundsAll i b = λ other spells. subst (λ (x : Problem). HoldsOfAll x (AtLeast b)) (spelled_once i p other spelled spells) holds in
+        let all : BoundsAll i b = λ other spells. subst (λ (x : Problem). HoldsOfAll x (AtLeast b))
+        (spelled_once i p other spelled spells) holds in
         let within : b ≤ costs_of score = subst (λ (n : ℕ). b ≤ n) (sym (cost_is p t score is)) (holds t (feasible_here e)) in
-        record { solves = solves_here e; certified = λ files given. record { solves = solves_here e; sum = derived files given }; bounds = all; within = within }
+        record {
+          solves = solves_here e;
+          certified = λ files given. record { solves = solves_here e; sum = derived files given };
+          bounds = all;
+          within = within;
+        }

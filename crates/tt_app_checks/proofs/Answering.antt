@@ -11,7 +11,8 @@ use Rattle.tt_app_answers.specs.FaultMaps.{fault_from_certify}
 use Rattle.tt_app_answers.specs.declared.answer.Answer.{Answer}
 
 -- an error of the checker is reported
-pub explains : (i s : List ℕ) (proof : Option (List ℕ)) (f : CertifyFault) → IsFirstFault i s proof f → IsCheckRefusal i s proof (fault_from_certify f)
+pub explains : (i s : List ℕ) (proof : Option (List ℕ)) (f : CertifyFault) → IsFirstFault i s proof f
+    → IsCheckRefusal i s proof (fault_from_certify f)
 explains i s proof (certify.Instance instance.OutOfMemory) h = tt
 explains i s proof (certify.Instance f) h = h
 explains i s proof (certify.Solution solution.OutOfMemory) h = tt

@@ -26,7 +26,8 @@ module _ (i : List ℕ) (p : Problem) (q : Option (List ℕ)) (spells : Spells i
   whole f h = record { problem = p; spelled = spells; fails = reported q (λ bytes. IsUpgradeFault p (stream_of bytes) f) h }
 
   -- an error of the proof is reported
-  pub upgrade_tells : (f : UpgradeFault) → ((bytes : List ℕ) → q ≡ Some bytes → IsUpgradeFault p (stream_of bytes) f) → IsUpgradeRefusal i q (fault_from_upgrade f)
+  pub upgrade_tells : (f : UpgradeFault) → ((bytes : List ℕ) → q ≡ Some bytes → IsUpgradeFault p (stream_of bytes) f)
+      → IsUpgradeRefusal i q (fault_from_upgrade f)
   upgrade_tells (upgrade.Proof check.OutOfMemory) h = tt
   upgrade_tells (upgrade.Proof (check.Text f)) h = whole (upgrade.Proof (check.Text f)) h
   upgrade_tells (upgrade.Proof (check.Rule n f)) h = whole (upgrade.Proof (check.Rule n f)) h
@@ -34,8 +35,18 @@ module _ (i : List ℕ) (p : Problem) (q : Option (List ℕ)) (spells : Spells i
   upgrade_tells upgrade.TooLarge h = whole upgrade.TooLarge h
   upgrade_tells upgrade.OutOfMemory h = tt
 
-  pub rewritten : (a : Answer) (b : Bound) (out : List ℕ) → ((bytes : List ℕ) → q ≡ Some bytes → IsUpgraded p bytes b out) → HoldsOfAll p b → IsUpgradeAnswer a b out → IsRewritten i q a
-  rewritten a b out h holds answer = record { problem = p; spelled = spells; bound = b; out = out; upgraded = reported q (λ bytes. IsUpgraded p bytes b out) h; holds = holds; answer = answer }
+  pub rewritten : (a : Answer) (b : Bound) (out : List ℕ) → ((bytes : List ℕ) → q ≡ Some bytes → IsUpgraded p bytes b out)
+      → HoldsOfAll p b → IsUpgradeAnswer a b out → IsRewritten i q a
+  rewritten a b out h holds answer =
+      record {
+        problem = p;
+        spelled = spells;
+        bound = b;
+        out = out;
+        upgraded = reported q (λ bytes. IsUpgraded p bytes b out) h;
+        holds = holds;
+        answer = answer;
+      }
 
 -- a silent error says nothing against the proof
 pub silent_upgrade : (f : UpgradeFault) (b : Bound) → IsEnvironmental f → AnswersUpgrade (Err (fault_from_upgrade f)) b

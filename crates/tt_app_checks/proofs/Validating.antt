@@ -14,9 +14,19 @@ use Rattle.tt_app_answers.specs.declared.answer.Answer.{Answer}
 -- the lines of a timetable's score
 pub lines_are : (p : Problem) (t : List Cell) (s : Score) → IsScore p t s → score_lines s ≡ score_text p t
 lines_are p t s is =
-    rw (is.lectures, is.conflicts, is.availability, is.room_occupancy, is.room_capacity, is.min_working_days, is.compactness, is.room_stability) refl
+    rw (
+      is.lectures,
+      is.conflicts,
+      is.availability,
+      is.room_occupancy,
+      is.room_capacity,
+      is.min_working_days,
+      is.compactness,
+      is.room_stability,
+    ) refl
 
-pub validated : (i s : List ℕ) (p : Problem) (t : List Cell) (score : Score) (a : Answer) → Spells i p → SpellsTable p s t → IsScore p t score → IsScoreAnswer score a → IsValidated i s a
+pub validated : (i s : List ℕ) (p : Problem) (t : List Cell) (score : Score) (a : Answer) → Spells i p → SpellsTable p s t
+    → IsScore p t score → IsScoreAnswer score a → IsValidated i s a
 validated i s p t score a spelled solved is answer = record {
   problem = p;
   table = t;

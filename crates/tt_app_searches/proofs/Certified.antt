@@ -25,20 +25,28 @@ use Rattle.tt_app_searches.specs.declared.calls.best.BestAnswer.{BestAnswer}
 use Rattle.tt_app_answers.specs.Sums.{CertifiesSum}
 
 -- the solution and the proofs certify a cost and a bound, which holds for every feasible timetable, and the page shows them
-pub record IsWhole {A : Type 0} (instance solution : List ℕ) (files : List (List ℕ)) (page : Option (Vec ℕ A)) (style : List ℕ) (c b : ℕ) : Type 0 where
+pub record IsWhole {A : Type 0} (instance solution : List ℕ) (files : List (List ℕ)) (page : Option (Vec ℕ A)) (style : List ℕ)
+    (c b : ℕ) : Type 0 where
   pub certified : CertifiesSum instance solution files c b
   pub bounds : BoundsAll instance b
   pub within : b ≤ c
   pub shown : ShowsPage page (page_text certified.solves.problem certified.solves.table no_labels (Some (AtLeast b)) style)
 
 -- they certify them if the solution spells a feasible timetable of this cost, and the bound is the sum
-pub whole : {A : Type 0} (i s : List ℕ) (p : Problem) (t : List Cell) (files : List (List ℕ)) (page : Option (Vec ℕ A)) (style : List ℕ) (sum : Bound) (c b : ℕ) → Spells i p → SpellsTable p s t → IsFeasible p t → c ≡ cost p t → IsSum p files sum → HoldsOfAll p sum
+pub whole : {A : Type 0} (i s : List ℕ) (p : Problem) (t : List Cell) (files : List (List ℕ)) (page : Option (Vec ℕ A)) (style : List ℕ)
+    (sum : Bound) (c b : ℕ) → Spells i p → SpellsTable p s t → IsFeasible p t → c ≡ cost p t → IsSum p files sum → HoldsOfAll p sum
     → sum ≡ AtLeast b → ShowsPage page (page_text p t no_labels (Some (AtLeast b)) style) → IsWhole i s files page style c b
 whole i s p t files page style sum c b spells solved feasible costs is holds e shown =
     let here : HoldsOfAll p (AtLeast b) = subst (λ (x : Bound). HoldsOfAll p x) e holds in
     record {
       certified = record {
-        solves = record { problem = p; table = t; both = record { spelled = spells; solved = solved }; feasible = feasible; costs = sym costs };
+        solves = record {
+          problem = p;
+          table = t;
+          both = record { spelled = spells; solved = solved };
+          feasible = feasible;
+          costs = sym costs;
+        };
         sum = subst (λ (x : Bound). IsSum p files x) e is;
       };
       bounds = λ other read. subst (λ (x : Problem). HoldsOfAll x (AtLeast b)) (spelled_once i p other spells read) here;
@@ -49,11 +57,13 @@ whole i s p t files page style sum c b spells solved feasible costs is holds e s
 -- ---- a given solution
 
 -- no hard rule is broken, at no higher cost
-no_lower : (hard_one cost_one hard_other cost_other : ℕ) → hard_one ≡ 0 → (IsLower hard_one cost_one hard_other cost_other → ⊥) → (hard_other ≡ 0) × (cost_other ≤ cost_one)
+no_lower : (hard_one cost_one hard_other cost_other : ℕ) → hard_one ≡ 0 → (IsLower hard_one cost_one hard_other cost_other → ⊥)
+    → (hard_other ≡ 0) × (cost_other ≤ cost_one)
 no_lower hard_one cost_one hard_other cost_other none kept = (grind (arith, none, kept), grind (arith, none, kept))
 
 -- a timetable that is no worse than one that breaks no hard rule breaks none, and costs no more
-no_worse_found : (p : Problem) (t u : List Cell) → IsTimetable p u → IsFeasible p t → IsNoHigher p t u → IsFeasible p u × (cost p u ≤ cost p t)
+no_worse_found : (p : Problem) (t u : List Cell) → IsTimetable p u → IsFeasible p t → IsNoHigher p t u
+    → IsFeasible p u × (cost p u ≤ cost p t)
 no_worse_found p t u fits feasible kept =
     let none : hard p t ≡ 0 = omega (arith, feasible.lectures, feasible.conflicts, feasible.availability, feasible.room_occupancy) in
     let found = no_lower (hard p t) (cost p t) (hard p u) (cost p u) none kept in (
@@ -68,7 +78,8 @@ no_worse_found p t u fits feasible kept =
     )
 
 -- the answer costs no more than a given solution that breaks no hard rule
-pub costs_no_more : (i : List ℕ) (given : Option (List ℕ)) (style : List ℕ) (p : Problem) (table : Option (List Cell)) (w : List Cell) (a : BestAnswer) → Spells i p → IsGiven p given table
+pub costs_no_more : (i : List ℕ) (given : Option (List ℕ)) (style : List ℕ) (p : Problem) (table : Option (List Cell)) (w : List Cell)
+    (a : BestAnswer) → Spells i p → IsGiven p given table
     → IsTimetable p w → IsNoWorseThan p table w → (IsFeasible p w → CostsAtMost i style (cost p w) a) → CostsNoMore i given style a
 costs_no_more i None style p table w a spells is fits kept costs = tt
 costs_no_more i (Some s) style p None w a spells is fits kept costs = absurd is

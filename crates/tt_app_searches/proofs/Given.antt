@@ -20,12 +20,14 @@ tells_alone i instance.OutOfMemory h = tt
 tells_alone i f h = h
 
 -- an error of the instance is reported, whether a solution is given or not
-pub tells_first : (i : List ℕ) (given : Option (List ℕ)) (f : InstanceFault) → Fails f (instance_of i) → IsGivenRefusal i given (fault_from_instance f)
+pub tells_first : (i : List ℕ) (given : Option (List ℕ)) (f : InstanceFault) → Fails f (instance_of i)
+    → IsGivenRefusal i given (fault_from_instance f)
 tells_first i None f h = tells_alone i f h
 tells_first i (Some s) f h = tells_instance i s f h
 
 -- an error of a given solution is reported
-pub tells_given : (i : List ℕ) (given : Option (List ℕ)) (p : Problem) (f : SolutionFault) → Spells i p → FailsGiven f p given → IsGivenRefusal i given (fault_from_solution f)
+pub tells_given : (i : List ℕ) (given : Option (List ℕ)) (p : Problem) (f : SolutionFault) → Spells i p → FailsGiven f p given
+    → IsGivenRefusal i given (fault_from_solution f)
 tells_given i None p f spelled h = absurd h
 tells_given i (Some s) p f spelled h = tells_solution i s p f spelled h
 
@@ -35,7 +37,8 @@ tells_memory i None = tt
 tells_memory i (Some s) = tt
 
 -- if the given solution is spelled, the only error of reading it is being out of memory
-pub given_memory : (i : List ℕ) (given : Option (List ℕ)) (p q : Problem) (f : SolutionFault) → Spells i p → Spells i q → SpellsGiven q given → FailsGiven f p given
+pub given_memory : (i : List ℕ) (given : Option (List ℕ)) (p q : Problem) (f : SolutionFault) → Spells i p → Spells i q
+    → SpellsGiven q given → FailsGiven f p given
     → fault_from_solution f ≡ fault.OutOfMemory
 given_memory i None p q f spelled other some h = absurd h
 given_memory i (Some s) p q f spelled other some h =

@@ -23,13 +23,15 @@ best_fits p (Some t) h = h.timetable
 best_fits p _ h = h
 
 -- a text in version 2 is the proof's file if a node has a claim of this version
-pub second_file : {A : Type 0} (b : Bound) (nodes : List Node) (text : Option (Vec ℕ A)) → ¬ All (IsNodeIn 1) nodes → MatchOption text (IsOverLong b nodes) (λ v. Writes 2 b nodes v.items)
+pub second_file : {A : Type 0} (b : Bound) (nodes : List Node) (text : Option (Vec ℕ A)) → ¬ All (IsNodeIn 1) nodes
+    → MatchOption text (IsOverLong b nodes) (λ v. Writes 2 b nodes v.items)
     → MatchOption text (IsOverLong b nodes) (λ v. IsProofFile b nodes v.items)
 second_file b nodes (Some v) newer h = record { version = 2; least = inr (refl, newer); text = h.text }
 second_file b nodes None newer h = h
 
 -- if the bytes spell an instance, reading it is refused only for being out of memory
-pub read_memory : (i : List ℕ) (p : Problem) (f : InstanceFault) → Spells i p → Fails f (instance_of i) → fault_from_instance f ≡ fault.OutOfMemory
+pub read_memory : (i : List ℕ) (p : Problem) (f : InstanceFault) → Spells i p → Fails f (instance_of i)
+    → fault_from_instance f ≡ fault.OutOfMemory
 read_memory i p instance.OutOfMemory spells h = refl
 read_memory i p (instance.Ended n) spells h = let e = is_read i p spells in absurd cc
 read_memory i p (instance.Expected w n) spells h = let e = is_read i p spells in absurd cc

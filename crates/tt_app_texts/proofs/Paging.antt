@@ -39,13 +39,16 @@ pub memory_not_put : (f : AppFault) (text : List ℕ) → f ≡ fault.OutOfMemor
 memory_not_put f text e = rw e tt
 
 -- if the names fit the instance that the bytes spell, they are refused only for being out of memory
-pub names_memory : (i : List ℕ) (p read : Problem) (names : PageNames) (l : Labelled) (f : LabelsFault) → Spells i p → Spells i read → labels_for p names ≡ Ok l → FailsUnless is_environmental f (labels_for read names)
+pub names_memory : (i : List ℕ) (p read : Problem) (names : PageNames) (l : Labelled) (f : LabelsFault) → Spells i p → Spells i read
+    → labels_for p names ≡ Ok l → FailsUnless is_environmental f (labels_for read names)
     → fault_from_labels f ≡ fault.OutOfMemory
 names_memory i p read names l labels.Days spells found named h =
-    let here : labels_for read names ≡ Ok l = subst (λ (q : Problem). labels_for q names ≡ Ok l) (spelled_once i p read spells found) named in
+    let here : labels_for read names ≡ Ok l = subst (λ (q : Problem). labels_for q names ≡ Ok l)
+    (spelled_once i p read spells found) named in
     absurd cc
 names_memory i p read names l labels.Periods spells found named h =
-    let here : labels_for read names ≡ Ok l = subst (λ (q : Problem). labels_for q names ≡ Ok l) (spelled_once i p read spells found) named in
+    let here : labels_for read names ≡ Ok l = subst (λ (q : Problem). labels_for q names ≡ Ok l)
+    (spelled_once i p read spells found) named in
     absurd cc
 names_memory i p read names l labels.OutOfMemory spells found named h = refl
 
@@ -54,35 +57,48 @@ module _ (i s : List ℕ) (p : Problem) (t : List Cell) (names : PageNames) (spe
   both = record { spelled = spelled; solved = solved }
 
   -- an error of the names is reported
-  pub names_tell : (style : List ℕ) (before after : Option (List ℕ)) (f : LabelsFault) → FailsUnless is_environmental f (labels_for p names) → IsPageRefusal i s names style before after (fault_from_labels f)
+  pub names_tell : (style : List ℕ) (before after : Option (List ℕ)) (f : LabelsFault)
+      → FailsUnless is_environmental f (labels_for p names) → IsPageRefusal i s names style before after (fault_from_labels f)
   names_tell style before after labels.Days h = record { problem = p; table = t; both = both; fails = h }
   names_tell style before after labels.Periods h = record { problem = p; table = t; both = both; fails = h }
   names_tell style before after labels.OutOfMemory h = tt
 
-  pub names_tell_proved : (style : List ℕ) (gives : List (List ℕ) → Type 0) (before after : Option (List ℕ)) (f : LabelsFault) → FailsUnless is_environmental f (labels_for p names)
+  pub names_tell_proved : (style : List ℕ) (gives : List (List ℕ) → Type 0) (before after : Option (List ℕ)) (f : LabelsFault)
+      → FailsUnless is_environmental f (labels_for p names)
       → IsProvedPageRefusal i s names style gives before after (fault_from_labels f)
   names_tell_proved style gives before after labels.Days h = record { problem = p; table = t; both = both; fails = h }
   names_tell_proved style gives before after labels.Periods h = record { problem = p; table = t; both = both; fails = h }
   names_tell_proved style gives before after labels.OutOfMemory h = tt
 
   -- an error of the proofs is reported
-  pub sum_tells_page : (style : List ℕ) (l : Labelled) (gives : List (List ℕ) → Type 0) (before after : Option (List ℕ)) (f : SumFault) → labels_for p names ≡ Ok l
-      → ((proofs : List (List ℕ)) → gives proofs → IsSumFault p proofs f) → IsProvedPageRefusal i s names style gives before after (fault_from_sum f)
-  sum_tells_page style l gives before after (sum.Proof n f) named h = record { problem = p; table = t; labels = l; both = both; named = named; fails = h }
-  sum_tells_page style l gives before after (sum.Groups n f) named h = record { problem = p; table = t; labels = l; both = both; named = named; fails = h }
-  sum_tells_page style l gives before after (sum.ClaimedElsewhere n k e) named h = record { problem = p; table = t; labels = l; both = both; named = named; fails = h }
-  sum_tells_page style l gives before after (sum.TooLarge n) named h = record { problem = p; table = t; labels = l; both = both; named = named; fails = h }
+  pub sum_tells_page : (style : List ℕ) (l : Labelled) (gives : List (List ℕ) → Type 0) (before after : Option (List ℕ)) (f : SumFault)
+      → labels_for p names ≡ Ok l
+      → ((proofs : List (List ℕ)) → gives proofs → IsSumFault p proofs f) → IsProvedPageRefusal i s names style gives before after
+      (fault_from_sum f)
+  sum_tells_page style l gives before after (sum.Proof n f) named h =
+      record { problem = p; table = t; labels = l; both = both; named = named; fails = h }
+  sum_tells_page style l gives before after (sum.Groups n f) named h =
+      record { problem = p; table = t; labels = l; both = both; named = named; fails = h }
+  sum_tells_page style l gives before after (sum.ClaimedElsewhere n k e) named h =
+      record { problem = p; table = t; labels = l; both = both; named = named; fails = h }
+  sum_tells_page style l gives before after (sum.TooLarge n) named h =
+      record { problem = p; table = t; labels = l; both = both; named = named; fails = h }
   sum_tells_page style l gives before after sum.OutOfMemory named h = tt
 
   -- an error of the page's output is reported
   pub plain_page_tells : (style : List ℕ) (l : Labelled) (before after : Option (List ℕ)) (f : PageFault) → labels_for p names ≡ Ok l
-      → (f ≡ page.Write → TakesPart before after (page_text p t l None style)) → ExplainsSize f (page_text p t l None style) → IsPageRefusal i s names style before after (fault_from_page f)
-  plain_page_tells style l before after page.Write named part size = record { problem = p; table = t; labels = l; both = both; named = named; within = size; part = part refl }
-  plain_page_tells style l before after page.TooLarge named part size = record { problem = p; table = t; labels = l; both = both; named = named; large = size }
+      → (f ≡ page.Write → TakesPart before after (page_text p t l None style)) → ExplainsSize f (page_text p t l None style)
+      → IsPageRefusal i s names style before after (fault_from_page f)
+  plain_page_tells style l before after page.Write named part size =
+      record { problem = p; table = t; labels = l; both = both; named = named; within = size; part = part refl }
+  plain_page_tells style l before after page.TooLarge named part size =
+      record { problem = p; table = t; labels = l; both = both; named = named; large = size }
   plain_page_tells style l before after page.OutOfMemory named part size = tt
 
-  pub page_tells : (style : List ℕ) (l : Labelled) (b : Bound) (gives : List (List ℕ) → Type 0) (before after : Option (List ℕ)) (f : PageFault) → labels_for p names ≡ Ok l
-      → ((proofs : List (List ℕ)) → gives proofs → IsSum p proofs b) → HoldsOfAll p b → (f ≡ page.Write → TakesPart before after (page_text p t l (Some b) style)) → ExplainsSize f (page_text p t l (Some b) style)
+  pub page_tells : (style : List ℕ) (l : Labelled) (b : Bound) (gives : List (List ℕ) → Type 0) (before after : Option (List ℕ))
+      (f : PageFault) → labels_for p names ≡ Ok l
+      → ((proofs : List (List ℕ)) → gives proofs → IsSum p proofs b) → HoldsOfAll p b
+      → (f ≡ page.Write → TakesPart before after (page_text p t l (Some b) style)) → ExplainsSize f (page_text p t l (Some b) style)
       → IsProvedPageRefusal i s names style gives before after (fault_from_page f)
   page_tells style l b gives before after page.Write named sum holds part size = record {
     bound = b;
@@ -99,7 +115,8 @@ module _ (i s : List ℕ) (p : Problem) (t : List Cell) (names : PageNames) (spe
   page_tells style l b gives before after page.OutOfMemory named sum holds part size = tt
 
 -- the page of the instance and the timetable that were read is that of those that the bytes spell
-pub page_same : (i s : List ℕ) (p read : Problem) (t found : List Cell) (names : PageNames) (l m : Labelled) (a c : Option Bound) (style : List ℕ) → SpellsBoth i s p t → Spells i read → SpellsTable read s found
+pub page_same : (i s : List ℕ) (p read : Problem) (t found : List Cell) (names : PageNames) (l m : Labelled) (a c : Option Bound)
+    (style : List ℕ) → SpellsBoth i s p t → Spells i read → SpellsTable read s found
     → labels_for p names ≡ Ok l → labels_for read names ≡ Ok m → c ≡ a → page_text read found m c style ≡ page_text p t l a style
 page_same i s p read t found names l m a c style both spells solved named given e =
     let same : read ≡ p = spelled_once i read p spells both.spelled in

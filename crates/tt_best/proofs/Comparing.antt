@@ -9,6 +9,7 @@ no_higher_then : (p : Problem) (t u v : List Cell) → IsNoHigher p t u → IsNo
 no_higher_then p t u v first second = λ below. grind (arith, below, first, second)
 
 -- a timetable that is no higher than one that is no worse than the given one
-pub no_worse_then : (p : Problem) (given : Option (List Cell)) (u v : List Cell) → IsNoWorseThan p given u → IsNoHigher p u v → IsNoWorseThan p given v
+pub no_worse_then : (p : Problem) (given : Option (List Cell)) (u v : List Cell) → IsNoWorseThan p given u → IsNoHigher p u v
+    → IsNoWorseThan p given v
 no_worse_then p None u v first second = tt
 no_worse_then p (Some g) u v first second = no_higher_then p g u v first second

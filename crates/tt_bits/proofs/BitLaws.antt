@@ -89,10 +89,12 @@ shifted k h =
 -- a set with one of its numbers removed, and the numbers left
 module _ (w rest j : ℕ) (h : j < 64) (e : has_bit w j ≡ true) (l : (r : ℕ) → r < 64 → has_bit rest r ≡ (has_bit w r && not (r == j))) where
   pub each_bit-one : (t : ℕ → Bool) → list_any (has_bit rest) bits ≡ false → each_bit w t ≡ t j
-  each_bit-one t none = same_truth (each_bit w t) (t j) (λ a. each_bit_at w t j h a e) (λ a. each_bit_from w t (λ k hk b. elim (cases_eq k j) [
-    | inl q ↦ ap t q ∙ a
-    | inr q ↦ absurd (both_ways (has_bit rest k) (none-bit rest k none hk) (l k hk ∙ and_from (has_bit w k) (not (k == j)) b (ap not (ne_eqb k j q))))
-  ]))
+  each_bit-one t none = same_truth (each_bit w t) (t j) (λ a. each_bit_at w t j h a e)
+      (λ a. each_bit_from w t (λ k hk b. elim (cases_eq k j) [
+        | inl q ↦ ap t q ∙ a
+        | inr q ↦ absurd
+            (both_ways (has_bit rest k) (none-bit rest k none hk) (l k hk ∙ and_from (has_bit w k) (not (k == j)) b (ap not (ne_eqb k j q))))
+      ]))
 
   pub another_bit : list_any (has_bit rest) bits ≡ true → (i : ℕ) × (i < 64) × (has_bit w i ≡ true) × (i ≡ j → ⊥)
   unfolding bits

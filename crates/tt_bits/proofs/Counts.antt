@@ -68,11 +68,13 @@ count-same f g (suc n) h =
 pub count-past : (t : ℕ → Bool) (n more : ℕ) → count_by (λ s. nat_lt s n && t s) (range_below (n + more)) ≡ count_by t (range_below n)
 count-past t n zero =
     let e : n + 0 ≡ n = omega arith in
-    ap (λ m. count_by (λ s. nat_lt s n && t s) (range_below m)) e ∙ count-same (λ s. nat_lt s n && t s) t n (λ k l. ap (λ b. b && t k) (lt-ltb k n l))
+    ap (λ m. count_by (λ s. nat_lt s n && t s) (range_below m)) e ∙ count-same (λ s. nat_lt s n && t s) t n
+    (λ k l. ap (λ b. b && t k) (lt-ltb k n l))
 count-past t n (suc more) =
     let e : n + suc more ≡ n + more + 1 = omega arith in
     ap (λ m. count_by (λ s. nat_lt s n && t s) (range_below m)) e ∙ count_more (λ s. nat_lt s n && t s) (n + more)
-    ∙ ap (λ b. count_by (λ s. nat_lt s n && t s) (range_below (n + more)) + cond (b && t (n + more)) 1 0) (le-ltb (n + more) n (omega arith))
+    ∙ ap (λ b. count_by (λ s. nat_lt s n && t s) (range_below (n + more)) + cond (b && t (n + more)) 1 0)
+    (le-ltb (n + more) n (omega arith))
     ∙ omega (arith, count-past t n more)
 
 pub count-bits : (f g : ℕ → Bool) → ((r : ℕ) → r < 64 → f r ≡ g r) → count_by f bits ≡ count_by g (range_below 64)
@@ -84,7 +86,8 @@ module _ (w n : ℕ) (t : ℕ → Bool) (at_most : n ≤ 64) (set : (s : ℕ) �
   unfolding bits
   count-set =
       let e : 64 ≡ n + (64 - n) = omega arith in
-      count-same (has_bit w) (λ s. nat_lt s n && t s) 64 set ∙ ap (λ m. count_by (λ s. nat_lt s n && t s) (range_below m)) e ∙ count-past t n (64 - n)
+      count-same (has_bit w) (λ s. nat_lt s n && t s) 64 set ∙ ap (λ m. count_by (λ s. nat_lt s n && t s) (range_below m)) e
+      ∙ count-past t n (64 - n)
 
   pub any-set : list_any (has_bit w) bits ≡ list_any t (range_below n)
   any-set = same_truth (list_any (has_bit w) bits) (list_any t (range_below n))

@@ -16,8 +16,10 @@ pub has_bit-next : (w r : ℕ) → r < 64 → has_bit (w * 2 ^ 1 % 2 ^ 64) r ≡
 has_bit-next w r h =
     let e : w * 2 ^ 1 ≡ w * 2 ^ 1 + 0 = omega arith in
     ap (λ n. n == 1) (kept (w * 2 ^ 1) r h) ∙ ap (λ m. bit_at m r == 1) e ∙ elim (cases_lt 0 r) [
-      | inl l ↦ ap (λ n. n == 1) (bit_at_cat_high w 1 0 r (omega arith) (omega arith)) ∙ sym (ap (λ b. b && has_bit w (r - 1)) (lt-ltb 0 r l))
-      | inr l ↦ ap (λ n. n == 1) (bit_at_cat_low w 1 0 r (omega arith) ∙ bit_at-zero r) ∙ sym (ap (λ b. b && has_bit w (r - 1)) (le-ltb 0 r l))
+      | inl l ↦ ap (λ n. n == 1) (bit_at_cat_high w 1 0 r (omega arith) (omega arith))
+          ∙ sym (ap (λ b. b && has_bit w (r - 1)) (lt-ltb 0 r l))
+      | inr l ↦ ap (λ n. n == 1) (bit_at_cat_low w 1 0 r (omega arith) ∙ bit_at-zero r)
+          ∙ sym (ap (λ b. b && has_bit w (r - 1)) (le-ltb 0 r l))
     ]
 
 pub has_bit-previous : (w r : ℕ) → w < 2 ^ 64 → r < 64 → has_bit (w / 2 ^ 1) r ≡ (nat_lt (r + 1) 64 && has_bit w (r + 1))

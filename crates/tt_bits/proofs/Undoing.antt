@@ -42,10 +42,12 @@ undone-append words [] b = refl
 undone-append words (o ∷ os) b = ap (λ w. slice_set w o.place o.word) (undone-append words os b)
 
 -- one write is undone
-pub table_at-back : (words : List ℕ) (log : List Old) (o : Old) (m : ℕ) → m ≤ length log → table_at words (log ++ o ∷ []) m ≡ table_at (slice_set words o.place o.word) log m
+pub table_at-back : (words : List ℕ) (log : List Old) (o : Old) (m : ℕ) → m ≤ length log → table_at words (log ++ o ∷ []) m ≡ table_at
+    (slice_set words o.place o.word) log m
 table_at-back words log o m h = ap (undone words) (drop-append-le m log (o ∷ []) h) ∙ undone-append words (drop m log) (o ∷ [])
 
-pub tables_at-back : (words : List ℕ) (log : List Old) (o : Old) (ms : List ℕ) → AllByRecursion (λ m. m ≤ length log) ms → tables_at words (log ++ o ∷ []) ms ≡ tables_at (slice_set words o.place o.word) log ms
+pub tables_at-back : (words : List ℕ) (log : List Old) (o : Old) (ms : List ℕ) → AllByRecursion (λ m. m ≤ length log) ms
+    → tables_at words (log ++ o ∷ []) ms ≡ tables_at (slice_set words o.place o.word) log ms
 tables_at-back words log o [] a = refl
 tables_at-back words log o (m ∷ ms) a =
     ap (λ t. t ∷ tables_at words (log ++ o ∷ []) ms) (table_at-back words log o m a.0)
@@ -57,7 +59,8 @@ set_twice (x ∷ xs) zero a b = refl
 set_twice (x ∷ xs) (suc i) a b = ap (λ l. x ∷ l) (set_twice xs i a b)
 
 -- a write with its entry in the log leaves the earlier tables as they were
-pub table_at-write : (words : List ℕ) (log : List Old) (o : Old) (w m : ℕ) → o.place < length words → o.word ≡ get_or words o.place 0 → m ≤ length log → table_at (slice_set words o.place w) (log ++ o ∷ []) m ≡ table_at words log m
+pub table_at-write : (words : List ℕ) (log : List Old) (o : Old) (w m : ℕ) → o.place < length words → o.word ≡ get_or words o.place 0
+    → m ≤ length log → table_at (slice_set words o.place w) (log ++ o ∷ []) m ≡ table_at words log m
 table_at-write words log o w m k e h =
     table_at-back (slice_set words o.place w) log o m h
     ∙ ap (λ t. table_at t log m) (set_back words o.place w o.word e)
@@ -65,7 +68,9 @@ table_at-write words log o w m k e h =
     set_back : (xs : List ℕ) (i a b : ℕ) → b ≡ get_or xs i 0 → slice_set (slice_set xs i a) i b ≡ xs
     set_back xs i a b f = set_twice xs i a b ∙ ap (slice_set xs i) f ∙ set-get_or xs i 0
 
-pub tables_at-write : (words : List ℕ) (log : List Old) (o : Old) (w : ℕ) (ms : List ℕ) → o.place < length words → o.word ≡ get_or words o.place 0 → AllByRecursion (λ m. m ≤ length log) ms → tables_at (slice_set words o.place w) (log ++ o ∷ []) ms ≡ tables_at words log ms
+pub tables_at-write : (words : List ℕ) (log : List Old) (o : Old) (w : ℕ) (ms : List ℕ) → o.place < length words
+    → o.word ≡ get_or words o.place 0 → AllByRecursion (λ m. m ≤ length log) ms → tables_at (slice_set words o.place w)
+    (log ++ o ∷ []) ms ≡ tables_at words log ms
 tables_at-write words log o w [] k e a = refl
 tables_at-write words log o w (m ∷ ms) k e a =
     ap (λ t. t ∷ tables_at (slice_set words o.place w) (log ++ o ∷ []) ms) (table_at-write words log o w m k e a.0)

@@ -47,7 +47,8 @@ advance_twice p old mid new a b = record {
   no_dearer = λ t w. b.no_dearer t (a.no_dearer t w);
 }
 
-pub advance_to : (p : Problem) (old : Option Best) (new : Best) → IsBetter p (table_of old) new.table → IsFeasible p new.table → new.cost ≡ cost p new.table → Advances p old (Some new)
+pub advance_to : (p : Problem) (old : Option Best) (new : Best) → IsBetter p (table_of old) new.table → IsFeasible p new.table
+    → new.cost ≡ cost p new.table → Advances p old (Some new)
 advance_to p old new better feasible costs = record {
   kept = record { feasible = feasible; cost = costs };
   grown = λ links tree_nodes g. grow_better p (table_of old) new.table links tree_nodes better g;
@@ -63,18 +64,25 @@ pub record IsThere (p : Problem) (links : List Link) (e : TreeNode) : Type 0 whe
   pub reached : IsReached links e.link
   pub patterns : ArePatterns p (path_at links e.link)
 
-pub each_there : (p : Problem) (best : Option (List Cell)) (links : List Link) (tree_nodes : List TreeNode) → IsGrown p best links tree_nodes → length tree_nodes ≤ 131073 → AllByRecursion (IsThere p links) tree_nodes
+pub each_there : (p : Problem) (best : Option (List Cell)) (links : List Link) (tree_nodes : List TreeNode)
+    → IsGrown p best links tree_nodes → length tree_nodes ≤ 131073 → AllByRecursion (IsThere p links) tree_nodes
 each_there p best links tree_nodes grown at_most =
     zip_other (λ x e. IsSameNode p best links x e × (length x.path ≤ 65536)) (IsThere p links) (λ x e h. record {
       reached = record { within = h.0.link; depth = subst (λ q. length q ≤ 65536) (sym h.0.path) h.1 };
       patterns = subst (ArePatterns p) (sym h.0.path) h.0.patterns;
     }) (on_paths [] grown.tree) tree_nodes
-    (zip_and (IsSameNode p best links) (λ x. length x.path ≤ 65536) (on_paths [] grown.tree) tree_nodes (shallow p best links tree_nodes grown at_most) grown.together)
+    (zip_and (IsSameNode p best links) (λ x. length x.path ≤ 65536) (on_paths [] grown.tree) tree_nodes
+    (shallow p best links tree_nodes grown at_most) grown.together)
 
 -- ---- opened nodes
 
-count_cut : (before : List TreeNode) (e : TreeNode) (after : List TreeNode) → opened_in (before ++ e ∷ after) ≡ opened_in before + (one_if (was_opened e.mark) + opened_in after)
-count_cut before e after = omega (arith, sum_by-append (λ (k : TreeNode). one_if (was_opened k.mark)) before (e ∷ after), count_by-cons (λ (k : TreeNode). was_opened k.mark) e after)
+count_cut : (before : List TreeNode) (e : TreeNode) (after : List TreeNode) → opened_in (before ++ e ∷ after) ≡ opened_in before +
+    (one_if (was_opened e.mark) + opened_in after)
+count_cut before e after = omega (
+  arith,
+  sum_by-append (λ (k : TreeNode). one_if (was_opened k.mark)) before (e ∷ after),
+  count_by-cons (λ (k : TreeNode). was_opened k.mark) e after,
+)
 
 one_opened : (m : NodeState) → was_opened m ≡ true → one_if (was_opened m) ≡ 1
 one_opened m e = ap one_if e
@@ -85,24 +93,38 @@ pub record IsOpening (p : Problem) (old new : Option Best) (links : List Link) (
   pub opened : opened_in more ≡ opened_in tree_nodes + 1
   pub many : length more ≡ length tree_nodes
 
-shown_leaf : (p : Problem) (links : List Link) (e : TreeNode) (m : NodeState) → IsSingle m → (leaf : Leaf) × (node_of p (path_at links e.link) m ≡ node.Leaf leaf)
+shown_leaf : (p : Problem) (links : List Link) (e : TreeNode) (m : NodeState) → IsSingle m
+    → (leaf : Leaf) × (node_of p (path_at links e.link) m ≡ node.Leaf leaf)
 shown_leaf p links e (Split g) s = absurd s
 shown_leaf p links e (Closed leaf) s = (leaf, refl)
 shown_leaf p links e (Opened g) s = (best_leaf p (path_at links e.link), refl)
 shown_leaf p links e Unopened s = (best_leaf p (path_at links e.link), refl)
 
-pub opening : (p : Problem) (old new : Option Best) (links : List Link) (tree_nodes more : List TreeNode) (place : ℕ) (e put : TreeNode) → IsGrown p (table_of old) links tree_nodes → Advances p old new → slice_get tree_nodes place ≡ Some e → e.mark ≡ Unopened → put.link ≡ e.link
-    → IsKnown p (table_of new) (path_at links e.link) put.mark → was_opened put.mark ≡ true → IsSingle put.mark → more ≡ slice_set tree_nodes place put → IsOpening p old new links tree_nodes more
+pub opening : (p : Problem) (old new : Option Best) (links : List Link) (tree_nodes more : List TreeNode) (place : ℕ) (e put : TreeNode)
+    → IsGrown p (table_of old) links tree_nodes → Advances p old new → slice_get tree_nodes place ≡ Some e → e.mark ≡ Unopened
+    → put.link ≡ e.link
+    → IsKnown p (table_of new) (path_at links e.link) put.mark → was_opened put.mark ≡ true → IsSingle put.mark
+    → more ≡ slice_set tree_nodes place put → IsOpening p old new links tree_nodes more
 opening p old new links tree_nodes more place e put grown better at waits same known opened single is =
     let cut = cut_at tree_nodes place e at in
     let before = cut.before in
     let after = cut.after in
-    let made : more ≡ before ++ put ∷ after = is ∙ ap (λ l. slice_set l place put) cut.whole ∙ ap (λ n. slice_set (before ++ e ∷ after) n put) (sym cut.place) ∙ set_cut before e after put in
+    let made : more ≡ before ++ put ∷ after = is ∙ ap (λ l. slice_set l place put) cut.whole
+    ∙ ap (λ n. slice_set (before ++ e ∷ after) n put) (sym cut.place) ∙ set_cut before e after put in
     let here = subst (IsGrown p (table_of new) links) cut.whole (better.grown links tree_nodes grown) in
     let leaf = shown_leaf p links e put.mark single in
     record {
-      grown = subst (IsGrown p (table_of new) links) (sym made) (grow_mark p (table_of new) links before e put after here (ap is_open waits) same known leaf.0 leaf.1);
-      opened = omega (arith, ap opened_in made, ap opened_in cut.whole, count_cut before put after, count_cut before e after, one_opened put.mark opened, ap (λ m. one_if (was_opened m)) waits);
+      grown = subst (IsGrown p (table_of new) links) (sym made)
+          (grow_mark p (table_of new) links before e put after here (ap is_open waits) same known leaf.0 leaf.1);
+      opened = omega (
+        arith,
+        ap opened_in made,
+        ap opened_in cut.whole,
+        count_cut before put after,
+        count_cut before e after,
+        one_opened put.mark opened,
+        ap (λ m. one_if (was_opened m)) waits,
+      );
       many = omega (arith, ap length made, ap length cut.whole, length-append before (put ∷ after), length-append before (e ∷ after));
     }
 
@@ -118,17 +140,24 @@ waits_split place g old new s =
           let here = subst (IsGrown p (table_of old.best) links) s.old_tree_nodes u.grown in
           let w = zip_cut (IsSameNode p (table_of old.best) links) (on_paths [] here.tree) s.before s.was s.after here.together in
           let inside : s.was.link ≤ length links = w.5.link in
-          let ok = links_more (links ++ yes ∷ []) no (links_more links yes u.links inside) (omega (arith, length-append links (yes ∷ []))) in
+          let ok = links_more (links ++ yes ∷ []) no (links_more links yes u.links inside)
+          (omega (arith, length-append links (yes ∷ []))) in
           record {
             kept = subst (IsBestSoFar p) (sym s.best) u.kept;
             links = subst AreLinks (sym s.links) ok;
             grown = subst (λ b. IsGrown p (table_of b) new.links.items new.tree_nodes.items) (sym s.best)
                 (subst (λ l. IsGrown p (table_of old.best) l new.tree_nodes.items) (sym s.links)
                 (subst (IsGrown p (table_of old.best) (divided_links links s.was.link g)) (sym s.tree_nodes)
-                (grow_split p (table_of old.best) links s.before s.was s.after g s.divided s.first s.second u.links here s.opened s.division)));
+                (grow_split p (table_of old.best) links s.before s.was s.after g s.divided s.first s.second u.links here s.opened
+                s.division)));
           };
-      waiting =
-          (s.first, ap (λ (l : List TreeNode). slice_get l (place + 1)) s.tree_nodes ∙ ap (slice_get (s.before ++ s.divided ∷ s.first ∷ s.second ∷ s.after)) (omega (arith, s.place_is)) ∙ get_next s.before s.divided s.first (s.second ∷ s.after), s.division.first);
+      waiting = (
+        s.first,
+        ap (λ (l : List TreeNode). slice_get l (place + 1)) s.tree_nodes
+            ∙ ap (slice_get (s.before ++ s.divided ∷ s.first ∷ s.second ∷ s.after)) (omega (arith, s.place_is))
+            ∙ get_next s.before s.divided s.first (s.second ∷ s.after),
+        s.division.first,
+      );
       opened =
           omega (
             arith,
@@ -143,7 +172,13 @@ waits_split place g old new s =
             ap (λ m. one_if (was_opened m)) s.division.first,
             ap (λ m. one_if (was_opened m)) s.division.second,
           );
-      many = omega (arith, ap length s.tree_nodes, ap length s.old_tree_nodes, length-append s.before (s.divided ∷ s.first ∷ s.second ∷ s.after), length-append s.before (s.was ∷ s.after));
+      many = omega (
+        arith,
+        ap length s.tree_nodes,
+        ap length s.old_tree_nodes,
+        length-append s.before (s.divided ∷ s.first ∷ s.second ∷ s.after),
+        length-append s.before (s.was ∷ s.after),
+      );
       best = s.best;
     }
 
@@ -153,8 +188,13 @@ waits_second place g old new s =
     let first = waits_split place g old new s in
     record {
       under_way = first.under_way;
-      waiting =
-          (s.second, ap (λ (l : List TreeNode). slice_get l (place + 2)) s.tree_nodes ∙ ap (slice_get (s.before ++ s.divided ∷ s.first ∷ s.second ∷ s.after)) (omega (arith, s.place_is)) ∙ get_after s.before s.divided s.first s.second s.after, s.division.second);
+      waiting = (
+        s.second,
+        ap (λ (l : List TreeNode). slice_get l (place + 2)) s.tree_nodes
+            ∙ ap (slice_get (s.before ++ s.divided ∷ s.first ∷ s.second ∷ s.after)) (omega (arith, s.place_is))
+            ∙ get_after s.before s.divided s.first s.second s.after,
+        s.division.second,
+      );
       opened = first.opened;
       many = first.many;
       best = first.best;
@@ -178,34 +218,47 @@ all_opened (e ∷ es) h =
     let a = or_parts (is_open e.mark) (list_any (λ k. is_open k.mark) es) h in
     omega (arith, count_by-cons (λ (k : TreeNode). was_opened k.mark) e es, one_opened e.mark (opened_unless e.mark a.0), all_opened es a.1)
 
-pub ends_closed : (limit opened : ℕ) (tree_nodes : List TreeNode) → opened_in tree_nodes ≡ opened → opened ≤ limit → list_any (λ e. is_open e.mark) tree_nodes ≡ false → EndsAt limit tree_nodes true
+pub ends_closed : (limit opened : ℕ) (tree_nodes : List TreeNode) → opened_in tree_nodes ≡ opened → opened ≤ limit
+    → list_any (λ e. is_open e.mark) tree_nodes ≡ false → EndsAt limit tree_nodes true
 ends_closed limit opened tree_nodes e h none = (none, omega (arith, all_opened tree_nodes none))
 
-pub ends_open : (limit : ℕ) (tree_nodes : List TreeNode) → list_any (λ e. is_open e.mark) tree_nodes ≡ true → opened_in tree_nodes ≡ limit → length tree_nodes + 1 ≤ 2 * limit → EndsAt limit tree_nodes false
+pub ends_open : (limit : ℕ) (tree_nodes : List TreeNode) → list_any (λ e. is_open e.mark) tree_nodes ≡ true
+    → opened_in tree_nodes ≡ limit → length tree_nodes + 1 ≤ 2 * limit → EndsAt limit tree_nodes false
 ends_open limit tree_nodes some e h = (some, omega (arith, count_by-le-length (λ (k : TreeNode). was_opened k.mark) tree_nodes), h)
 
 -- an opening in the form in which the code reads the node and moves the path
-pub opening_there : (p q : Problem) (facts : List Fact) (old new : Option Best) (links : List Link) (tree_nodes more : List TreeNode) (place : ℕ) (read put : TreeNode) → q ≡ p → facts ≡ path_at links read.link → read ≡ get_or tree_nodes place read → HasMark tree_nodes place Unopened → IsGrown p (table_of old) links tree_nodes
-    → Advances q old new → IsKnown q (table_of new) facts put.mark → was_opened put.mark ≡ true → IsSingle put.mark → put.link ≡ read.link → more ≡ slice_set tree_nodes place put → IsOpening p old new links tree_nodes more
+pub opening_there : (p q : Problem) (facts : List Fact) (old new : Option Best) (links : List Link) (tree_nodes more : List TreeNode)
+    (place : ℕ) (read put : TreeNode) → q ≡ p → facts ≡ path_at links read.link → read ≡ get_or tree_nodes place read
+    → HasMark tree_nodes place Unopened → IsGrown p (table_of old) links tree_nodes
+    → Advances q old new → IsKnown q (table_of new) facts put.mark → was_opened put.mark ≡ true → IsSingle put.mark
+    → put.link ≡ read.link → more ≡ slice_set tree_nodes place put → IsOpening p old new links tree_nodes more
 opening_there p q facts old new links tree_nodes more place read put same there is waits grown better known opened single link made =
     let e = waits.0 in
     let met : read.link ≡ e.link = ap (λ (x : TreeNode). x.link) (is ∙ get_or_from_slice_get tree_nodes place e read waits.1) in
-    opening p old new links tree_nodes more place e put grown (subst (λ (r : Problem). Advances r old new) same better) waits.1 waits.2 (link ∙ met)
-    (subst (λ (l : List Fact). IsKnown p (table_of new) l put.mark) (there ∙ ap (path_at links) met) (subst (λ (r : Problem). IsKnown r (table_of new) facts put.mark) same known))
+    opening p old new links tree_nodes more place e put grown (subst (λ (r : Problem). Advances r old new) same better) waits.1 waits.2
+    (link ∙ met)
+    (subst (λ (l : List Fact). IsKnown p (table_of new) l put.mark) (there ∙ ap (path_at links) met)
+    (subst (λ (r : Problem). IsKnown r (table_of new) facts put.mark) same known))
     opened single made
 
-open_any : (q : TreeNode → Bool) (tree_nodes : List TreeNode) (k : ℕ) (e : TreeNode) → slice_get tree_nodes k ≡ Some e → q e ≡ true → list_any q tree_nodes ≡ true
+open_any : (q : TreeNode → Bool) (tree_nodes : List TreeNode) (k : ℕ) (e : TreeNode) → slice_get tree_nodes k ≡ Some e → q e ≡ true
+    → list_any q tree_nodes ≡ true
 open_any q [] k e at o = cc
 open_any q (x ∷ xs) zero e at o = let same : x ≡ e = cc in or_left (q x) (list_any q xs) (ap q same ∙ o)
 open_any q (x ∷ xs) (suc k) e at o = or_right (q x) (list_any q xs) (open_any q xs k e at o)
 
 -- the end of the rounds at an open node, before the limit
-pub ends_early : (opened : ℕ) (tree_nodes : List TreeNode) (place : ℕ) → IsOpenAt tree_nodes place → opened_in tree_nodes ≡ opened → length tree_nodes + 1 ≤ 2 * opened → EndsAt opened tree_nodes false
-ends_early opened tree_nodes place some e h = ends_open opened tree_nodes (open_any (λ x. is_open x.mark) tree_nodes place some.0 some.1 some.2) e h
+pub ends_early : (opened : ℕ) (tree_nodes : List TreeNode) (place : ℕ) → IsOpenAt tree_nodes place → opened_in tree_nodes ≡ opened
+    → length tree_nodes + 1 ≤ 2 * opened → EndsAt opened tree_nodes false
+ends_early opened tree_nodes place some e h =
+    ends_open opened tree_nodes (open_any (λ x. is_open x.mark) tree_nodes place some.0 some.1 some.2) e h
 
 -- the end of the rounds, by the next open node
-pub ends_by : (limit : ℕ) (tree_nodes : List TreeNode) (o : Option ℕ) (r : Bool) → is_some o ≡ not r → IfSome o (IsOpenAt tree_nodes) → (IsNone o → list_any (λ e. is_open e.mark) tree_nodes ≡ false) → opened_in tree_nodes ≡ limit → length tree_nodes + 1 ≤ 2 * limit → EndsAt limit tree_nodes r
+pub ends_by : (limit : ℕ) (tree_nodes : List TreeNode) (o : Option ℕ) (r : Bool) → is_some o ≡ not r → IfSome o (IsOpenAt tree_nodes)
+    → (IsNone o → list_any (λ e. is_open e.mark) tree_nodes ≡ false) → opened_in tree_nodes ≡ limit → length tree_nodes + 1 ≤ 2 * limit
+    → EndsAt limit tree_nodes r
 ends_by limit tree_nodes None true d some none e h = ends_closed limit limit tree_nodes e (omega arith) (none refl)
 ends_by limit tree_nodes None false d some none e h = cc
 ends_by limit tree_nodes (Some k) true d some none e h = cc
-ends_by limit tree_nodes (Some k) false d some none e h = ends_open limit tree_nodes (open_any (λ x. is_open x.mark) tree_nodes k some.0 some.1 some.2) e h
+ends_by limit tree_nodes (Some k) false d some none e h =
+    ends_open limit tree_nodes (open_any (λ x. is_open x.mark) tree_nodes k some.0 some.1 some.2) e h

@@ -18,32 +18,43 @@ chain-same links ok (suc n) zero (suc i) h k = absurd (omega arith)
 chain-same links ok (suc n) (suc m) zero h k = refl
 chain-same links ok (suc n) (suc m) (suc i) h k = by_link (slice_get links i) (ok i) (chain-same links ok n m)
   where
-    by_link : (o : Option Link) → ((l : Link) → o ≡ Some l → l.parent ≤ i) → ((at : ℕ) → at ≤ n → at ≤ m → chain n links at ≡ chain m links at) → (elim o as (λ _. List Fact) [ None ↦ [] | Some l ↦ chain n links l.parent ++ l.fact ∷ [] ]) ≡ (elim o as (λ _. List Fact) [ None ↦ [] | Some l ↦ chain m links l.parent ++ l.fact ∷ [] ])
+    by_link : (o : Option Link) → ((l : Link) → o ≡ Some l → l.parent ≤ i)
+        → ((at : ℕ) → at ≤ n → at ≤ m → chain n links at ≡ chain m links at)
+        → (elim o as (λ _. List Fact) [ None ↦ [] | Some l ↦ chain n links l.parent ++ l.fact ∷ [] ]) ≡
+        (elim o as (λ _. List Fact) [ None ↦ [] | Some l ↦ chain m links l.parent ++ l.fact ∷ [] ])
     by_link None p f = refl
     by_link (Some l) p f = let q = p l refl in ap (λ z. z ++ l.fact ∷ []) (f l.parent (omega arith) (omega arith))
 
 -- the facts of a node are those of its parent followed by its own
-pub path_at-next : (links : List Link) → AreLinks links → (i : ℕ) (l : Link) → slice_get links i ≡ Some l → path_at links (suc i) ≡ path_at links l.parent ++ l.fact ∷ []
+pub path_at-next : (links : List Link) → AreLinks links → (i : ℕ) (l : Link) → slice_get links i ≡ Some l
+    → path_at links (suc i) ≡ path_at links l.parent ++ l.fact ∷ []
 path_at-next links ok i l e =
     let q = ok i l e in
-    subst (λ o. (elim o as (λ _. List Fact) [ None ↦ [] | Some k ↦ chain i links k.parent ++ k.fact ∷ [] ]) ≡ path_at links l.parent ++ l.fact ∷ []) (sym e)
+    subst (λ o. (elim o as (λ _. List Fact) [ None ↦ [] | Some k ↦ chain i links k.parent ++ k.fact ∷ [] ])
+    ≡ path_at links l.parent ++ l.fact ∷ []) (sym e)
     (ap (λ z. z ++ l.fact ∷ []) (chain-same links ok i l.parent l.parent q (omega arith)))
 
 -- one step to the parent, with the facts found so far, the newest first
-pub step_back : (links : List Link) → AreLinks links → (place at : ℕ) (l : Link) (found : List Fact) → 0 < at → slice_get links (at - 1) ≡ Some l → path_at links place ≡ path_at links at ++ reverse found → path_at links place ≡ path_at links l.parent ++ reverse (found ++ l.fact ∷ [])
+pub step_back : (links : List Link) → AreLinks links → (place at : ℕ) (l : Link) (found : List Fact) → 0 < at
+    → slice_get links (at - 1) ≡ Some l → path_at links place ≡ path_at links at ++ reverse found
+    → path_at links place ≡ path_at links l.parent ++ reverse (found ++ l.fact ∷ [])
 step_back links ok place zero l found h e k = absurd (omega arith)
 step_back links ok place (suc i) l found h e k =
     let same : suc i - 1 ≡ i = omega arith in
     k ∙ ap (λ z. z ++ reverse found) (path_at-next links ok i l (subst (λ j. slice_get links j ≡ Some l) same e))
-    ∙ append_assoc (path_at links l.parent) (l.fact ∷ []) (reverse found) ∙ ap (λ z. path_at links l.parent ++ z) (sym (reverse-append found (l.fact ∷ [])))
+    ∙ append_assoc (path_at links l.parent) (l.fact ∷ []) (reverse found) ∙ ap (λ z. path_at links l.parent ++ z)
+    (sym (reverse-append found (l.fact ∷ [])))
 
 -- one step to the parent, in the form in which the code reads the link
-pub step_at : (links : List Link) → AreLinks links → (place at : ℕ) (found new : List Fact) (d : Link) → 0 < at → at ≤ length links → new ≡ found ++ (get_or links (at - 1) d).fact ∷ [] → path_at links place ≡ path_at links at ++ reverse found → path_at links place ≡ path_at links (get_or links (at - 1) d).parent ++ reverse new
+pub step_at : (links : List Link) → AreLinks links → (place at : ℕ) (found new : List Fact) (d : Link) → 0 < at → at ≤ length links
+    → new ≡ found ++ (get_or links (at - 1) d).fact ∷ [] → path_at links place ≡ path_at links at ++ reverse found
+    → path_at links place ≡ path_at links (get_or links (at - 1) d).parent ++ reverse new
 step_at links ok place at found new d h l e k =
     step_back links ok place at (get_or links (at - 1) d) found h (slice_get-get_or links (at - 1) d (omega arith)) k
     ∙ ap (λ z. path_at links (get_or links (at - 1) d).parent ++ reverse z) (sym e)
 
-pub within_at : (links : List Link) → AreLinks links → (at : ℕ) (d : Link) → 0 < at → at ≤ length links → (get_or links (at - 1) d).parent ≤ length links
+pub within_at : (links : List Link) → AreLinks links → (at : ℕ) (d : Link) → 0 < at → at ≤ length links
+    → (get_or links (at - 1) d).parent ≤ length links
 within_at links ok at d h l =
     let k = ok (at - 1) (get_or links (at - 1) d) (slice_get-get_or links (at - 1) d (omega arith)) in
     omega arith
@@ -64,11 +75,15 @@ chain-more : (links more : List Link) → AreLinks links → (n at : ℕ) → at
 chain-more links more ok zero at h = refl
 chain-more links more ok (suc n) zero h = refl
 chain-more links more ok (suc n) (suc i) h =
-    subst (λ o. (elim o as (λ _. List Fact) [ None ↦ [] | Some l ↦ chain n (links ++ more) l.parent ++ l.fact ∷ [] ]) ≡ (elim (slice_get links i) as (λ _. List Fact) [ None ↦ [] | Some l ↦ chain n links l.parent ++ l.fact ∷ [] ]))
+    subst (λ o. (elim o as (λ _. List Fact) [ None ↦ [] | Some l ↦ chain n (links ++ more) l.parent ++ l.fact ∷ [] ]) ≡
+    (elim (slice_get links i) as (λ _. List Fact) [ None ↦ [] | Some l ↦ chain n links l.parent ++ l.fact ∷ [] ]))
     (sym (at_first links more i (omega arith)))
     (by_link (slice_get links i) (ok i) (chain-more links more ok n))
   where
-    by_link : (o : Option Link) → ((l : Link) → o ≡ Some l → l.parent ≤ i) → ((at : ℕ) → at ≤ length links → chain n (links ++ more) at ≡ chain n links at) → (elim o as (λ _. List Fact) [ None ↦ [] | Some l ↦ chain n (links ++ more) l.parent ++ l.fact ∷ [] ]) ≡ (elim o as (λ _. List Fact) [ None ↦ [] | Some l ↦ chain n links l.parent ++ l.fact ∷ [] ])
+    by_link : (o : Option Link) → ((l : Link) → o ≡ Some l → l.parent ≤ i)
+        → ((at : ℕ) → at ≤ length links → chain n (links ++ more) at ≡ chain n links at)
+        → (elim o as (λ _. List Fact) [ None ↦ [] | Some l ↦ chain n (links ++ more) l.parent ++ l.fact ∷ [] ]) ≡
+        (elim o as (λ _. List Fact) [ None ↦ [] | Some l ↦ chain n links l.parent ++ l.fact ∷ [] ])
     by_link None q f = refl
     by_link (Some l) q f = let k = q l refl in ap (λ z. z ++ l.fact ∷ []) (f l.parent (omega arith))
 

@@ -72,9 +72,21 @@ pub record IsFit (p : Problem) (n : Node) : Type 0 where
 module _ (p : Problem) (ok : IsInstance p) where
   pub fit_mark : (best : Option (List Cell)) (path : List Fact) (m : NodeState) → IsKnown p best path m → IsFit p (node_of p path m)
   fit_mark best path (Split g) k = record { numbers = k.numbers; once = tt; short = tt }
-  fit_mark best path (Closed leaf) k = record { numbers = k.answer.numbers; once = once_closed p path (final_bound p best) leaf k.right; short = k.answer.short }
-  fit_mark best path (Opened g) k = let a = best_answer p path ok in record { numbers = a.numbers; once = once Days (λ c. refl) p path; short = a.short }
-  fit_mark best path Unopened k = let a = best_answer p path ok in record { numbers = a.numbers; once = once Days (λ c. refl) p path; short = a.short }
+  fit_mark best path (Closed leaf) k = record {
+    numbers = k.answer.numbers;
+    once = once_closed p path (final_bound p best) leaf k.right;
+    short = k.answer.short;
+  }
+  fit_mark best path (Opened g) k = let a = best_answer p path ok in record {
+    numbers = a.numbers;
+    once = once Days (λ c. refl) p path;
+    short = a.short;
+  }
+  fit_mark best path Unopened k = let a = best_answer p path ok in record {
+    numbers = a.numbers;
+    once = once Days (λ c. refl) p path;
+    short = a.short;
+  }
 
   module _ (best : Option (List Cell)) (links : List Link) (tree_nodes : List TreeNode) (grown : IsGrown p best links tree_nodes) where
     abbrev xs : List OnPath
@@ -88,11 +100,14 @@ module _ (p : Problem) (ok : IsInstance p) where
 
     pub writable : length tree_nodes ≤ 131073 → All (IsWritable p links) tree_nodes
     writable at_most = All-from_recursion (IsWritable p links) tree_nodes
-        (each_weaker (λ e. IsThere p links e × IsFit p (node_at p links e)) (IsWritable p links) (λ e h. record { reached = h.0.reached; numbers = h.1.numbers; once = h.1.once }) tree_nodes
-        (each_both (IsThere p links) (λ e. IsFit p (node_at p links e)) tree_nodes (each_there p best links tree_nodes grown at_most) each_fit))
+        (each_weaker (λ e. IsThere p links e × IsFit p (node_at p links e)) (IsWritable p links)
+        (λ e h. record { reached = h.0.reached; numbers = h.1.numbers; once = h.1.once }) tree_nodes
+        (each_both (IsThere p links) (λ e. IsFit p (node_at p links e)) tree_nodes
+        (each_there p best links tree_nodes grown at_most) each_fit))
 
     -- the nodes written are those of the tree
-    same_nodes : (ys : List OnPath) (es : List TreeNode) → AllZip (IsSameNode p best links) ys es → nodes_of p links es ≡ map (λ x. x.node) ys
+    same_nodes : (ys : List OnPath) (es : List TreeNode) → AllZip (IsSameNode p best links) ys es
+        → nodes_of p links es ≡ map (λ x. x.node) ys
     same_nodes [] [] h = refl
     same_nodes [] (e ∷ es) h = absurd h
     same_nodes (y ∷ ys) [] h = absurd h
@@ -109,7 +124,8 @@ module _ (p : Problem) (ok : IsInstance p) where
     same_worths (y ∷ ys) [] h = absurd h
     same_worths (y ∷ ys) (e ∷ es) h =
         let a = ap (λ q. node_of p q e.mark) h.0.path ∙ sym h.0.node in
-        let b : worth_at p links e ≡ node_worth p y.path y.node = ap (λ q. node_worth p q (node_at p links e)) h.0.path ∙ ap (node_worth p y.path) a in
+        let b : worth_at p links e ≡ node_worth p y.path y.node = ap (λ q. node_worth p q (node_at p links e)) h.0.path
+        ∙ ap (node_worth p y.path) a in
         ap (λ o. cons_option o (worths_of p links es)) b ∙ ap (cons_option (node_worth p y.path y.node)) (same_worths ys es h.1)
 
     pub worths_are : worths_of p links tree_nodes ≡ worths p xs
@@ -127,22 +143,35 @@ module _ (p : Problem) (ok : IsInstance p) where
       path : List Fact
       path = path_at links e.link
 
-      by_mark : (m : NodeState) → is_open m ≡ true → (n : ℕ) × (node_worth p (path_at links e.link) (node_of p (path_at links e.link) m) ≡ Some n) × (n ≤ 1000000000000)
+      by_mark : (m : NodeState) → is_open m ≡ true
+          → (n : ℕ) × (node_worth p (path_at links e.link) (node_of p (path_at links e.link) m) ≡ Some n) × (n ≤ 1000000000000)
       by_mark (Split g) k = cc
       by_mark (Closed leaf) k = cc
-      by_mark (Opened g) k = (total_of p (path_at links e.link) (best_claims p (path_at links e.link)), refl, total_limit p ok (path_at links e.link))
-      by_mark Unopened k = (total_of p (path_at links e.link) (best_claims p (path_at links e.link)), refl, total_limit p ok (path_at links e.link))
+      by_mark (Opened g) k = (
+        total_of p (path_at links e.link) (best_claims p (path_at links e.link)),
+        refl,
+        total_limit p ok (path_at links e.link),
+      )
+      by_mark Unopened k = (
+        total_of p (path_at links e.link) (best_claims p (path_at links e.link)),
+        refl,
+        total_limit p ok (path_at links e.link),
+      )
 
-  least_of : (o : Option ℕ) (ns : List ℕ) (v : ℕ) → least ns ≡ Some v → v ≤ 1000000000000 → (w : ℕ) × (least (cons_option o ns) ≡ Some w) × (w ≤ 1000000000000)
+  least_of : (o : Option ℕ) (ns : List ℕ) (v : ℕ) → least ns ≡ Some v → v ≤ 1000000000000
+      → (w : ℕ) × (least (cons_option o ns) ≡ Some w) × (w ≤ 1000000000000)
   least_of None ns v e h = (v, e, h)
   least_of (Some n) ns v e h = let k = ap (least_with n) e in (least_with n (least ns), refl, omega arith)
 
   -- if a node is open, some leaf has the least value
-  pub least_worth : (links : List Link) (tree_nodes : List TreeNode) → list_any (λ e. is_open e.mark) tree_nodes ≡ true → (v : ℕ) × (least (worths_of p links tree_nodes) ≡ Some v) × (v ≤ 1000000000000)
+  pub least_worth : (links : List Link) (tree_nodes : List TreeNode) → list_any (λ e. is_open e.mark) tree_nodes ≡ true
+      → (v : ℕ) × (least (worths_of p links tree_nodes) ≡ Some v) × (v ≤ 1000000000000)
   least_worth links [] e = cc
   least_worth links (x ∷ es) e = by_mark (is_open x.mark) refl e (least_worth links es)
     where
-      by_mark : (b : Bool) → is_open x.mark ≡ b → (b || list_any (λ k. is_open k.mark) es) ≡ true → (list_any (λ k. is_open k.mark) es ≡ true → (v : ℕ) × (least (worths_of p links es) ≡ Some v) × (v ≤ 1000000000000)) → (v : ℕ) × (least (worths_of p links (x ∷ es)) ≡ Some v) × (v ≤ 1000000000000)
+      by_mark : (b : Bool) → is_open x.mark ≡ b → (b || list_any (λ k. is_open k.mark) es) ≡ true
+          → (list_any (λ k. is_open k.mark) es ≡ true → (v : ℕ) × (least (worths_of p links es) ≡ Some v) × (v ≤ 1000000000000))
+          → (v : ℕ) × (least (worths_of p links (x ∷ es)) ≡ Some v) × (v ≤ 1000000000000)
       by_mark true o k rest =
           let w = worth_open links x o in
           let h = least_with-le w.0 (least (worths_of p links es)) in
@@ -169,7 +198,8 @@ module _ (p : Problem) (ok : IsInstance p) where
   best_feasible None k = tt
   best_feasible (Some b) k = k.feasible
 
-  module _ (s : Search) (u : IsUnderWay p s) (limit : ℕ) (small : limit ≤ 65536) (nodes : List Node) (is : nodes ≡ nodes_of p s.links.items s.tree_nodes.items) where
+  module _ (s : Search) (u : IsUnderWay p s) (limit : ℕ) (small : limit ≤ 65536) (nodes : List Node)
+      (is : nodes ≡ nodes_of p s.links.items s.tree_nodes.items) where
     abbrev links : List Link
     links = s.links.items
 
@@ -203,13 +233,17 @@ module _ (p : Problem) (ok : IsInstance p) where
         count = omega (arith, as_long);
         prices = All-from_recursion HasShortPrices nodes (each_weaker (IsFit p) HasShortPrices (λ n f. short_prices n f.short) nodes fits);
         depth = λ tree e.
-            leaves_low 65536 tree (subst (λ l. All (λ x. length x.path ≤ 65536) l) (sym (whole_places u.grown.tree nodes spelled) ∙ whole_places tree nodes e)
-            (All-from_recursion (λ x. length x.path ≤ 65536) (on_paths [] u.grown.tree) (shallow p best links tree_nodes u.grown (omega arith))));
+            leaves_low 65536 tree
+            (subst (λ l. All (λ x. length x.path ≤ 65536) l) (sym (whole_places u.grown.tree nodes spelled) ∙ whole_places tree nodes e)
+            (All-from_recursion (λ x. length x.path ≤ 65536) (on_paths [] u.grown.tree)
+            (shallow p best links tree_nodes u.grown (omega arith))));
       };
     }
 
     -- the end of a search
-    pub concluded : (finished : Bool) (lowest : Option ℕ) → BeginsWell p best → EndsAt limit tree_nodes finished → (finished ≡ false → lowest ≡ least (worths_of p links tree_nodes)) → IsOutcome p limit best (shown_bound (final_bound p best) lowest finished) nodes finished
+    pub concluded : (finished : Bool) (lowest : Option ℕ) → BeginsWell p best → EndsAt limit tree_nodes finished
+        → (finished ≡ false → lowest ≡ least (worths_of p links tree_nodes))
+        → IsOutcome p limit best (shown_bound (final_bound p best) lowest finished) nodes finished
     concluded true lowest begun ends same =
         let derives = (finished_proves p best links tree_nodes u.grown (omega (arith, ends.1)) ends.0).1 in
         record {
@@ -223,10 +257,13 @@ module _ (p : Problem) (ok : IsInstance p) where
     concluded false lowest begun ends same =
         let w = least_worth links tree_nodes ends.0 in
         let reported : lowest ≡ Some w.0 = same refl ∙ w.1 in
-        let shown : shown_bound (final_bound p best) lowest false ≡ AtLeast w.0 = ap (λ o. shown_bound (final_bound p best) o false) reported in
-        let found : least (worths p (on_paths [] u.grown.tree)) ≡ Some w.0 = sym (ap least (worths_are best links tree_nodes u.grown)) ∙ w.1 in
+        let shown : shown_bound (final_bound p best) lowest false ≡ AtLeast w.0 =
+        ap (λ o. shown_bound (final_bound p best) o false) reported in
+        let found : least (worths p (on_paths [] u.grown.tree)) ≡ Some w.0 = sym (ap least (worths_are best links tree_nodes u.grown))
+        ∙ w.1 in
         let bound : IsBound (shown_bound (final_bound p best) lowest false) = subst IsBound (sym shown) w.2 in
-        let derives = subst (λ (b : Bound). Derives p b [] u.grown.tree) (sym shown) (unfinished_proves p best links tree_nodes u.grown w.0 found (omega (arith, ends.2))).1 in
+        let derives = subst (λ (b : Bound). Derives p b [] u.grown.tree) (sym shown)
+        (unfinished_proves p best links tree_nodes u.grown w.0 found (omega (arith, ends.2))).1 in
         record {
           feasible = best_feasible s.best u.kept;
           begun = begun;
@@ -244,7 +281,8 @@ module _ (p : Problem) (ok : IsInstance p) where
         }
 
 -- a search that has ended has at most 131,073 nodes
-pub few_ended : (limit : ℕ) (tree_nodes : List TreeNode) (finished : Bool) → limit ≤ 65536 → EndsAt limit tree_nodes finished → length tree_nodes ≤ 131073
+pub few_ended : (limit : ℕ) (tree_nodes : List TreeNode) (finished : Bool) → limit ≤ 65536 → EndsAt limit tree_nodes finished
+    → length tree_nodes ≤ 131073
 few_ended limit tree_nodes true small ends = omega (arith, ends.1)
 few_ended limit tree_nodes false small ends = omega (arith, ends.2)
 

@@ -13,12 +13,16 @@ use Rattle.tt_branch.specs.Inner.Growing.{HasMark}
 use Rattle.tt_branch.specs.Inner.Links.{link_of, divided_links}
 use Rattle.tt_branch.specs.Inner.State.{IsSplitAt}
 
-split_items : (items one two three : List TreeNode) (k : ℕ) (e d a b : TreeNode) (cut : IsCut items k e) → one ≡ insert items (k + 1) b → two ≡ insert one (k + 1) a → three ≡ slice_set two k d → three ≡ cut.before ++ d ∷ a ∷ b ∷ cut.after
+split_items : (items one two three : List TreeNode) (k : ℕ) (e d a b : TreeNode) (cut : IsCut items k e) → one ≡ insert items (k + 1) b
+    → two ≡ insert one (k + 1) a → three ≡ slice_set two k d → three ≡ cut.before ++ d ∷ a ∷ b ∷ cut.after
 split_items items one two three k e d a b cut h i j =
     let at : k + 1 ≡ suc (length cut.before) = omega (arith, cut.place) in
-    let first : one ≡ cut.before ++ e ∷ b ∷ cut.after = h ∙ ap (λ l. insert l (k + 1) b) cut.whole ∙ ap (λ n. insert (cut.before ++ e ∷ cut.after) n b) at ∙ insert_cut cut.before e cut.after b in
-    let second : two ≡ cut.before ++ e ∷ a ∷ b ∷ cut.after = i ∙ ap (λ l. insert l (k + 1) a) first ∙ ap (λ n. insert (cut.before ++ e ∷ b ∷ cut.after) n a) at ∙ insert_cut cut.before e (b ∷ cut.after) a in
-    j ∙ ap (λ l. slice_set l k d) second ∙ ap (λ n. slice_set (cut.before ++ e ∷ a ∷ b ∷ cut.after) n d) (sym cut.place) ∙ set_cut cut.before e (a ∷ b ∷ cut.after) d
+    let first : one ≡ cut.before ++ e ∷ b ∷ cut.after = h ∙ ap (λ l. insert l (k + 1) b) cut.whole
+    ∙ ap (λ n. insert (cut.before ++ e ∷ cut.after) n b) at ∙ insert_cut cut.before e cut.after b in
+    let second : two ≡ cut.before ++ e ∷ a ∷ b ∷ cut.after = i ∙ ap (λ l. insert l (k + 1) a) first
+    ∙ ap (λ n. insert (cut.before ++ e ∷ b ∷ cut.after) n a) at ∙ insert_cut cut.before e (b ∷ cut.after) a in
+    j ∙ ap (λ l. slice_set l k d) second ∙ ap (λ n. slice_set (cut.before ++ e ∷ a ∷ b ∷ cut.after) n d) (sym cut.place)
+    ∙ set_cut cut.before e (a ∷ b ∷ cut.after) d
 
 -- the steps of the code
 pub record AreSteps (place : ℕ) (g : Pattern) (old new : Search) : Type 0 where
@@ -47,7 +51,8 @@ pub record AreSteps (place : ℕ) (g : Pattern) (old new : Search) : Type 0 wher
   pub put_d : new.tree_nodes.items ≡ slice_set most place d
   pub best : new.best ≡ old.best
 
-pub split_by_steps : (place : ℕ) (g : Pattern) (old new : Search) → HasMark old.tree_nodes.items place (Opened g) → AreSteps place g old new → IsSplitAt place g old new
+pub split_by_steps : (place : ℕ) (g : Pattern) (old new : Search) → HasMark old.tree_nodes.items place (Opened g)
+    → AreSteps place g old new → IsSplitAt place g old new
 split_by_steps place g old new h s =
     let cut = cut_at old.tree_nodes.items place h.0 h.1 in
     let same : s.read ≡ h.0 = s.read_is ∙ get_or_from_slice_get old.tree_nodes.items place h.0 s.read h.1 in
@@ -68,9 +73,11 @@ split_by_steps place g old new h s =
         first = s.a_mark;
         first_link = s.a_link ∙ s.yes_is;
         second = s.b_mark;
-        second_link = s.b_link ∙ s.no_is ∙ omega (arith, ap length s.first_link, length-append old.links.items (link_of s.read.link g true ∷ []));
+        second_link = s.b_link ∙ s.no_is
+            ∙ omega (arith, ap length s.first_link, length-append old.links.items (link_of s.read.link g true ∷ []));
       };
       tree_nodes = split_items old.tree_nodes.items s.more s.most new.tree_nodes.items place h.0 s.d s.a s.b cut s.put_b s.put_a s.put_d;
-      links = s.second_link ∙ ap (λ l. l ++ link_of s.read.link g false ∷ []) s.first_link ∙ ap (λ n. divided_links old.links.items n g) link;
+      links = s.second_link ∙ ap (λ l. l ++ link_of s.read.link g false ∷ []) s.first_link
+          ∙ ap (λ n. divided_links old.links.items n g) link;
       best = s.best;
     }

@@ -56,8 +56,10 @@ depth-le root (Tip leaf) = (omega arith, tt)
 depth-le root (Fork g a b) =
     let P : OnPath → Type 0 = λ x. length x.path ≤ length root + splits (Fork g a b) in
     let one = λ (holds : Bool). length-append root (record { pattern = g; holds = holds } ∷ []) in
-    let first = each_weaker (λ x. length x.path ≤ length (with_fact root g true) + splits a) P (λ x h. omega (arith, one true)) (on_paths (with_fact root g true) a) (depth-le (with_fact root g true) a) in
-    let second = each_weaker (λ x. length x.path ≤ length (with_fact root g false) + splits b) P (λ x h. omega (arith, one false)) (on_paths (with_fact root g false) b) (depth-le (with_fact root g false) b) in
+    let first = each_weaker (λ x. length x.path ≤ length (with_fact root g true) + splits a) P (λ x h. omega (arith, one true))
+    (on_paths (with_fact root g true) a) (depth-le (with_fact root g true) a) in
+    let second = each_weaker (λ x. length x.path ≤ length (with_fact root g false) + splits b) P (λ x h. omega (arith, one false))
+    (on_paths (with_fact root g false) b) (depth-le (with_fact root g false) b) in
     (omega arith, each_append P (on_paths (with_fact root g true) a) (on_paths (with_fact root g false) b) first second)
 
 pub preorder-on_paths : (root : List Fact) (tree : Tree) → map (λ x. x.node) (on_paths root tree) ≡ preorder tree
@@ -69,7 +71,8 @@ preorder-on_paths root (Fork g a b) =
 
 -- ---- the end
 
-module _ (p : Problem) (best : Option (List Cell)) (links : List Link) (tree_nodes : List TreeNode) (grown : IsGrown p best links tree_nodes) where
+module _ (p : Problem) (best : Option (List Cell)) (links : List Link) (tree_nodes : List TreeNode)
+    (grown : IsGrown p best links tree_nodes) where
   abbrev xs : List OnPath
   xs = on_paths [] grown.tree
 
@@ -78,24 +81,31 @@ module _ (p : Problem) (best : Option (List Cell)) (links : List Link) (tree_nod
 
   -- no node is too deep, if the tree has at most as many nodes as a search can make
   pub shallow : length tree_nodes ≤ 131073 → AllByRecursion (λ x. length x.path ≤ 65536) xs
-  shallow h = each_weaker (λ x. length x.path ≤ 0 + splits grown.tree) (λ x. length x.path ≤ 65536) (λ x k. omega (arith, as_many, length-on_paths [] grown.tree)) xs (depth-le [] grown.tree)
+  shallow h = each_weaker (λ x. length x.path ≤ 0 + splits grown.tree) (λ x. length x.path ≤ 65536)
+      (λ x k. omega (arith, as_many, length-on_paths [] grown.tree)) xs (depth-le [] grown.tree)
 
   pub well_split : All (SplitsWell p) xs
-  well_split = All-from_recursion (SplitsWell p) xs (zip_each (IsSameNode p best links) (SplitsWell p) (splits_well p best links) xs tree_nodes grown.together)
+  well_split = All-from_recursion (SplitsWell p) xs
+      (zip_each (IsSameNode p best links) (SplitsWell p) (splits_well p best links) xs tree_nodes grown.together)
 
-  proved_by : (b : Bound) → length tree_nodes ≤ 131073 → AllByRecursion (λ x. IsRightOn p b x.path x.node) xs → IsShallow grown.tree × Derives p b [] grown.tree
+  proved_by : (b : Bound) → length tree_nodes ≤ 131073 → AllByRecursion (λ x. IsRightOn p b x.path x.node) xs → IsShallow grown.tree
+      × Derives p b [] grown.tree
   proved_by b h right =
-      passed_tree p b grown.tree (All-from_recursion (Passes p b) xs (each_both (λ x. length x.path ≤ 65536) (λ x. IsRightOn p b x.path x.node) xs (shallow h) right))
+      passed_tree p b grown.tree
+      (All-from_recursion (Passes p b) xs (each_both (λ x. length x.path ≤ 65536) (λ x. IsRightOn p b x.path x.node) xs
+      (shallow h) right))
 
   -- ---- each node is closed
 
-  closed_right : (x : OnPath) (m : NodeState) → x.node ≡ node_of p x.path m → IsKnown p best x.path m → is_open m ≡ false → IsRightOn p (final_bound p best) x.path x.node
+  closed_right : (x : OnPath) (m : NodeState) → x.node ≡ node_of p x.path m → IsKnown p best x.path m → is_open m ≡ false
+      → IsRightOn p (final_bound p best) x.path x.node
   closed_right x (Split g) n k e = subst (IsRightOn p (final_bound p best) x.path) (sym n) tt
   closed_right x (Closed leaf) n k e = subst (IsRightOn p (final_bound p best) x.path) (sym n) k.right
   closed_right x (Opened g) n k e = cc
   closed_right x Unopened n k e = cc
 
-  all_closed : (ys : List OnPath) (es : List TreeNode) → AllZip (IsSameNode p best links) ys es → list_any (λ e. is_open e.mark) es ≡ false → AllByRecursion (λ x. IsRightOn p (final_bound p best) x.path x.node) ys
+  all_closed : (ys : List OnPath) (es : List TreeNode) → AllZip (IsSameNode p best links) ys es
+      → list_any (λ e. is_open e.mark) es ≡ false → AllByRecursion (λ x. IsRightOn p (final_bound p best) x.path x.node) ys
   all_closed [] [] h e = tt
   all_closed [] (m ∷ es) h e = absurd h
   all_closed (y ∷ ys) [] h e = absurd h
@@ -104,31 +114,37 @@ module _ (p : Problem) (best : Option (List Cell)) (links : List Link) (tree_nod
       (closed_right y m.mark h.0.node h.0.known a.0, all_closed ys es h.1 a.1)
 
   -- if no node is open, the tree derives the cost of the best timetable, or that no timetable exists
-  pub finished_proves : length tree_nodes ≤ 131073 → list_any (λ e. is_open e.mark) tree_nodes ≡ false → IsShallow grown.tree × Derives p (final_bound p best) [] grown.tree
+  pub finished_proves : length tree_nodes ≤ 131073 → list_any (λ e. is_open e.mark) tree_nodes ≡ false → IsShallow grown.tree
+      × Derives p (final_bound p best) [] grown.tree
   finished_proves h e = proved_by (final_bound p best) h (all_closed xs tree_nodes grown.together e)
 
   -- ---- some nodes are open
 
   module _ (v : ℕ) (is_least : least (worths p xs) ≡ Some v) where
-    known_right : (x : OnPath) (m : NodeState) → x.node ≡ node_of p x.path m → IsKnown p best x.path m → Contains xs x → IsRightOn p (AtLeast v) x.path x.node
+    known_right : (x : OnPath) (m : NodeState) → x.node ≡ node_of p x.path m → IsKnown p best x.path m → Contains xs x
+        → IsRightOn p (AtLeast v) x.path x.node
     known_right x m is known i = by_mark m is known
       where
         below : (n : ℕ) → node_worth p x.path x.node ≡ Some n → v ≤ n
         below n k = least-le (worths p xs) v n is_least (given_member (λ y. node_worth p y.path y.node) xs x n i k)
 
         by_best : x.node ≡ node.Leaf (best_leaf p x.path) → IsRightOn p (AtLeast v) x.path x.node
-        by_best e = subst (IsRightOn p (AtLeast v) x.path) (sym e) (best_right p x.path v (below (total_of p x.path (best_claims p x.path)) (ap (node_worth p x.path) e)))
+        by_best e = subst (IsRightOn p (AtLeast v) x.path) (sym e)
+            (best_right p x.path v (below (total_of p x.path (best_claims p x.path)) (ap (node_worth p x.path) e)))
 
         by_mark : (n : NodeState) → x.node ≡ node_of p x.path n → IsKnown p best x.path n → IsRightOn p (AtLeast v) x.path x.node
         by_mark (Split g) e k = subst (IsRightOn p (AtLeast v) x.path) (sym e) tt
         by_mark (Closed leaf) e k =
-            subst (IsRightOn p (AtLeast v) x.path) (sym e) (right_for p x.path (final_bound p best) leaf v k.right (λ n w. below n (ap (node_worth p x.path) e ∙ w)))
+            subst (IsRightOn p (AtLeast v) x.path) (sym e)
+            (right_for p x.path (final_bound p best) leaf v k.right (λ n w. below n (ap (node_worth p x.path) e ∙ w)))
         by_mark (Opened g) e k = by_best e
         by_mark Unopened e k = by_best e
 
     all_known : AllByRecursion (λ x. IsRightOn p (AtLeast v) x.path x.node) xs
     all_known = each_member (λ x. IsRightOn p (AtLeast v) x.path x.node) xs (λ x i.
-        let w = at_member (λ y. (e : TreeNode) × IsSameNode p best links y e) xs x (zip_each (IsSameNode p best links) (λ y. (e : TreeNode) × IsSameNode p best links y e) (λ y e s. (e, s)) xs tree_nodes grown.together) i in
+        let w = at_member (λ y. (e : TreeNode) × IsSameNode p best links y e) xs x
+        (zip_each (IsSameNode p best links) (λ y. (e : TreeNode) × IsSameNode p best links y e)
+        (λ y e s. (e, s)) xs tree_nodes grown.together) i in
         known_right x w.0.mark w.1.node w.1.known i)
 
     -- the tree derives the least value of a Cost leaf
@@ -140,9 +156,11 @@ module _ (p : Problem) (best : Option (List Cell)) (links : List Link) (tree_nod
   greedy_at : (x : OnPath) (e : TreeNode) → IsSameNode p best links x e → IsGreedy p best x
   greedy_at x e s n k c = by_mark e.mark s.node s.known
     where
-      dear : (o : Option (List Cell)) (leaf : Leaf) → x.node ≡ node.Leaf leaf → IsCheaper p o n → (right : IsRightOn p (final_bound p o) x.path (node.Leaf leaf)) → ⊥
+      dear : (o : Option (List Cell)) (leaf : Leaf) → x.node ≡ node.Leaf leaf → IsCheaper p o n
+          → (right : IsRightOn p (final_bound p o) x.path (node.Leaf leaf)) → ⊥
       dear None leaf e d right = no_worth p x.path leaf n right (sym (ap (node_worth p x.path) e) ∙ k)
-      dear (Some t) leaf e d right = let l = worth_reaches p x.path (cost p t) leaf n right (sym (ap (node_worth p x.path) e) ∙ k) in omega arith
+      dear (Some t) leaf e d right = let l = worth_reaches p x.path (cost p t) leaf n right (sym (ap (node_worth p x.path) e) ∙ k) in
+          omega arith
 
       by_mark : (j : NodeState) → x.node ≡ node_of p x.path j → IsKnown p best x.path j → x.node ≡ node.Leaf (best_leaf p x.path)
       by_mark (Split g) e j = let a = sym (ap (node_worth p x.path) e) ∙ k in cc
@@ -151,4 +169,5 @@ module _ (p : Problem) (best : Option (List Cell)) (links : List Link) (tree_nod
       by_mark Unopened e j = e
 
   pub greedy : All (IsGreedy p best) xs
-  greedy = All-from_recursion (IsGreedy p best) xs (zip_each (IsSameNode p best links) (IsGreedy p best) greedy_at xs tree_nodes grown.together)
+  greedy = All-from_recursion (IsGreedy p best) xs
+      (zip_each (IsSameNode p best links) (IsGreedy p best) greedy_at xs tree_nodes grown.together)

@@ -26,7 +26,9 @@ no_more [] y zs k = cc
 no_more (x ∷ xs) y zs k = cc
 
 -- the tree with another tree replacing a leaf
-pub graft : (root : List Fact) (tree : Tree) (before : List OnPath) (path : List Fact) (leaf : Leaf) (after : List OnPath) → on_paths root tree ≡ before ++ on_path path (node.Leaf leaf) ∷ after → (sub : Tree) → (grown : Tree) × (on_paths root grown ≡ before ++ (on_paths path sub ++ after))
+pub graft : (root : List Fact) (tree : Tree) (before : List OnPath) (path : List Fact) (leaf : Leaf) (after : List OnPath)
+    → on_paths root tree ≡ before ++ on_path path (node.Leaf leaf) ∷ after → (sub : Tree)
+    → (grown : Tree) × (on_paths root grown ≡ before ++ (on_paths path sub ++ after))
 graft root (Tip l) [] path leaf after e sub =
     let p : root ≡ path = ap (path_of root) e in
     let t : [] ≡ after = cc in
@@ -49,12 +51,14 @@ graft root (Fork h a c) (b ∷ before) path leaf after e sub =
           let r = graft (with_fact root h true) a before path leaf w.0 w.1 sub in (
             Fork h r.0 c,
             ap (λ l. here ∷ (l ++ rs)) r.1 ∙ ap (λ z. z ∷ ((before ++ (on_paths path sub ++ w.0)) ++ rs)) top
-                ∙ ap (λ l. b ∷ l) (append_assoc before (on_paths path sub ++ w.0) rs ∙ ap (λ l. before ++ l) (append_assoc (on_paths path sub) w.0 rs ∙ ap (λ l. on_paths path sub ++ l) (sym w.2))),
+                ∙ ap (λ l. b ∷ l) (append_assoc before (on_paths path sub ++ w.0) rs
+                ∙ ap (λ l. before ++ l) (append_assoc (on_paths path sub) w.0 rs ∙ ap (λ l. on_paths path sub ++ l) (sym w.2))),
           )
       | inr w ↦
           let r = graft (with_fact root h false) c w.0 path leaf after w.2 sub in (
             Fork h a r.0,
             ap (λ l. here ∷ (ls ++ l)) r.1 ∙ ap (λ z. z ∷ (ls ++ (w.0 ++ (on_paths path sub ++ after)))) top
-                ∙ ap (λ l. b ∷ l) (sym (append_assoc ls w.0 (on_paths path sub ++ after)) ∙ ap (λ l. l ++ (on_paths path sub ++ after)) (sym w.1)),
+                ∙ ap (λ l. b ∷ l) (sym (append_assoc ls w.0 (on_paths path sub ++ after)) ∙ ap (λ l. l ++ (on_paths path sub ++ after))
+                (sym w.1)),
           )
     ]

@@ -63,13 +63,22 @@ module _ (p : Problem) (ok : IsInstance p) where
       let at_most : length t ≤ 4096 = omega (
         arith,
         entries_up p t (in_range p t whole),
-        sum_by-le (entries_of t) (lectures p) (all_courses p) (each (λ c. entries_of t c ≤ lectures p c) (λ c. let e = lectures_met p t whole c in omega arith) (all_courses p)),
+        sum_by-le (entries_of t) (lectures p) (all_courses p)
+            (each (λ c. entries_of t c ≤ lectures p c) (λ c. let e = lectures_met p t whole c in omega arith) (all_courses p)),
         few_lectures p ok,
       ) in
-      let seats = most (λ e. excess p e.course e.room) 1000000 t (each_member (λ e. excess p e.course e.room ≤ 1 * 1000000) t (λ e m. let s = few_students p ok e.course (in_range p t whole e m).course in omega arith)) in
-      let days = most (days_cost p t) 2560 (all_courses p) (each_below (λ c. days_cost p t c ≤ 1 * 2560) (length p.courses) (λ c h. let d = few_days c h in omega arith)) in
-      let compact = most (compactness_cost p t) 8192 (all_curricula p) (each (λ q. compactness_cost p t q ≤ 1 * 8192) (λ q. let n = count_by-le-length (λ e. in_curriculum p q e.course && is_isolated p t q e) t in omega arith) (all_curricula p)) in
-      let stable = most (stability_cost p t) 512 (all_courses p) (each (λ c. stability_cost p t c ≤ 1 * 512) (λ c. let n = count_by-le-length (λ r. list_any (λ e. is_of c e && is_in r e) t) (all_rooms p) in let m = many_rooms in omega arith) (all_courses p)) in
+      let seats = most (λ e. excess p e.course e.room) 1000000 t
+      (each_member (λ e. excess p e.course e.room ≤ 1 * 1000000) t
+      (λ e m. let s = few_students p ok e.course (in_range p t whole e m).course in omega arith)) in
+      let days = most (days_cost p t) 2560 (all_courses p)
+      (each_below (λ c. days_cost p t c ≤ 1 * 2560) (length p.courses) (λ c h. let d = few_days c h in omega arith)) in
+      let compact = most (compactness_cost p t) 8192 (all_curricula p)
+      (each (λ q. compactness_cost p t q ≤ 1 * 8192)
+      (λ q. let n = count_by-le-length (λ e. in_curriculum p q e.course && is_isolated p t q e) t in omega arith)
+      (all_curricula p)) in
+      let stable = most (stability_cost p t) 512 (all_courses p)
+      (each (λ c. stability_cost p t c ≤ 1 * 512) (λ c. let n = count_by-le-length (λ r. list_any (λ e. is_of c e && is_in r e) t)
+      (all_rooms p) in let m = many_rooms in omega arith) (all_courses p)) in
       let a = many_courses in
       let b = many_curricula in
       omega arith
@@ -77,7 +86,8 @@ module _ (p : Problem) (ok : IsInstance p) where
   -- ---- the best claims
 
   module _ (path : List Fact) where
-    one_price : (c : ℕ) (o : Option ℕ) → ((u : ℕ) → o ≡ Some u → u ≤ 1000000) → sum_by (value_of p path) (at_price c o) ≤ lectures p c * 1000000
+    one_price : (c : ℕ) (o : Option ℕ) → ((u : ℕ) → o ≡ Some u → u ≤ 1000000)
+        → sum_by (value_of p path) (at_price c o) ≤ lectures p c * 1000000
     one_price c None f = zero-le
     one_price c (Some u) f =
         let h = mul-le-mul_left (lectures p c) (f u refl) in
@@ -87,14 +97,22 @@ module _ (p : Problem) (ok : IsInstance p) where
     -- the value of the best claims is at most the maximum bound
     pub total_limit : total_of p path (best_claims p path) ≤ 1000000000000
     total_limit =
-        let seats : sum_by (λ c. sum_by (value_of p path) (at_price c (price_of p path c))) (all_courses p) ≤ sum_by (λ c. lectures p c * 1000000) (all_courses p) =
+        let seats : sum_by (λ c. sum_by (value_of p path) (at_price c (price_of p path c))) (all_courses p) ≤ sum_by
+        (λ c. lectures p c * 1000000) (all_courses p) =
         sum_by-le (λ c. sum_by (value_of p path) (at_price c (price_of p path c))) (λ c. lectures p c * 1000000) (all_courses p)
-        (each_below (λ c. sum_by (value_of p path) (at_price c (price_of p path c)) ≤ lectures p c * 1000000) (length p.courses) (λ c h. one_price c (price_of p path c) (λ u e. price_short p path ok c u h e))) in
+        (each_below (λ c. sum_by (value_of p path) (at_price c (price_of p path c)) ≤ lectures p c * 1000000) (length p.courses)
+        (λ c h. one_price c (price_of p path c) (λ u e. price_short p path ok c u h e))) in
         let times = sum_by-times (lectures p) 1000000 (all_courses p) in
         let placed = few_lectures p ok in
-        let days = most (λ c. value_of p path (Days c)) 2560 (all_courses p) (each_below (λ c. value_of p path (Days c) ≤ 1 * 2560) (length p.courses) (λ c h. let d = few_days c h in omega arith)) in
-        let compact = most (λ q. value_of p path (Compact q)) 1024 (all_curricula p) (each (λ q. value_of p path (Compact q) ≤ 1 * 1024) (λ q. let n = count_by-le-length (λ s. pinned p path (Curriculum q) s && is_alone p path q s) (all_slots p) in let m = many_slots in omega arith) (all_curricula p)) in
-        let stable = most (λ c. value_of p path (Stable c)) 512 (all_courses p) (each (λ c. value_of p path (Stable c) ≤ 1 * 512) (λ c. let n = count_by-le-length (pinned_room p path c) (all_rooms p) in let m = many_rooms in omega arith) (all_courses p)) in
+        let days = most (λ c. value_of p path (Days c)) 2560 (all_courses p)
+        (each_below (λ c. value_of p path (Days c) ≤ 1 * 2560) (length p.courses) (λ c h. let d = few_days c h in omega arith)) in
+        let compact = most (λ q. value_of p path (Compact q)) 1024 (all_curricula p)
+        (each (λ q. value_of p path (Compact q) ≤ 1 * 1024)
+        (λ q. let n = count_by-le-length (λ s. pinned p path (Curriculum q) s && is_alone p path q s) (all_slots p) in
+        let m = many_slots in omega arith) (all_curricula p)) in
+        let stable = most (λ c. value_of p path (Stable c)) 512 (all_courses p)
+        (each (λ c. value_of p path (Stable c) ≤ 1 * 512) (λ c. let n = count_by-le-length (pinned_room p path c) (all_rooms p) in
+        let m = many_rooms in omega arith) (all_courses p)) in
         let a = many_courses in
         let b = many_curricula in
         let total = total-claims Days (λ c. refl) p path in

@@ -36,17 +36,21 @@ cells_nested p = λ i. flat_map (λ c. flat_map (λ r. sym (in_room p c r) i) (a
 -- -- the number of live cells
 
 -- a timetable has at most as many entries as its courses have together
-pub entries_up : (p : Problem) (t : List Cell) → ((x : Cell) → Contains t x → InRange p x) → length t ≤ sum_by (entries_of t) (all_courses p)
+pub entries_up : (p : Problem) (t : List Cell) → ((x : Cell) → Contains t x → InRange p x) → length t ≤ sum_by (entries_of t)
+    (all_courses p)
 entries_up p t inside =
     omega (
       arith,
       sum_by-ones t,
-      spread_up (λ e. 1) (λ c e. one_if (is_of c e)) t (all_courses p) (each_member (λ e. 1 ≤ sum_by (λ c. one_if (is_of c e)) (all_courses p)) t (λ e m.
-          once_at_least true (λ c. is_of c e) 1 (all_courses p) (any_below (λ c. is_of c e) (length p.courses) e.course (inside e m).course (eq-eqb e.course e.course refl)))),
+      spread_up (λ e. 1) (λ c e. one_if (is_of c e)) t (all_courses p)
+          (each_member (λ e. 1 ≤ sum_by (λ c. one_if (is_of c e)) (all_courses p)) t (λ e m.
+          once_at_least true (λ c. is_of c e) 1 (all_courses p)
+          (any_below (λ c. is_of c e) (length p.courses) e.course (inside e m).course (eq-eqb e.course e.course refl)))),
     )
 
 -- if no cell is free and no leaf is right, there are at most 4,096 live cells, as many as lectures
-pub few_live : (p : Problem) (path : List Fact) (b : Bound) → IsInstance p → IsPinnedDown p path → IsOpen p path b → length (live_cells p path) ≤ 4096
+pub few_live : (p : Problem) (path : List Fact) (b : Bound) → IsInstance p → IsPinnedDown p path → IsOpen p path b
+    → length (live_cells p path) ≤ 4096
 few_live p path b ok pins none =
     let t = live_cells p path in
     omega (

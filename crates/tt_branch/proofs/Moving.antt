@@ -9,24 +9,29 @@ use Rattle.std.proofs.lemmas.Option.{get_or_from_slice_get}
 pub one_fewer : {X : Type 0} (all xs ys : List X) (x : X) → xs ≡ take (length xs) all → xs ≡ ys ++ x ∷ [] → ys ≡ take (length ys) all
 one_fewer all xs ys x whole last =
     let rest = drop (length xs) all in
-    let split : all ≡ ys ++ (x ∷ rest) = sym (take-append-drop (length xs) all) ∙ ap (λ l. l ++ rest) (sym whole ∙ last) ∙ append_assoc ys (x ∷ []) rest in
+    let split : all ≡ ys ++ (x ∷ rest) = sym (take-append-drop (length xs) all) ∙ ap (λ l. l ++ rest) (sym whole ∙ last)
+    ∙ append_assoc ys (x ∷ []) rest in
     sym (ap (take (length ys)) split ∙ take-append_seam ys (x ∷ rest))
 
 pub shorter : {X : Type 0} (xs ys : List X) (x : X) → xs ≡ ys ++ x ∷ [] → length xs ≡ length ys + 1
 shorter xs ys x last = ap length last ∙ length-append ys (x ∷ [])
 
 -- the facts that both paths begin with, and the others
-pub joined : {X : Type 0} (old facts : List X) (kept : ℕ) → take kept old ≡ reverse (drop (length facts - kept) facts) → take kept old ++ reverse (take (length facts - kept) facts) ≡ reverse facts
+pub joined : {X : Type 0} (old facts : List X) (kept : ℕ) → take kept old ≡ reverse (drop (length facts - kept) facts)
+    → take kept old ++ reverse (take (length facts - kept) facts) ≡ reverse facts
 joined old facts kept same =
     let n = length facts - kept in
     ap (λ l. l ++ reverse (take n facts)) same ∙ sym (reverse-append (take n facts) (drop n facts)) ∙ ap reverse (take-append-drop n facts)
 
 -- another fact is the same
-pub one_more : {X : Type 0} (old facts : List X) (index left : ℕ) (x d : X) → index < length old → 0 < left → left ≤ length facts → slice_get old index ≡ Some x → x ≡ get_or facts (left - 1) d → take index old ≡ reverse (drop left facts) → take (index + 1) old ≡ reverse (drop (left - 1) facts)
+pub one_more : {X : Type 0} (old facts : List X) (index left : ℕ) (x d : X) → index < length old → 0 < left → left ≤ length facts
+    → slice_get old index ≡ Some x → x ≡ get_or facts (left - 1) d → take index old ≡ reverse (drop left facts)
+    → take (index + 1) old ≡ reverse (drop (left - 1) facts)
 one_more old facts index left x d inside some within at is same =
     let m = left - 1 in
     let back : m + 1 ≡ left = omega arith in
     let y = get_or facts m d in
     let lower : m < length facts = omega arith in
     let dropped : drop m facts ≡ y ∷ drop left facts = drop_more facts m d lower ∙ ap (λ n. y ∷ drop n facts) back in
-    take_more old index x inside ∙ ap (λ z. take index old ++ z ∷ []) (get_or_from_slice_get old index x x at ∙ is) ∙ ap (λ l. l ++ y ∷ []) same ∙ sym (ap reverse dropped ∙ reverse-append (y ∷ []) (drop left facts))
+    take_more old index x inside ∙ ap (λ z. take index old ++ z ∷ []) (get_or_from_slice_get old index x x at ∙ is)
+    ∙ ap (λ l. l ++ y ∷ []) same ∙ sym (ap reverse dropped ∙ reverse-append (y ∷ []) (drop left facts))

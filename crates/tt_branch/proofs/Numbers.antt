@@ -1,4 +1,5 @@
--- The limits, the weights and the letters as numbers: contracts, definitions and code share their names, so only these examples would reveal a changed number.
+-- The limits, the weights and the letters as numbers: contracts, definitions and code share their names, so only these examples would
+-- reveal a changed number.
 use Rattle.std.proofs.Common.{◌≡◌, ◌-◌, ◌*◌, refl}
 use Rattle.tt_text.specs.declared.feed.TheConstants.{MAX_BYTES, MAX_TOKEN_BYTES}
 use Rattle.tt_instance_data.specs.declared.limit.TheConstants.{MAX_COURSES, MAX_ROOMS, MAX_DAYS, MAX_PERIODS, MAX_SLOTS, MAX_CELLS, MAX_CURRICULA, MAX_MEMBERS, MAX_UNAVAILABILITIES, MAX_LECTURES, MAX_MIN_DAYS, MAX_SEATS, ISOLATED_COST, MISSING_DAY_COST}

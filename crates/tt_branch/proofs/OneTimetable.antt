@@ -1,4 +1,5 @@
--- If the path has each live cell's own pattern as a yes-fact and no leaf without claims is right, the live cells are the one timetable that fits.
+-- If the path has each live cell's own pattern as a yes-fact and no leaf without claims is right, the live cells are the one timetable
+-- that fits.
 use Rattle.std.proofs.Common.{◌≡◌, ℕ, ◌≤◌, Bool, true, ◌&&◌, List, [], ◌∷◌, refl, sym, ap, ◌∙◌, subst, arith, inl, inr, eqb-true, eq-eqb}
 use Rattle.std.specs.Prelude.{Contains, ◌==◌, count_by}
 use Rattle.std.specs.List.{remove}
@@ -73,8 +74,10 @@ cell_same x y e =
     let a = and_parts ((x.course == y.course) && (x.room == y.room)) (is_at (slot_of y) x) e in
     let b = and_parts (x.course == y.course) (x.room == y.room) a.0 in
     let c = and_parts (x.day == y.day) (x.period == y.period) a.1 in
-    ap (λ i. cell_of i x.room x.day x.period) (eqb-true x.course y.course b.0) ∙ ap (λ i. cell_of y.course i x.day x.period) (eqb-true x.room y.room b.1)
-    ∙ ap (λ i. cell_of y.course y.room i x.period) (eqb-true x.day y.day c.0) ∙ ap (λ i. cell_of y.course y.room y.day i) (eqb-true x.period y.period c.1)
+    ap (λ i. cell_of i x.room x.day x.period) (eqb-true x.course y.course b.0) ∙ ap (λ i. cell_of y.course i x.day x.period)
+    (eqb-true x.room y.room b.1)
+    ∙ ap (λ i. cell_of y.course y.room i x.period) (eqb-true x.day y.day c.0) ∙ ap (λ i. cell_of y.course y.room y.day i)
+    (eqb-true x.period y.period c.1)
 
 -- only the cell itself matches its own pattern
 own_is : (p : Problem) (x y : Cell) → matches p (own_pattern x) y ≡ true → is_cell x y ≡ true
@@ -82,8 +85,10 @@ own_is p x y e =
     let m = Matches-from p (own_pattern x) y e in
     let turned : (a b : ℕ) → (b == a) ≡ true → (a == b) ≡ true = λ a b k. eq-eqb a b (sym (eqb-true b a k)) in
     and_from ((x.course == y.course) && (x.room == y.room)) (is_at (slot_of y) x)
-    (and_from (x.course == y.course) (x.room == y.room) (turned x.course y.course m.who) (eq-eqb x.room y.room (eqb-true x.room y.room m.room)))
-    (and_from (x.day == y.day) (x.period == y.period) (eq-eqb x.day y.day (eqb-true x.day y.day m.day)) (eq-eqb x.period y.period (eqb-true x.period y.period m.period)))
+    (and_from (x.course == y.course) (x.room == y.room) (turned x.course y.course m.who)
+    (eq-eqb x.room y.room (eqb-true x.room y.room m.room)))
+    (and_from (x.day == y.day) (x.period == y.period) (eq-eqb x.day y.day (eqb-true x.day y.day m.day))
+    (eq-eqb x.period y.period (eqb-true x.period y.period m.period)))
 
 -- ---- the timetables that fit
 
@@ -122,7 +127,8 @@ module _ (p : Problem) (path : List Fact) (pins : IsPinnedDown p path) where
         let l = subst (λ y. is_live p path y ≡ true) (sym e) (is_live_of p path w.0 w.1) in
         let f = own_fact path x (pins x r l) in
         let m = matched p u ok path fit f.0 f.1 f.2 in
-        count_if_any (is_cell x) u (any_member (is_cell x) u m.0 m.1 (own_is p x m.0 (subst (λ (g : Pattern). matches p g m.0 ≡ true) f.3 m.2)))
+        count_if_any (is_cell x) u
+        (any_member (is_cell x) u m.0 m.1 (own_is p x m.0 (subst (λ (g : Pattern). matches p g m.0 ≡ true) f.3 m.2)))
 
     same_times : (x : Cell) → count_by (is_cell x) u ≡ count_by (is_cell x) t
     same_times x = elim (cases_lt 0 (count_by (is_cell x) u)) [
@@ -151,7 +157,8 @@ module _ (p : Problem) (path : List Fact) (pins : IsPinnedDown p path) where
     worth =
         let total = total_of p path (best_claims p path) in
         let most : cost p t ≤ total = cost-le_total p path pins ok Nothing open_for_nothing in
-        let least : total ≤ cost p t = leaf_sound p t feasible path fitting (AtLeast total) (best_leaf p path) (best_right p path total (omega arith)) in
+        let least : total ≤ cost p t = leaf_sound p t feasible path fitting (AtLeast total) (best_leaf p path)
+        (best_right p path total (omega arith)) in
         omega arith
 
     pub leaves_one_timetable : LeavesOne p path

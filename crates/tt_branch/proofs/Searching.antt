@@ -37,7 +37,8 @@ use Rattle.tt_branch.proofs.Growing.{on_path, graft}
 -- ---- bounds
 
 -- a leaf that is right for a bound is right for each bound that is at most the value of the leaf, if it is a Cost leaf
-pub right_for : (p : Problem) (path : List Fact) (b : Bound) (leaf : Leaf) (n : ℕ) → IsRight p path b leaf → ((v : ℕ) → leaf_worth p path leaf ≡ Some v → n ≤ v) → IsRight p path (AtLeast n) leaf
+pub right_for : (p : Problem) (path : List Fact) (b : Bound) (leaf : Leaf) (n : ℕ) → IsRight p path b leaf
+    → ((v : ℕ) → leaf_worth p path leaf ≡ Some v → n ≤ v) → IsRight p path (AtLeast n) leaf
 right_for p path b (Empty g) n e f = e
 right_for p path b (Many c) n e f = e
 right_for p path b (Clique cs) n e f = e
@@ -46,11 +47,13 @@ right_for p path Nothing (Cost claims) n e f = absurd e
 right_for p path (AtLeast m) (Cost claims) n e f = (e.0, e.1, f (total_of p path claims) refl)
 
 -- the leaf of the best claims is right for its value
-pub best_right : (p : Problem) (path : List Fact) (n : ℕ) → n ≤ total_of p path (best_claims p path) → IsRight p path (AtLeast n) (best_leaf p path)
+pub best_right : (p : Problem) (path : List Fact) (n : ℕ) → n ≤ total_of p path (best_claims p path)
+    → IsRight p path (AtLeast n) (best_leaf p path)
 best_right p path n h = (all_different Days (λ c. refl) p path, all_fair Days (λ c. refl) p path (λ c. refl), h)
 
 -- the value of a right Cost leaf reaches the bound
-pub worth_reaches : (p : Problem) (path : List Fact) (m : ℕ) (leaf : Leaf) (v : ℕ) → IsRight p path (AtLeast m) leaf → leaf_worth p path leaf ≡ Some v → m ≤ v
+pub worth_reaches : (p : Problem) (path : List Fact) (m : ℕ) (leaf : Leaf) (v : ℕ) → IsRight p path (AtLeast m) leaf
+    → leaf_worth p path leaf ≡ Some v → m ≤ v
 worth_reaches p path m (Empty g) v e k = cc
 worth_reaches p path m (Many c) v e k = cc
 worth_reaches p path m (Clique cs) v e k = cc
@@ -72,9 +75,11 @@ abbrev pub IsBetter : Problem → Option (List Cell) → List Cell → Type 0
 IsBetter p None t = ⊤
 IsBetter p (Some u) t = cost p t ≤ cost p u
 
-closes_better : (p : Problem) (path : List Fact) (best : Option (List Cell)) (t : List Cell) (leaf : Leaf) → IsBetter p best t → IsRight p path (final_bound p best) leaf → IsRight p path (AtLeast (cost p t)) leaf
+closes_better : (p : Problem) (path : List Fact) (best : Option (List Cell)) (t : List Cell) (leaf : Leaf) → IsBetter p best t
+    → IsRight p path (final_bound p best) leaf → IsRight p path (AtLeast (cost p t)) leaf
 closes_better p path None t leaf h e = right_for p path Nothing leaf (cost p t) e (λ v k. absurd (no_worth p path leaf v e k))
-closes_better p path (Some u) t leaf h e = right_for p path (AtLeast (cost p u)) leaf (cost p t) e (λ v k. omega (arith, worth_reaches p path (cost p u) leaf v e k))
+closes_better p path (Some u) t leaf h e = right_for p path (AtLeast (cost p u)) leaf (cost p t) e
+    (λ v k. omega (arith, worth_reaches p path (cost p u) leaf v e k))
 
 -- ---- steps
 
@@ -87,10 +92,13 @@ open_leaf p Unopened path e = refl
 
 module _ (p : Problem) where
   -- a better timetable was found
-  pub grow_better : (best : Option (List Cell)) (t : List Cell) (links : List Link) (tree_nodes : List TreeNode) → IsBetter p best t → IsGrown p best links tree_nodes → IsGrown p (Some t) links tree_nodes
+  pub grow_better : (best : Option (List Cell)) (t : List Cell) (links : List Link) (tree_nodes : List TreeNode) → IsBetter p best t
+      → IsGrown p best links tree_nodes → IsGrown p (Some t) links tree_nodes
   grow_better best t links tree_nodes h grown = record {
     tree = grown.tree;
-    together = zip_weaker (IsSameNode p best links) (IsSameNode p (Some t) links) (λ x e s. record { node = s.node; known = by_mark x.path e.mark s.known; link = s.link; path = s.path; patterns = s.patterns }) (on_paths [] grown.tree) tree_nodes grown.together;
+    together = zip_weaker (IsSameNode p best links) (IsSameNode p (Some t) links)
+        (λ x e s. record { node = s.node; known = by_mark x.path e.mark s.known; link = s.link; path = s.path; patterns = s.patterns })
+        (on_paths [] grown.tree) tree_nodes grown.together;
   }
     where
       by_mark : (path : List Fact) (m : NodeState) → IsKnown p best path m → IsKnown p (Some t) path m
@@ -101,7 +109,8 @@ module _ (p : Problem) where
 
   module _ (best : Option (List Cell)) where
     -- further links change nothing
-    pub grow_links : (links : List Link) (l : Link) (tree_nodes : List TreeNode) → AreLinks links → IsGrown p best links tree_nodes → IsGrown p best (links ++ l ∷ []) tree_nodes
+    pub grow_links : (links : List Link) (l : Link) (tree_nodes : List TreeNode) → AreLinks links → IsGrown p best links tree_nodes
+        → IsGrown p best (links ++ l ∷ []) tree_nodes
     grow_links links l tree_nodes ok grown = record {
       tree = grown.tree;
       together = zip_weaker (IsSameNode p best links) (IsSameNode p best (links ++ l ∷ [])) (λ x e s. record {
@@ -114,7 +123,10 @@ module _ (p : Problem) where
     }
 
     -- more is known about an open node, on its path
-    pub grow_mark : (links : List Link) (before : List TreeNode) (e new : TreeNode) (after : List TreeNode) → IsGrown p best links (before ++ e ∷ after) → is_open e.mark ≡ true → new.link ≡ e.link → IsKnown p best (path_at links e.link) new.mark → (leaf : Leaf) → node_of p (path_at links e.link) new.mark ≡ node.Leaf leaf → IsGrown p best links (before ++ new ∷ after)
+    pub grow_mark : (links : List Link) (before : List TreeNode) (e new : TreeNode) (after : List TreeNode)
+        → IsGrown p best links (before ++ e ∷ after) → is_open e.mark ≡ true → new.link ≡ e.link
+        → IsKnown p best (path_at links e.link) new.mark → (leaf : Leaf) → node_of p (path_at links e.link) new.mark ≡ node.Leaf leaf
+        → IsGrown p best links (before ++ new ∷ after)
     grow_mark links before e new after grown o same known leaf shown =
         let R = IsSameNode p best links in
         let w = zip_cut R (on_paths [] grown.tree) before e after grown.together in
@@ -128,12 +140,23 @@ module _ (p : Problem) where
           tree = r.0;
           together =
               subst (λ z. AllZip R z (before ++ new ∷ after)) (sym r.1)
-              (zip_append R w.0 before (on_path x.path (node.Leaf leaf) ∷ w.2) (new ∷ after) w.4
-              (record { node = sym l; known = k; link = subst (λ n. n ≤ length links) (sym same) s.link; path = ap (path_at links) same ∙ s.path; patterns = s.patterns }, w.6));
+              (zip_append R w.0 before (on_path x.path (node.Leaf leaf) ∷ w.2) (new ∷ after) w.4 (
+                record {
+                  node = sym l;
+                  known = k;
+                  link = subst (λ n. n ≤ length links) (sym same) s.link;
+                  path = ap (path_at links) same
+                      ∙ s.path;
+                  patterns = s.patterns;
+                },
+                w.6,
+              ));
         }
 
     -- a node that was opened is split
-    pub grow_split : (links : List Link) (before : List TreeNode) (e : TreeNode) (after : List TreeNode) (g : Pattern) (d a b : TreeNode) → AreLinks links → IsGrown p best links (before ++ e ∷ after) → e.mark ≡ Opened g → IsSplitInto links e g d a b → IsGrown p best (divided_links links e.link g) (before ++ d ∷ a ∷ b ∷ after)
+    pub grow_split : (links : List Link) (before : List TreeNode) (e : TreeNode) (after : List TreeNode) (g : Pattern)
+        (d a b : TreeNode) → AreLinks links → IsGrown p best links (before ++ e ∷ after) → e.mark ≡ Opened g
+        → IsSplitInto links e g d a b → IsGrown p best (divided_links links e.link g) (before ++ d ∷ a ∷ b ∷ after)
     grow_split links before e after g d a b ok grown opened new =
         let yes = link_of e.link g true in
         let no = link_of e.link g false in
@@ -157,11 +180,13 @@ module _ (p : Problem) where
         let r = graft [] grown2.tree w.0 x.path (best_leaf p x.path) w.2 here (Fork g (Tip yes') (Tip no')) in
         let at1 = ap (λ q. q ++ record { pattern = g; holds = true } ∷ []) s.path in
         let at2 = ap (λ q. q ++ record { pattern = g; holds = false } ∷ []) s.path in
-        let get1 : slice_get links2 (length links) ≡ Some yes = at_first links1 (no ∷ []) (length links) (omega arith) ∙ at_next links yes [] in
+        let get1 : slice_get links2 (length links) ≡ Some yes = at_first links1 (no ∷ []) (length links) (omega arith)
+        ∙ at_next links yes [] in
         let get2 : slice_get links2 (length links1) ≡ Some no = at_next links1 no [] in
         let place1 : a.link ≡ suc (length links) = omega (arith, new.first_link) in
         let place2 : b.link ≡ suc (length links1) = omega (arith, new.second_link) in
-        let patterns = λ (holds : Bool). All-push (λ f. IsPattern p f.pattern) x.path (record { pattern = g; holds = holds }) s.patterns known.numbers in
+        let patterns = λ (holds : Bool). All-push (λ f. IsPattern p f.pattern) x.path
+        (record { pattern = g; holds = holds }) s.patterns known.numbers in
         let top : R (on_path x.path (node.Split g)) d = record {
           node = sym (ap (node_of p x.path) new.divided);
           known = subst (IsKnown p best x.path) (sym new.divided) known;
@@ -187,7 +212,8 @@ module _ (p : Problem) where
           tree = r.0;
           together =
               subst (λ z. AllZip R z (before ++ d ∷ a ∷ b ∷ after)) (sym r.1)
-              (zip_append R w.0 before (on_path x.path (node.Split g) ∷ on_path (with_fact x.path g true) (node.Leaf yes') ∷ on_path (with_fact x.path g false) (node.Leaf no') ∷ w.2) (d ∷ a ∷ b ∷ after) w.4
+              (zip_append R w.0 before (on_path x.path (node.Split g) ∷ on_path (with_fact x.path g true) (node.Leaf yes') ∷ on_path
+              (with_fact x.path g false) (node.Leaf no') ∷ w.2) (d ∷ a ∷ b ∷ after) w.4
               (top, (one, (two, w.6))));
         }
 
@@ -210,7 +236,8 @@ module _ (p : Problem) where
   -- ---- the end
 
   -- each split satisfies its condition
-  pub splits_well : (best : Option (List Cell)) (links : List Link) (x : OnPath) (e : TreeNode) → IsSameNode p best links x e → SplitsWell p x
+  pub splits_well : (best : Option (List Cell)) (links : List Link) (x : OnPath) (e : TreeNode) → IsSameNode p best links x e
+      → SplitsWell p x
   splits_well best links x e s k is = by_mark e.mark s.node s.known
     where
       by_mark : (m : NodeState) → x.node ≡ node_of p x.path m → IsKnown p best x.path m → IsSplitOn p x.path k

@@ -7,7 +7,8 @@ use Rattle.tt_proof_read.specs.declared.node.Node.{Node}
 use Rattle.tt_branch.specs.Outcomes.{IsOutcome, IsOutcomeUntil}
 
 -- if nothing can end the search, it is one of as many nodes as its limit
-pub whole_outcome : (p : Problem) (limit : ℕ) (best : Option (List Cell)) (b : Bound) (nodes : List Node) (finished : Bool) → IsOutcomeUntil p limit ⊥ best b nodes finished → IsOutcome p limit best b nodes finished
+pub whole_outcome : (p : Problem) (limit : ℕ) (best : Option (List Cell)) (b : Bound) (nodes : List Node) (finished : Bool)
+    → IsOutcomeUntil p limit ⊥ best b nodes finished → IsOutcome p limit best b nodes finished
 whole_outcome p limit best b nodes finished o = elim o.all [
   | inl all ↦ subst (λ (n : ℕ). IsOutcome p n best b nodes finished) all o.outcome
   | inr never ↦ absurd never

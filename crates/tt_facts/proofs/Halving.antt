@@ -39,7 +39,8 @@ pinned_by_yes p fs who s =
     any-filter_same (λ f. f.holds && is_pinned_by p who f.pattern.who && gives f.pattern.day s.day && gives f.pattern.period s.period)
     (λ f. f.holds) true (λ f e. holds f e) fs
   where
-    holds : (f : Fact) → (f.holds && is_pinned_by p who f.pattern.who && gives f.pattern.day s.day && gives f.pattern.period s.period) ≡ true → f.holds ≡ true
+    holds : (f : Fact) → (f.holds && is_pinned_by p who f.pattern.who && gives f.pattern.day s.day && gives f.pattern.period s.period)
+        ≡ true → f.holds ≡ true
     holds f e =
         let a = and_parts (f.holds && is_pinned_by p who f.pattern.who && gives f.pattern.day s.day) (gives f.pattern.period s.period) e in
         let b = and_parts (f.holds && is_pinned_by p who f.pattern.who) (gives f.pattern.day s.day) a.0 in
@@ -47,7 +48,8 @@ pinned_by_yes p fs who s =
 
 pub room_pinned_by_yes : (p : Problem) (fs : List Fact) (c r : ℕ) → pinned_room p (yes_of fs) c r ≡ pinned_room p fs c r
 room_pinned_by_yes p fs c r =
-    any-filter_same (λ f. f.holds && is_pinned_by p (Course c) f.pattern.who && gives f.pattern.room r) (λ f. f.holds) true (λ f e. holds f e) fs
+    any-filter_same (λ f. f.holds && is_pinned_by p (Course c) f.pattern.who && gives f.pattern.room r) (λ f. f.holds) true
+    (λ f e. holds f e) fs
   where
     holds : (f : Fact) → (f.holds && is_pinned_by p (Course c) f.pattern.who && gives f.pattern.room r) ≡ true → f.holds ≡ true
     holds f e =
@@ -67,6 +69,7 @@ stands_by_yes fs g =
 
 -- ---- from one part to the other
 
-pub by_halves : {X : Type 0} (answer : Problem → List Fact → X) → ((p : Problem) (fs : List Fact) → answer p (yes_of fs) ≡ answer p fs) → (all held : Facts) → AreHalves all held → answer held.problem held.facts ≡ answer all.problem all.facts
+pub by_halves : {X : Type 0} (answer : Problem → List Fact → X) → ((p : Problem) (fs : List Fact) → answer p (yes_of fs) ≡ answer p fs)
+    → (all held : Facts) → AreHalves all held → answer held.problem held.facts ≡ answer all.problem all.facts
 by_halves answer same all held h =
     ap (λ p. answer p held.facts) h.problem ∙ ap (answer all.problem) h.facts ∙ same all.problem all.facts

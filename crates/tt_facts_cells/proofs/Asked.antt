@@ -23,7 +23,8 @@ module _ (p : Problem) (facts : List Fact) (live : List ℕ) (shows : Shows p (i
   pub dead-cell : (x : Cell) → InRange p x → not (has_cell p live x) ≡ is_dead p facts x
   dead-cell x h = ap not (shows.cells x h) ∙ not-not (is_dead p facts x)
 
-  pub live-cells : (c d s : ℕ) → c < length p.courses → d < p.days → s < p.periods → list_any (is_open p live None c d s) (all_rooms p) ≡ live_period p facts c (slot d s)
+  pub live-cells : (c d s : ℕ) → c < length p.courses → d < p.days → s < p.periods → list_any (is_open p live None c d s) (all_rooms p)
+      ≡ live_period p facts c (slot d s)
   live-cells c d s hc hd hs = same_truth (list_any (is_open p live None c d s) (all_rooms p)) (live_period p facts c (slot d s))
       (λ e.
       let m = member_from_any (is_open p live None c d s) (all_rooms p) e in
@@ -35,26 +36,37 @@ module _ (p : Problem) (facts : List Fact) (live : List ℕ) (shows : Shows p (i
       any_below (is_open p live None c d s) (length p.rooms) m.0 h (at m.0 h ∙ m.2))
     where
       at : (r : ℕ) → r < length p.rooms → is_open p live None c d s r ≡ is_live p facts (cell c r (slot d s))
-      at r h = and-true (has_cell p live (cell c r (slot d s))) ∙ shows.cells (cell c r (slot d s)) (record { course = hc; room = h; day = hd; period = hs })
+      at r h = and-true (has_cell p live (cell c r (slot d s))) ∙ shows.cells (cell c r (slot d s))
+          (record { course = hc; room = h; day = hd; period = hs })
 
-  pub live-periods : (c d s : ℕ) → c < length p.courses → d < p.days → (nat_lt s p.periods && list_any (is_open p live None c d s) (all_rooms p)) ≡ (nat_lt s p.periods && live_period p facts c (slot d s))
+  pub live-periods : (c d s : ℕ) → c < length p.courses → d < p.days
+      → (nat_lt s p.periods && list_any (is_open p live None c d s) (all_rooms p)) ≡
+      (nat_lt s p.periods && live_period p facts c (slot d s))
   live-periods c d s hc hd = elim (cases_lt s p.periods) [
     | inl h ↦ ap (λ b. nat_lt s p.periods && b) (live-cells c d s hc hd h)
-    | inr h ↦ ap (λ b. b && list_any (is_open p live None c d s) (all_rooms p)) (le-ltb s p.periods h) ∙ sym (ap (λ b. b && live_period p facts c (slot d s)) (le-ltb s p.periods h))
+    | inr h ↦ ap (λ b. b && list_any (is_open p live None c d s) (all_rooms p)) (le-ltb s p.periods h)
+        ∙ sym (ap (λ b. b && live_period p facts c (slot d s)) (le-ltb s p.periods h))
   ]
 
-  pub live-rooms : (c d s w k : ℕ) → c < length p.courses → d < p.days → s < p.periods → w * 64 < length p.rooms → k < 64 → has_cell p live (cell c (w * 64 + k) (slot d s)) ≡ (nat_lt (w * 64 + k) (length p.rooms) && is_live p facts (cell c (w * 64 + k) (slot d s)))
+  pub live-rooms : (c d s w k : ℕ) → c < length p.courses → d < p.days → s < p.periods → w * 64 < length p.rooms → k < 64
+      → has_cell p live (cell c (w * 64 + k) (slot d s)) ≡
+      (nat_lt (w * 64 + k) (length p.rooms) && is_live p facts (cell c (w * 64 + k) (slot d s)))
   live-rooms c d s w k hc hd hs hw hk = elim (cases_lt (w * 64 + k) (length p.rooms)) [
-    | inl h ↦ shows.cells (cell c (w * 64 + k) (slot d s)) (record { course = hc; room = h; day = hd; period = hs }) ∙ sym (ap (λ b. b && is_live p facts (cell c (w * 64 + k) (slot d s))) (lt-ltb (w * 64 + k) (length p.rooms) h))
-    | inr h ↦ spare-cell p live c d s w k shows.table hc hd hs (omega arith) hk h ∙ sym (ap (λ b. b && is_live p facts (cell c (w * 64 + k) (slot d s))) (le-ltb (w * 64 + k) (length p.rooms) h))
+    | inl h ↦ shows.cells (cell c (w * 64 + k) (slot d s)) (record { course = hc; room = h; day = hd; period = hs })
+        ∙ sym (ap (λ b. b && is_live p facts (cell c (w * 64 + k) (slot d s))) (lt-ltb (w * 64 + k) (length p.rooms) h))
+    | inr h ↦ spare-cell p live c d s w k shows.table hc hd hs (omega arith) hk h
+        ∙ sym (ap (λ b. b && is_live p facts (cell c (w * 64 + k) (slot d s))) (le-ltb (w * 64 + k) (length p.rooms) h))
   ]
 
 -- ---- with no facts
 
-pub first_tables : (p : Problem) (free live : List ℕ) → Shows p (λ x. not (unavailable p x.course x.day x.period)) free → Shows p (λ x. not (unavailable p x.course x.day x.period)) live → AreTables p [] free live
+pub first_tables : (p : Problem) (free live : List ℕ) → Shows p (λ x. not (unavailable p x.course x.day x.period)) free
+    → Shows p (λ x. not (unavailable p x.course x.day x.period)) live → AreTables p [] free live
 first_tables p free live a b = record {
-  free_cells = shows-same p free (λ x. not (unavailable p x.course x.day x.period)) (is_free_of p []) a (λ x h. ap not (sym (or-false (unavailable p x.course x.day x.period))));
-  live_cells = shows-same p live (λ x. not (unavailable p x.course x.day x.period)) (is_live p []) b (λ x h. ap not (sym (or-false (is_barred p [] x) ∙ or-false (unavailable p x.course x.day x.period))));
+  free_cells = shows-same p free (λ x. not (unavailable p x.course x.day x.period)) (is_free_of p []) a
+      (λ x h. ap not (sym (or-false (unavailable p x.course x.day x.period))));
+  live_cells = shows-same p live (λ x. not (unavailable p x.course x.day x.period)) (is_live p []) b
+      (λ x h. ap not (sym (or-false (is_barred p [] x) ∙ or-false (unavailable p x.course x.day x.period))));
 }
 
 pub none_earlier : (p : Problem) → AreEarlier p [] [] []

@@ -29,14 +29,18 @@ is_gone p g c n x = (x.course == c) && has_place_of g x && nat_lt (slot_number p
 
 module _ (p : Problem) (g : Pattern) (c n : ℕ) (x : Cell) (h : InRange p x) where
   at_slot : slot_number p x ≡ n → (x.day ≡ n / p.periods) × (x.period ≡ n % p.periods)
-  at_slot e = (sym (div-mul-add x.day p.periods x.period h.period) ∙ ap (λ i. i / p.periods) e, sym (mod-mul-add x.day p.periods x.period h.period) ∙ ap (λ i. i % p.periods) e)
+  at_slot e = (
+    sym (div-mul-add x.day p.periods x.period h.period) ∙ ap (λ i. i / p.periods) e,
+    sym (mod-mul-add x.day p.periods x.period h.period) ∙ ap (λ i. i % p.periods) e,
+  )
 
   allowed : slot_number p x ≡ n → has_place_of g x ≡ true → is_allowed p g n ≡ true
   allowed e a =
       let u = and_parts (agrees g.room x.room && agrees g.day x.day) (agrees g.period x.period) a in
       let v = and_parts (agrees g.room x.room) (agrees g.day x.day) u.0 in
       let q = at_slot e in
-      and_from (agrees g.day (n / p.periods)) (agrees g.period (n % p.periods)) (ap (agrees g.day) (sym q.0) ∙ v.1) (ap (agrees g.period) (sym q.1) ∙ u.1)
+      and_from (agrees g.day (n / p.periods)) (agrees g.period (n % p.periods)) (ap (agrees g.day) (sym q.0) ∙ v.1)
+      (ap (agrees g.period) (sym q.1) ∙ u.1)
 
   -- a period that the pattern doesn't allow
   pub slot_skipped : is_allowed p g n ≡ false → is_gone p g c n x ≡ is_gone p g c (n + 1) x
@@ -44,7 +48,8 @@ module _ (p : Problem) (g : Pattern) (c n : ℕ) (x : Cell) (h : InRange p x) wh
       (λ e.
       let a = and_parts ((x.course == c) && has_place_of g x) (nat_lt (slot_number p x) n) e in
       let l = ltb-true (slot_number p x) n a.1 in
-      and_from ((x.course == c) && has_place_of g x) (nat_lt (slot_number p x) (n + 1)) a.0 (lt-ltb (slot_number p x) (n + 1) (omega arith)))
+      and_from ((x.course == c) && has_place_of g x) (nat_lt (slot_number p x) (n + 1)) a.0
+      (lt-ltb (slot_number p x) (n + 1) (omega arith)))
       (λ e.
       let a = and_parts ((x.course == c) && has_place_of g x) (nat_lt (slot_number p x) (n + 1)) e in
       let b = and_parts (x.course == c) (has_place_of g x) a.0 in
@@ -55,7 +60,8 @@ module _ (p : Problem) (g : Pattern) (c n : ℕ) (x : Cell) (h : InRange p x) wh
       ])
 
   -- a period that the pattern allows
-  pub slot_gone : is_allowed p g n ≡ true → (is_gone p g c n x || (is_placed c (n / p.periods) (n % p.periods) x && agrees g.room x.room)) ≡ is_gone p g c (n + 1) x
+  pub slot_gone : is_allowed p g n ≡ true
+      → (is_gone p g c n x || (is_placed c (n / p.periods) (n % p.periods) x && agrees g.room x.room)) ≡ is_gone p g c (n + 1) x
   slot_gone open_there = same_truth (is_gone p g c n x || (is_placed c d s x && agrees g.room x.room)) (is_gone p g c (n + 1) x) there back
     where
       d : ℕ
@@ -68,14 +74,18 @@ module _ (p : Problem) (g : Pattern) (c n : ℕ) (x : Cell) (h : InRange p x) wh
       there e = elim (or_cases (is_gone p g c n x) (is_placed c d s x && agrees g.room x.room) e) [
         | inl k ↦ let a = and_parts ((x.course == c) && has_place_of g x) (nat_lt (slot_number p x) n) k in
             let l = ltb-true (slot_number p x) n a.1 in
-            and_from ((x.course == c) && has_place_of g x) (nat_lt (slot_number p x) (n + 1)) a.0 (lt-ltb (slot_number p x) (n + 1) (omega arith))
+            and_from ((x.course == c) && has_place_of g x) (nat_lt (slot_number p x) (n + 1)) a.0
+            (lt-ltb (slot_number p x) (n + 1) (omega arith))
         | inr k ↦ let a = and_parts (is_placed c d s x) (agrees g.room x.room) k in
             let at = placed_at c d s x a.0 in
             let ok = and_parts (agrees g.day d) (agrees g.period s) open_there in
             let some : 0 < p.periods = let l = h.period in omega arith in
             let whole : slot_number p x ≡ n = ap (λ i. i * p.periods + x.period) at.1 ∙ ap (λ i. d * p.periods + i) at.2 ∙ back_to some in
             and_from ((x.course == c) && has_place_of g x) (nat_lt (slot_number p x) (n + 1))
-            (and_from (x.course == c) (has_place_of g x) (eq-eqb x.course c at.0) (and_from (agrees g.room x.room && agrees g.day x.day) (agrees g.period x.period) (and_from (agrees g.room x.room) (agrees g.day x.day) a.1 (ap (agrees g.day) at.1 ∙ ok.0)) (ap (agrees g.period) at.2 ∙ ok.1)))
+            (and_from (x.course == c) (has_place_of g x) (eq-eqb x.course c at.0)
+            (and_from (agrees g.room x.room && agrees g.day x.day) (agrees g.period x.period)
+            (and_from (agrees g.room x.room) (agrees g.day x.day) a.1 (ap (agrees g.day) at.1 ∙ ok.0))
+            (ap (agrees g.period) at.2 ∙ ok.1)))
             (lt-ltb (slot_number p x) (n + 1) (omega arith))
       ]
         where
@@ -88,11 +98,15 @@ module _ (p : Problem) (g : Pattern) (c n : ℕ) (x : Cell) (h : InRange p x) wh
           let b = and_parts (x.course == c) (has_place_of g x) a.0 in
           let l = ltb-true (slot_number p x) (n + 1) a.1 in
           elim (cases_lt (slot_number p x) n) [
-            | inl k ↦ or_left (is_gone p g c n x) (is_placed c d s x && agrees g.room x.room) (and_from ((x.course == c) && has_place_of g x) (nat_lt (slot_number p x) n) a.0 (lt-ltb (slot_number p x) n k))
+            | inl k ↦ or_left (is_gone p g c n x) (is_placed c d s x && agrees g.room x.room)
+                (and_from ((x.course == c) && has_place_of g x) (nat_lt (slot_number p x) n) a.0 (lt-ltb (slot_number p x) n k))
             | inr k ↦ let q = at_slot (omega arith) in
                 let u = and_parts (agrees g.room x.room && agrees g.day x.day) (agrees g.period x.period) b.1 in
                 let v = and_parts (agrees g.room x.room) (agrees g.day x.day) u.0 in
-                or_right (is_gone p g c n x) (is_placed c d s x && agrees g.room x.room) (and_from (is_placed c d s x) (agrees g.room x.room) (and_from ((x.course == c) && (x.day == d)) (x.period == s) (and_from (x.course == c) (x.day == d) b.0 (eq-eqb x.day d q.0)) (eq-eqb x.period s q.1)) v.0)
+                or_right (is_gone p g c n x) (is_placed c d s x && agrees g.room x.room)
+                (and_from (is_placed c d s x) (agrees g.room x.room)
+                (and_from ((x.course == c) && (x.day == d)) (x.period == s)
+                (and_from (x.course == c) (x.day == d) b.0 (eq-eqb x.day d q.0)) (eq-eqb x.period s q.1)) v.0)
           ]
 
 -- before the first period that the pattern allows
@@ -108,7 +122,8 @@ none_gone p g c from to x h covers = false_from_ne_true (is_gone p g c from x) (
     omega arith)
 
 -- after the last period that the pattern allows
-pub all_gone : (p : Problem) (g : Pattern) (c from to n : ℕ) (x : Cell) → InRange p x → Covers p g from to → to ≤ n → is_gone p g c n x ≡ ((x.course == c) && has_place_of g x)
+pub all_gone : (p : Problem) (g : Pattern) (c from to n : ℕ) (x : Cell) → InRange p x → Covers p g from to → to ≤ n
+    → is_gone p g c n x ≡ ((x.course == c) && has_place_of g x)
 all_gone p g c from to n x h covers past = same_truth (is_gone p g c n x) ((x.course == c) && has_place_of g x)
     (λ e. (and_parts ((x.course == c) && has_place_of g x) (nat_lt (slot_number p x) n) e).0)
     (λ e.
@@ -131,9 +146,12 @@ course_gone ks k c z =
     turned a b = same_truth (a == b) (b == a) (λ e. eq-eqb b a (sym (eqb-true a b e))) (λ e. eq-eqb a b (sym (eqb-true b a e)))
 
 -- a course that is out of range has no cell
-pub course_absent : (p : Problem) (ks : List ℕ) (k : ℕ) (x : Cell) (z : Bool) → InRange p x → length p.courses ≤ k → (has_number ks x.course && z) ≡ (has_number (ks ++ k ∷ []) x.course && z)
+pub course_absent : (p : Problem) (ks : List ℕ) (k : ℕ) (x : Cell) (z : Bool) → InRange p x → length p.courses ≤ k
+    → (has_number ks x.course && z) ≡ (has_number (ks ++ k ∷ []) x.course && z)
 course_absent p ks k x z h past =
-    sym (none (has_number ks x.course && z) ((x.course == k) && z) (false_from_ne_true ((x.course == k) && z) (λ e. let q = eqb-true x.course k (and_parts (x.course == k) z e).0 in let l = h.course in omega arith)))
+    sym (none (has_number ks x.course && z) ((x.course == k) && z)
+    (false_from_ne_true ((x.course == k) && z) (λ e. let q = eqb-true x.course k (and_parts (x.course == k) z e).0 in
+    let l = h.course in omega arith)))
     ∙ course_gone ks k x.course z
   where
     none : (a b : Bool) → b ≡ false → (a || b) ≡ a
@@ -145,14 +163,19 @@ regroup true r d s = refl
 regroup false r d s = refl
 
 pub courses_gone : (p : Problem) (g : Pattern) (x : Cell) → (has_number (courses_of p g.who) x.course && has_place_of g x) ≡ matches p g x
-courses_gone p g x = ap (λ b. b && has_place_of g x) (who-has p g.who x.course) ∙ regroup (is_who p g.who x.course) (agrees g.room x.room) (agrees g.day x.day) (agrees g.period x.period)
+courses_gone p g x = ap (λ b. b && has_place_of g x) (who-has p g.who x.course) ∙ regroup (is_who p g.who x.course)
+    (agrees g.room x.room) (agrees g.day x.day) (agrees g.period x.period)
 
 module _ (p : Problem) (g : Pattern) (ks : List ℕ) (i : ℕ) (hi : i < length ks) (x : Cell) where
-  pub course_at : ((has_number (take i ks) x.course && has_place_of g x) || ((x.course == slice_index_or ks i 0) && has_place_of g x)) ≡ (has_number (take (i + 1) ks) x.course && has_place_of g x)
-  course_at = course_gone (take i ks) (slice_index_or ks i 0) x.course (has_place_of g x) ∙ ap (λ l. has_number l x.course && has_place_of g x) (sym (take_more ks i 0 hi))
+  pub course_at : ((has_number (take i ks) x.course && has_place_of g x) || ((x.course == slice_index_or ks i 0) && has_place_of g x)) ≡
+      (has_number (take (i + 1) ks) x.course && has_place_of g x)
+  course_at = course_gone (take i ks) (slice_index_or ks i 0) x.course (has_place_of g x)
+      ∙ ap (λ l. has_number l x.course && has_place_of g x) (sym (take_more ks i 0 hi))
 
-  pub course_past : InRange p x → length p.courses ≤ slice_index_or ks i 0 → (has_number (take i ks) x.course && has_place_of g x) ≡ (has_number (take (i + 1) ks) x.course && has_place_of g x)
-  course_past h past = course_absent p (take i ks) (slice_index_or ks i 0) x (has_place_of g x) h past ∙ ap (λ l. has_number l x.course && has_place_of g x) (sym (take_more ks i 0 hi))
+  pub course_past : InRange p x → length p.courses ≤ slice_index_or ks i 0 → (has_number (take i ks) x.course && has_place_of g x) ≡
+      (has_number (take (i + 1) ks) x.course && has_place_of g x)
+  course_past h past = course_absent p (take i ks) (slice_index_or ks i 0) x (has_place_of g x) h past
+      ∙ ap (λ l. has_number l x.course && has_place_of g x) (sym (take_more ks i 0 hi))
 
 -- the cells of a course in one period: the test regrouped
 placed_split : (c a b : Bool) → (c && a && b && true) ≡ (c && (a && b))
@@ -161,7 +184,9 @@ placed_split true true false = refl
 placed_split true false b = refl
 placed_split false a b = refl
 
-pub course_next_at : (ks : List ℕ) (i : ℕ) → i < length ks → (c : ℕ) (a b : Bool) → ((has_number (take i ks) c && (a && b)) || ((c == slice_index_or ks i 0) && a && b && true)) ≡ (has_number (take (i + 1) ks) c && (a && b))
+pub course_next_at : (ks : List ℕ) (i : ℕ) → i < length ks → (c : ℕ) (a b : Bool)
+    → ((has_number (take i ks) c && (a && b)) || ((c == slice_index_or ks i 0) && a && b && true)) ≡
+    (has_number (take (i + 1) ks) c && (a && b))
 course_next_at ks i hi c a b =
     ap (λ t. (has_number (take i ks) c && (a && b)) || t) (placed_split (c == slice_index_or ks i 0) a b)
     ∙ course_gone (take i ks) (slice_index_or ks i 0) c (a && b) ∙ ap (λ l. has_number l c && (a && b)) (sym (take_more ks i 0 hi))

@@ -24,7 +24,8 @@ taken false b k = refl
 
 pub clash-period : (p : Problem) (y x : Cell) → clash p y x ≡ true → IsSamePeriod y x
 clash-period p y x e =
-    let a = and_parts (not (same_cell y x) && (y.day == x.day) && (y.period == x.period)) ((y.room == x.room) || (y.course == x.course) || conflict p y.course x.course) e in
+    let a = and_parts (not (same_cell y x) && (y.day == x.day) && (y.period == x.period))
+    ((y.room == x.room) || (y.course == x.course) || conflict p y.course x.course) e in
     let b = and_parts (not (same_cell y x) && (y.day == x.day)) (y.period == x.period) a.0 in
     let c = and_parts (not (same_cell y x)) (y.day == x.day) b.0 in
     (eqb-true y.day x.day c.1, eqb-true y.period x.period b.1)
@@ -34,7 +35,8 @@ module _ (p : Problem) (path : List Fact) (g : Pattern) where
   pub excluded-clash : (x y : Cell) → excludes p path g x ≡ true → InRange p y → is_free p path g y ≡ true → clash p y x ≡ true
   excluded-clash x y e h f =
       wanted (is_free p path g y) (clash p y x)
-      (sym (taken (matches p g y) (is_barred p path y) (clash p y x)) ∙ each_cell_at p (λ z. not (matches p g z) || is_barred p path z || clash p z x) y e h) f
+      (sym (taken (matches p g y) (is_barred p path y) (clash p y x))
+      ∙ each_cell_at p (λ z. not (matches p g z) || is_barred p path z || clash p z x) y e h) f
 
   pub excluded_from : (x : Cell) → ((y : Cell) → InRange p y → is_free p path g y ≡ true → clash p y x ≡ true) → excludes p path g x ≡ true
   excluded_from x f =
@@ -42,7 +44,8 @@ module _ (p : Problem) (path : List Fact) (g : Pattern) where
       taken (matches p g y) (is_barred p path y) (clash p y x) ∙ not_wanted (is_free p path g y) (clash p y x) (f y h))
 
   -- if there are free cells in two periods, no cell is killed
-  pub spares_all : (y z x : Cell) → InRange p y → InRange p z → is_free p path g y ≡ true → is_free p path g z ≡ true → (IsSamePeriod y z → ⊥) → excludes p path g x ≡ false
+  pub spares_all : (y z x : Cell) → InRange p y → InRange p z → is_free p path g y ≡ true → is_free p path g z ≡ true
+      → (IsSamePeriod y z → ⊥) → excludes p path g x ≡ false
   spares_all y z x hy hz fy fz apart = false_from_ne_true (excludes p path g x) (λ e.
       let a = clash-period p y x (excluded-clash x y e hy fy) in
       let b = clash-period p z x (excluded-clash x z e hz fz) in
@@ -57,7 +60,8 @@ module _ (p : Problem) (path : List Fact) (g : Pattern) where
   kills_all x none = excluded_from x (λ y h f. absurd (both_ways (is_free p path g y) (none y h) f))
 
   -- if all free cells are in one period, the cells that clash with each of them are killed
-  pub kills_there : (d s : ℕ) (x : Cell) → IsConfined p path g d s → d < p.days → s < p.periods → excludes p path g x ≡ kills_at p path g d s x
+  pub kills_there : (d s : ℕ) (x : Cell) → IsConfined p path g d s → d < p.days → s < p.periods
+      → excludes p path g x ≡ kills_at p path g d s x
   kills_there d s x confined hd hs = same_truth (excludes p path g x) (kills_at p path g d s x) there back
     where
       there : excludes p path g x ≡ true → kills_at p path g d s x ≡ true
@@ -69,7 +73,9 @@ module _ (p : Problem) (path : List Fact) (g : Pattern) where
       back : kills_at p path g d s x ≡ true → excludes p path g x ≡ true
       back e = excluded_from x (λ y h f.
           let k = confined y h f in
-          let here : kills_at p path g y.day y.period x ≡ true = ap (λ n. kills_at p path g n y.period x) k.0 ∙ ap (λ n. kills_at p path g d n x) k.1 ∙ e in
+          let here : kills_at p path g y.day y.period x ≡ true = ap (λ n. kills_at p path g n y.period x) k.0
+          ∙ ap (λ n. kills_at p path g d n x) k.1 ∙ e in
           let of = at_below (kills_by p path g y.day y.period x) (length p.courses) y.course here h.course in
-          let one = at_below (λ r. not (is_free p path g (cell y.course r (slot y.day y.period))) || clash p (cell y.course r (slot y.day y.period)) x) (length p.rooms) y.room of h.room in
+          let one = at_below (λ r. not (is_free p path g (cell y.course r (slot y.day y.period))) || clash p
+          (cell y.course r (slot y.day y.period)) x) (length p.rooms) y.room of h.room in
           wanted (is_free p path g y) (clash p y x) one f)

@@ -25,7 +25,9 @@ list_of_one (x ∷ y ∷ ys) e = absurd (omega arith)
 
 -- The cells that course k takes if it must have one of its free rooms, each of which equals each of the lost rooms: its own cells in other
 -- rooms, the period from the courses that conflict with it, and the lost rooms from all other courses.
-module _ (p : Problem) (free : List ℕ) (g : Pattern) (d s k : ℕ) (hk : k < length p.courses) (lost : ℕ → Bool) (common : (r : ℕ) → lost r ≡ list_all (λ i. not (is_open p free g.room k d s i) || (i == r)) (all_rooms p)) (x : Cell) (h : InRange p x) where
+module _ (p : Problem) (free : List ℕ) (g : Pattern) (d s k : ℕ) (hk : k < length p.courses) (lost : ℕ → Bool)
+    (common : (r : ℕ) → lost r ≡ list_all (λ i. not (is_open p free g.room k d s i) || (i == r)) (all_rooms p)) (x : Cell)
+    (h : InRange p x) where
   -- the cell is in the period and its course conflicts with k
   abbrev beaten : Bool
   beaten = has_number (conflicts_of p k) x.course && ((x.day == d) && (x.period == s))
@@ -42,12 +44,15 @@ module _ (p : Problem) (free : List ℕ) (g : Pattern) (d s k : ℕ) (hk : k < l
   own e =
       ap (λ b. (beaten || ((x.day == d) && (x.period == s) && (not b && lost x.room))) || left) (eq-eqb x.course k e)
       ∙ untaken beaten ((x.day == d) && (x.period == s)) left
-      ∙ ap (λ b. (b && ((x.day == d) && (x.period == s))) || left) (ap (has_number (conflicts_of p k)) e ∙ conflicts-has p k k hk ∙ conflict-itself p k)
+      ∙ ap (λ b. (b && ((x.day == d) && (x.period == s))) || left) (ap (has_number (conflicts_of p k)) e ∙ conflicts-has p k k hk
+      ∙ conflict-itself p k)
       ∙ ap (λ b. b && (x.day == d) && (x.period == s) && not (has_cell p free x && agrees g.room x.room)) (eq-eqb x.course k e)
-      ∙ in_period (x.day == d) (x.period == s) (not (has_cell p free x && agrees g.room x.room)) (loses_room p free g d s (k ∷ []) x.course x.room) (λ ed es.
+      ∙ in_period (x.day == d) (x.period == s) (not (has_cell p free x && agrees g.room x.room))
+      (loses_room p free g d s (k ∷ []) x.course x.room) (λ ed es.
       ap (λ n. not (has_cell p free (cell x.course x.room (slot n x.period)) && agrees g.room x.room)) (eqb-true x.day d ed)
       ∙ ap (λ n. not (has_cell p free (cell x.course x.room (slot d n)) && agrees g.room x.room)) (eqb-true x.period s es)
-      ∙ one_of (has_number (k ∷ []) x.course) (not (is_open p free g.room x.course d s x.room)) (list_all (is_lost_to p free g d s x.course x.room) (k ∷ [])) (or-false (k == x.course) ∙ eq-eqb k x.course (sym e)))
+      ∙ one_of (has_number (k ∷ []) x.course) (not (is_open p free g.room x.course d s x.room))
+      (list_all (is_lost_to p free g d s x.course x.room) (k ∷ [])) (or-false (k == x.course) ∙ eq-eqb k x.course (sym e)))
     where
       untaken : (a b c : Bool) → ((a || (b && false)) || c) ≡ (a || c)
       untaken true b c = refl
@@ -66,10 +71,12 @@ module _ (p : Problem) (free : List ℕ) (g : Pattern) (d s k : ℕ) (hk : k < l
 
   other : (x.course ≡ k → ⊥) → ((beaten || taken) || left) ≡ is_struck p free g d s (k ∷ []) x
   other e =
-      ap (λ b. (beaten || taken) || (b && (x.day == d) && (x.period == s) && not (has_cell p free x && agrees g.room x.room))) (ne_eqb x.course k e)
+      ap (λ b. (beaten || taken) || (b && (x.day == d) && (x.period == s) && not (has_cell p free x && agrees g.room x.room)))
+      (ne_eqb x.course k e)
       ∙ or-false (beaten || taken)
       ∙ ap (λ b. beaten || ((x.day == d) && (x.period == s) && (not b && lost x.room))) (ne_eqb x.course k e)
-      ∙ ap (λ b. (b && ((x.day == d) && (x.period == s))) || ((x.day == d) && (x.period == s) && lost x.room)) (conflicts-has p k x.course h.course)
+      ∙ ap (λ b. (b && ((x.day == d) && (x.period == s))) || ((x.day == d) && (x.period == s) && lost x.room))
+      (conflicts-has p k x.course h.course)
       ∙ either (conflict p k x.course) ((x.day == d) && (x.period == s)) (lost x.room)
       ∙ ap (λ b. ((x.day == d) && (x.period == s)) && b) beside
     where
@@ -85,19 +92,24 @@ module _ (p : Problem) (free : List ℕ) (g : Pattern) (d s k : ℕ) (hk : k < l
 
       beside : (conflict p k x.course || lost x.room) ≡ loses_room p free g d s (k ∷ []) x.course x.room
       beside =
-          sym (ap (λ b. (not b || conflict p k x.course || list_all (λ i. not (is_open p free g.room k d s i) || (i == x.room)) (all_rooms p)) && true) (lt-ltb k (length p.courses) hk)
+          sym (ap (λ b. (not b || conflict p k x.course || list_all (λ i. not (is_open p free g.room k d s i) || (i == x.room))
+          (all_rooms p)) && true) (lt-ltb k (length p.courses) hk)
           ∙ ap (λ b. (conflict p k x.course || b) && true) (sym (common x.room))
           ∙ and-true (conflict p k x.course || lost x.room))
-          ∙ none_of (has_number (k ∷ []) x.course) (not (is_open p free g.room x.course d s x.room)) (list_all (is_lost_to p free g d s x.course x.room) (k ∷ [])) (or-false (k == x.course) ∙ ne_eqb k x.course (λ q. e (sym q)))
+          ∙ none_of (has_number (k ∷ []) x.course) (not (is_open p free g.room x.course d s x.room))
+          (list_all (is_lost_to p free g d s x.course x.room) (k ∷ [])) (or-false (k == x.course) ∙ ne_eqb k x.course (λ q. e (sym q)))
 
   pub struck_beside : ((beaten || taken) || left) ≡ is_struck p free g d s (k ∷ []) x
   struck_beside = elim (cases_eq x.course k) [ inl e ↦ own e | inr e ↦ other e ]
 
 -- if the course has two free rooms, no room is lost
-pub struck_by_links : (p : Problem) (free : List ℕ) (g : Pattern) (d s k : ℕ) → k < length p.courses → ((r : ℕ) → false ≡ list_all (λ i. not (is_open p free g.room k d s i) || (i == r)) (all_rooms p)) → (x : Cell) → InRange p x
-    → ((has_number (conflicts_of p k) x.course && ((x.day == d) && (x.period == s))) || (is_placed k d s x && not (has_cell p free x && agrees g.room x.room))) ≡ is_struck p free g d s (k ∷ []) x
+pub struck_by_links : (p : Problem) (free : List ℕ) (g : Pattern) (d s k : ℕ) → k < length p.courses
+    → ((r : ℕ) → false ≡ list_all (λ i. not (is_open p free g.room k d s i) || (i == r)) (all_rooms p)) → (x : Cell) → InRange p x
+    → ((has_number (conflicts_of p k) x.course && ((x.day == d) && (x.period == s))) ||
+    (is_placed k d s x && not (has_cell p free x && agrees g.room x.room))) ≡ is_struck p free g d s (k ∷ []) x
 struck_by_links p free g d s k hk several x h =
-    unlost (has_number (conflicts_of p k) x.course && ((x.day == d) && (x.period == s))) ((x.day == d) && (x.period == s)) (not (x.course == k)) (is_placed k d s x && not (has_cell p free x && agrees g.room x.room))
+    unlost (has_number (conflicts_of p k) x.course && ((x.day == d) && (x.period == s))) ((x.day == d) && (x.period == s))
+    (not (x.course == k)) (is_placed k d s x && not (has_cell p free x && agrees g.room x.room))
     ∙ struck_beside p free g d s k hk (λ r. false) several x h
   where
     unlost : (a b n c : Bool) → (a || c) ≡ ((a || (b && (n && false))) || c)

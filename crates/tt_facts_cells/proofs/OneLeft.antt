@@ -25,11 +25,15 @@ module _ (p : Problem) (free : List ℕ) (g : Pattern) (d s k : ℕ) where
   only r = list_all (λ i. not (open_room i) || (i == r)) (all_rooms p)
 
   left_by : k < length p.courses → is_left p free g d s (k ∷ []) ≡ list_any open_room (all_rooms p)
-  left_by hk = or-false (nat_lt k (length p.courses) && list_any open_room (all_rooms p)) ∙ ap (λ b. b && list_any open_room (all_rooms p)) (lt-ltb k (length p.courses) hk)
+  left_by hk = or-false (nat_lt k (length p.courses) && list_any open_room (all_rooms p))
+      ∙ ap (λ b. b && list_any open_room (all_rooms p)) (lt-ltb k (length p.courses) hk)
 
   -- if each room equals each of its free rooms, the course has no free room
   pub none_left : k < length p.courses → ((r : ℕ) → true ≡ only r) → is_left p free g d s (k ∷ []) ≡ false
-  none_left hk each = left_by hk ∙ none_below open_room n (λ i h. false_from_ne_true (open_room i) (λ t. absurd (true_is_false (each n ∙ sym (all_stops (λ j. not (open_room j) || (j == n)) n i h (stops i h t))))))
+  none_left hk each = left_by hk
+      ∙ none_below open_room n
+      (λ i h. false_from_ne_true (open_room i)
+      (λ t. absurd (true_is_false (each n ∙ sym (all_stops (λ j. not (open_room j) || (j == n)) n i h (stops i h t))))))
     where
       n : ℕ
       n = length p.rooms
@@ -51,7 +55,8 @@ module _ (p : Problem) (free : List ℕ) (g : Pattern) (d s k : ℕ) where
           e ∙ all_below (λ i. not (open_room i) || (i == r)) (length p.rooms)
           (λ i h. ap (λ b. not b || (i == r)) (each_below_at (λ j. open_room j ≡ false) (length p.rooms) i none h))
 
-  pub left_unless_all : (common : Rooms) → (common ≡ All → ⊥) → k < length p.courses → ((r : ℕ) → has_room common r ≡ only r) → is_left p free g d s (k ∷ []) ≡ true
+  pub left_unless_all : (common : Rooms) → (common ≡ All → ⊥) → k < length p.courses → ((r : ℕ) → has_room common r ≡ only r)
+      → is_left p free g d s (k ∷ []) ≡ true
   left_unless_all All ne hk each = absurd (ne refl)
   left_unless_all (One i) ne hk each = some_left (i + 1) hk (sym (ne_eqb i (i + 1) (λ e. omega arith)) ∙ each (i + 1))
   left_unless_all Nothing ne hk each = some_left 0 hk (each 0)

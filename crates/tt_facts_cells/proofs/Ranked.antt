@@ -54,7 +54,8 @@ module _ (f : ℕ → ℕ) (t : ℕ → Bool) where
   low zero m h = tt
   low (suc n) m h =
       let e : suc n ≡ n + 1 = omega arith in
-      subst (λ o. IsLow o m) (sym (ap least_below e ∙ least_more f t n)) (low_next (t n) n m (least_below n) (h n (omega arith)) (low n m (λ k l. h k (omega arith))))
+      subst (λ o. IsLow o m) (sym (ap least_below e ∙ least_more f t n))
+      (low_next (t n) n m (least_below n) (h n (omega arith)) (low n m (λ k l. h k (omega arith))))
 
   high_here : (b : Bool) (n : ℕ) (o : Option ℕ) → b ≡ true → IsHigh (cond b (Some (least_with (f n) o)) o) (f n)
   high_here true n o e = high_with (f n) (f n) o (inl (omega arith))
@@ -69,7 +70,8 @@ module _ (f : ℕ → ℕ) (t : ℕ → Bool) where
   high (suc n) r h e =
       let q : suc n ≡ n + 1 = omega arith in
       subst (λ o. IsHigh o (f r)) (sym (ap least_below q ∙ least_more f t n)) (elim (cases_eq r n) [
-        | inl same ↦ subst (λ i. IsHigh (cond (t n) (Some (least_with (f n) (least_below n))) (least_below n)) (f i)) (sym same) (high_here (t n) n (least_below n) (ap t (sym same) ∙ e))
+        | inl same ↦ subst (λ i. IsHigh (cond (t n) (Some (least_with (f n) (least_below n))) (least_below n)) (f i)) (sym same)
+            (high_here (t n) n (least_below n) (ap t (sym same) ∙ e))
         | inr other ↦ high_before (t n) n (f r) (least_below n) (high n r (omega arith) e)
       ])
 
@@ -80,7 +82,8 @@ module _ (f : ℕ → ℕ) (t : ℕ → Bool) where
   least_none zero h = refl
   least_none (suc n) h =
       let q : suc n ≡ n + 1 = omega arith in
-      ap least_below q ∙ least_more f t n ∙ ap (λ b. cond b (Some (least_with (f n) (least_below n))) (least_below n)) (h n (omega arith)) ∙ least_none n (λ k l. h k (omega arith))
+      ap least_below q ∙ least_more f t n ∙ ap (λ b. cond b (Some (least_with (f n) (least_below n))) (least_below n))
+      (h n (omega arith)) ∙ least_none n (λ k l. h k (omega arith))
 
 -- ---- the roomiest of the live rooms
 
@@ -101,7 +104,12 @@ module _ (p : Problem) (path : List Fact) (c : ℕ) (s : Slot) where
     -- each room is at some place in the order
     place_of : (r : ℕ) (d : Ranked) → r < length p.rooms → (i : ℕ) × (i < length rooms) × (get_or rooms i d ≡ ranked p r)
     place_of r d h =
-        let m : Contains rooms (ranked p r) = Contains-permutation (map (ranked p) (all_rooms p)) rooms (ranked p r) order.same (r, omega (arith, length-map-range_with_len (ranked p) 0 (length p.rooms)), get_or-map-range_with_len (ranked p) 0 (length p.rooms) r r (ranked p r) h (omega arith)) in
+        let m : Contains rooms (ranked p r) = Contains-permutation (map (ranked p) (all_rooms p)) rooms (ranked p r) order.same (
+          r,
+          omega (arith, length-map-range_with_len (ranked p) 0 (length p.rooms)),
+          get_or-map-range_with_len (ranked p) 0
+              (length p.rooms) r r (ranked p r) h (omega arith),
+        ) in
         (m.0, m.1, get_or_default rooms m.0 d (ranked p r) m.1 ∙ m.2)
 
     -- an element of the order is a room with its seats
@@ -116,7 +124,8 @@ module _ (p : Problem) (path : List Fact) (c : ℕ) (s : Slot) where
     pub is_ranked : (i : ℕ) (d : Ranked) → i < length rooms → IsRanked (get_or rooms i d)
     is_ranked i d h = All-permutation IsRanked (map (ranked p) (all_rooms p)) rooms order.same (λ k e l. each_ranked k l e) i d h
 
-    pub roomiest_at : (i : ℕ) (d : Ranked) → i < length rooms → ((j : ℕ) → j < i → live_in (get_or rooms j d).room ≡ false) → live_in (get_or rooms i d).room ≡ true → IsRoomiest p path c s (get_or rooms i d)
+    pub roomiest_at : (i : ℕ) (d : Ranked) → i < length rooms → ((j : ℕ) → j < i → live_in (get_or rooms j d).room ≡ false)
+        → live_in (get_or rooms i d).room ≡ true → IsRoomiest p path c s (get_or rooms i d)
     roomiest_at i d h before here = record {
       room = (is_ranked i d h).0;
       seats = (is_ranked i d h).1;
@@ -132,5 +141,6 @@ module _ (p : Problem) (path : List Fact) (c : ℕ) (s : Slot) where
           ];
     }
 
-    pub none_live : (d : Ranked) → ((j : ℕ) → j < length rooms → live_in (get_or rooms j d).room ≡ false) → (r : ℕ) → r < length p.rooms → live_in r ≡ false
+    pub none_live : (d : Ranked) → ((j : ℕ) → j < length rooms → live_in (get_or rooms j d).room ≡ false) → (r : ℕ) → r < length p.rooms
+        → live_in r ≡ false
     none_live d none r l = let m = place_of r d l in ap (λ (x : Ranked). live_in x.room) (sym m.2) ∙ none m.0 m.1

@@ -14,7 +14,8 @@ use Rattle.tt_facts_path.specs.Inner.Nested.{numbers_given}
 -- ---- tests
 
 -- each element that agrees passes, if the rest agrees
-pub all_that_agree : {X : Type 0} (rest : Bool) (p t : X → Bool) (xs : List X) → list_all (λ x. not (rest && p x) || t x) xs ≡ (not rest || list_all t (filter p xs))
+pub all_that_agree : {X : Type 0} (rest : Bool) (p t : X → Bool) (xs : List X) → list_all (λ x. not (rest && p x) || t x) xs ≡
+    (not rest || list_all t (filter p xs))
 all_that_agree true p t xs = sym (list_all-of_filter t p xs)
 all_that_agree false p t xs = all_pass (λ x. true) xs (λ x. refl)
 
@@ -68,8 +69,10 @@ at_number t n m = sym (list_all-of_filter t (λ k. m == k) (range_below n)) ∙ 
 ]
 
 -- a test of the numbers below a bound that a list has
-pub list_all-of_members : (t : ℕ → Bool) (n : ℕ) (ms : List ℕ) → list_all (λ k. not (has_number ms k) || t k) (range_below n) ≡ list_all (λ m. nat_le n m || t m) ms
+pub list_all-of_members : (t : ℕ → Bool) (n : ℕ) (ms : List ℕ) → list_all (λ k. not (has_number ms k) || t k) (range_below n) ≡ list_all
+    (λ m. nat_le n m || t m) ms
 list_all-of_members t n ms =
-    list_all-same (λ k. not (has_number ms k) || t k) (λ k. list_all (λ m. not (m == k) || t k) ms) (range_below n) (λ k. none_or (λ m. m == k) (t k) ms)
+    list_all-same (λ k. not (has_number ms k) || t k) (λ k. list_all (λ m. not (m == k) || t k) ms) (range_below n)
+    (λ k. none_or (λ m. m == k) (t k) ms)
     ∙ list_all-swap (λ k m. not (m == k) || t k) (range_below n) ms
     ∙ list_all-same (λ m. list_all (λ k. not (m == k) || t k) (range_below n)) (λ m. nat_le n m || t m) ms (at_number t n)

@@ -47,7 +47,8 @@ module _ (p : Problem) (path : List Fact) where
   pub once_live : (x : Cell) → count_by (is_cell x) (live_cells p path) ≤ 1
   once_live x =
       let fewer = sum_by-le (λ y. cond (is_live p path y) (one_if (is_cell x y)) 0) (λ y. one_if (is_cell x y)) (all_cells p)
-      (each (λ y. cond (is_live p path y) (one_if (is_cell x y)) 0 ≤ one_if (is_cell x y)) (λ y. by_test (is_live p path y) (one_if (is_cell x y))) (all_cells p)) in
+      (each (λ y. cond (is_live p path y) (one_if (is_cell x y)) 0 ≤ one_if (is_cell x y))
+      (λ y. by_test (is_live p path y) (one_if (is_cell x y))) (all_cells p)) in
       omega (arith, fewer, count_cells p x, sum_by-of_filter (λ y. one_if (is_cell x y)) (is_live p path) (all_cells p))
     where
       by_test : (b : Bool) (n : ℕ) → cond b n 0 ≤ n

@@ -34,29 +34,43 @@ is_who-has p (Course a) c = same_test c a a c sym sym ∙ sym (or-false (a == c)
 is_who-has p (Curriculum q) c = refl
 
 module _ (p : Problem) (path : List Fact) (g : Pattern) (x : Cell) where
-  in_room : (rest : Bool) (c r : ℕ) → list_all (λ d. list_all (λ s. not (rest && agrees g.day d && agrees g.period s) || is_lost p path x (cell c r (slot d s))) (range_below p.periods)) (all_days p) ≡ (not rest || is_room_lost p path g x c r)
+  in_room : (rest : Bool) (c r : ℕ)
+      → list_all (λ d. list_all (λ s. not (rest && agrees g.day d && agrees g.period s) || is_lost p path x (cell c r (slot d s)))
+      (range_below p.periods)) (all_days p) ≡ (not rest || is_room_lost p path g x c r)
   in_room rest c r =
-      list_all-same (λ d. list_all (λ s. not (rest && agrees g.day d && agrees g.period s) || is_lost p path x (cell c r (slot d s))) (range_below p.periods)) (λ d. not (rest && agrees g.day d) || is_day_lost p path g x c r d) (all_days p)
+      list_all-same (λ d. list_all (λ s. not (rest && agrees g.day d && agrees g.period s) || is_lost p path x (cell c r (slot d s)))
+      (range_below p.periods)) (λ d. not (rest && agrees g.day d) || is_day_lost p path g x c r d) (all_days p)
       (λ d. all_that_agree (rest && agrees g.day d) (agrees g.period) (λ s. is_lost p path x (cell c r (slot d s))) (range_below p.periods))
       ∙ all_that_agree rest (agrees g.day) (is_day_lost p path g x c r) (all_days p)
 
-  of_course : (c : ℕ) → list_all (λ r. list_all (λ d. list_all (λ s. not (matches p g (cell c r (slot d s))) || is_lost p path x (cell c r (slot d s))) (range_below p.periods)) (all_days p)) (all_rooms p) ≡ (not (is_who p g.who c) || are_rooms_lost p path g x c)
+  of_course : (c : ℕ)
+      → list_all (λ r. list_all (λ d. list_all (λ s. not (matches p g (cell c r (slot d s))) || is_lost p path x (cell c r (slot d s)))
+      (range_below p.periods)) (all_days p)) (all_rooms p) ≡ (not (is_who p g.who c) || are_rooms_lost p path g x c)
   of_course c =
-      list_all-same (λ r. list_all (λ d. list_all (λ s. not (matches p g (cell c r (slot d s))) || is_lost p path x (cell c r (slot d s))) (range_below p.periods)) (all_days p)) (λ r. not (is_who p g.who c && agrees g.room r) || is_room_lost p path g x c r) (all_rooms p)
+      list_all-same
+      (λ r. list_all (λ d. list_all (λ s. not (matches p g (cell c r (slot d s))) || is_lost p path x (cell c r (slot d s)))
+      (range_below p.periods)) (all_days p)) (λ r. not (is_who p g.who c && agrees g.room r) || is_room_lost p path g x c r)
+      (all_rooms p)
       (λ r. in_room (is_who p g.who c && agrees g.room r) c r)
       ∙ all_that_agree (is_who p g.who c) (agrees g.room) (is_room_lost p path g x c) (all_rooms p)
 
   pub excludes-by_course : excludes p path g x ≡ list_all (is_course_lost p path g x) (courses_of p g.who)
   excludes-by_course =
-      list_all-same (λ y. not (matches p g y) || is_barred p path y || clash p y x) (λ y. not (matches p g y) || is_lost p path x y) (all_cells p) (λ y. or-turn (not (matches p g y)) (is_barred p path y) (clash p y x))
+      list_all-same (λ y. not (matches p g y) || is_barred p path y || clash p y x) (λ y. not (matches p g y) || is_lost p path x y)
+      (all_cells p) (λ y. or-turn (not (matches p g y)) (is_barred p path y) (clash p y x))
       ∙ cells_nested p (λ y. not (matches p g y) || is_lost p path x y)
-      ∙ list_all-same (λ c. list_all (λ r. list_all (λ d. list_all (λ s. not (matches p g (cell c r (slot d s))) || is_lost p path x (cell c r (slot d s))) (range_below p.periods)) (all_days p)) (all_rooms p)) (λ c. not (has_number (courses_of p g.who) c) || are_rooms_lost p path g x c) (all_courses p)
+      ∙ list_all-same
+      (λ c. list_all
+      (λ r. list_all (λ d. list_all (λ s. not (matches p g (cell c r (slot d s))) || is_lost p path x (cell c r (slot d s)))
+      (range_below p.periods)) (all_days p)) (all_rooms p))
+      (λ c. not (has_number (courses_of p g.who) c) || are_rooms_lost p path g x c) (all_courses p)
       (λ c. of_course c ∙ ap (λ b. not b || are_rooms_lost p path g x c) (is_who-has p g.who c))
       ∙ list_all-of_members (are_rooms_lost p path g x) (length p.courses) (courses_of p g.who)
 
   -- the form in which the code goes through the courses that the pattern means
   pub excludes-by_one : (a : ℕ) → g.who ≡ Course a → excludes p path g x ≡ is_course_lost p path g x a
-  excludes-by_one a e = excludes-by_course ∙ ap (λ w. list_all (is_course_lost p path g x) (courses_of p w)) e ∙ and-true (is_course_lost p path g x a)
+  excludes-by_one a e = excludes-by_course ∙ ap (λ w. list_all (is_course_lost p path g x) (courses_of p w)) e
+      ∙ and-true (is_course_lost p path g x a)
 
   pub excludes-by_members : (q : ℕ) → g.who ≡ Curriculum q → excludes p path g x ≡ list_all (is_course_lost p path g x) (members p q)
   excludes-by_members q e = excludes-by_course ∙ ap (λ w. list_all (is_course_lost p path g x) (courses_of p w)) e

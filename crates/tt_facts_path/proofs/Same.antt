@@ -65,13 +65,15 @@ pub same_pattern-itself : (g : Pattern) → same_pattern g g ≡ true
 same_pattern-itself g =
     and_from (same_who g.who g.who && same_option g.room g.room && same_option g.day g.day) (same_option g.period g.period)
     (and_from (same_who g.who g.who && same_option g.room g.room) (same_option g.day g.day)
-    (and_from (same_who g.who g.who) (same_option g.room g.room) (same_who-itself g.who) (same_option-itself g.room)) (same_option-itself g.day))
+    (and_from (same_who g.who g.who) (same_option g.room g.room) (same_who-itself g.who) (same_option-itself g.room))
+    (same_option-itself g.day))
     (same_option-itself g.period)
 
 -- ---- facts on a path
 
 -- the fact found is on the path
-pub fact_there : (path : List Fact) (g : Pattern) (holds : Bool) → has_fact path g holds ≡ true → (f : Fact) × Contains path f × (f.holds ≡ holds) × (f.pattern ≡ g)
+pub fact_there : (path : List Fact) (g : Pattern) (holds : Bool) → has_fact path g holds ≡ true → (f : Fact) × Contains path f
+    × (f.holds ≡ holds) × (f.pattern ≡ g)
 fact_there path g holds e =
     let w = member_from_any (λ f. same_answer f.holds holds && same_pattern f.pattern g) path e in
     let a = and_parts (same_answer w.0.holds holds) (same_pattern w.0.pattern g) w.2 in

@@ -15,11 +15,13 @@ module _ (Shows : List Fact → List ℕ → Type 0) (facts : List Fact) (f : Fa
   earlier_popped a =
       let n : length earlier ≡ length facts = omega (arith, a.len, length-append earlier (words ∷ []), length-append facts (f ∷ [])) in
       let more : length (facts ++ f ∷ []) ≡ length facts + 1 = length-append facts (f ∷ []) in (
-        moved Shows _ facts _ words (take-append_seam facts (f ∷ [])) (ap (λ i. slice_index_or (earlier ++ words ∷ []) i []) (sym n) ∙ get_or_push earlier words [] (length earlier) refl) (a.each (length facts) (omega arith)),
+        moved Shows _ facts _ words (take-append_seam facts (f ∷ [])) (ap (λ i. slice_index_or (earlier ++ words ∷ []) i []) (sym n)
+            ∙ get_or_push earlier words [] (length earlier) refl) (a.each (length facts) (omega arith)),
         record {
           len = n;
           each = λ i h. let k : i < length earlier = omega arith in let le : i ≤ length facts = omega arith in
-              moved Shows _ (take i facts) _ (slice_index_or earlier i []) (take-append-le i facts (f ∷ []) le) (get_or_append_left earlier (words ∷ []) [] i k) (a.each i (omega arith));
+              moved Shows _ (take i facts) _ (slice_index_or earlier i []) (take-append-le i facts (f ∷ []) le)
+              (get_or_append_left earlier (words ∷ []) [] i k) (a.each i (omega arith));
         },
       )
 
@@ -28,9 +30,12 @@ module _ (Shows : List Fact → List ℕ → Type 0) (facts : List Fact) (f : Fa
     len = length-append earlier (words ∷ []) ∙ ap (λ n. n + 1) a.len ∙ sym (length-append facts (f ∷ []));
     each = λ i h. elim (cases_lt i (length facts)) [
       | inl l ↦ let k : i < length earlier = omega (arith, a.len) in let le : i ≤ length facts = omega arith in
-          moved Shows (take i facts) _ (slice_index_or earlier i []) _ (sym (take-append-le i facts (f ∷ []) le)) (sym (get_or_append_left earlier (words ∷ []) [] i k)) (a.each i l)
+          moved Shows (take i facts) _ (slice_index_or earlier i []) _ (sym (take-append-le i facts (f ∷ []) le))
+          (sym (get_or_append_left earlier (words ∷ []) [] i k)) (a.each i l)
       | inr l ↦ let e : length facts ≡ i = omega (arith, length-append facts (f ∷ [])) in
           subst (λ k. Shows (take k (facts ++ f ∷ [])) (slice_index_or (earlier ++ words ∷ []) k [])) e
-          (moved Shows facts _ words _ (sym (take-append_seam facts (f ∷ []))) (sym (ap (λ k. slice_index_or (earlier ++ words ∷ []) k []) (sym a.len) ∙ get_or_push earlier words [] (length earlier) refl)) t)
+          (moved Shows facts _ words _ (sym (take-append_seam facts (f ∷ [])))
+          (sym (ap (λ k. slice_index_or (earlier ++ words ∷ []) k []) (sym a.len)
+          ∙ get_or_push earlier words [] (length earlier) refl)) t)
     ];
   }

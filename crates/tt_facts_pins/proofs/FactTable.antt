@@ -25,10 +25,12 @@ use Rattle.tt_lists.proofs.Grid.{within_row}
 -- ---- facts that are the same
 
 -- equal facts have the same place
-bit_place_of-same : (p : Problem) (g : Pattern) (holds : Bool) (f : Fact) → is_fact g holds f ≡ true → bit_place_at p f.pattern f.holds ≡ bit_place_at p g holds
+bit_place_of-same : (p : Problem) (g : Pattern) (holds : Bool) (f : Fact) → is_fact g holds f ≡ true
+    → bit_place_at p f.pattern f.holds ≡ bit_place_at p g holds
 bit_place_of-same p g holds f e =
     let a = and_parts (same_answer f.holds holds) (same_pattern f.pattern g) e in
-    let b = and_parts (same_who f.pattern.who g.who && same_option f.pattern.room g.room && same_option f.pattern.day g.day) (same_option f.pattern.period g.period) a.1 in
+    let b = and_parts (same_who f.pattern.who g.who && same_option f.pattern.room g.room && same_option f.pattern.day g.day)
+    (same_option f.pattern.period g.period) a.1 in
     let d = and_parts (same_who f.pattern.who g.who && same_option f.pattern.room g.room) (same_option f.pattern.day g.day) b.0 in
     let r = and_parts (same_who f.pattern.who g.who) (same_option f.pattern.room g.room) d.0 in
     ap (λ h. bit_place_of p h f.pattern.who f.pattern.room f.pattern.day f.pattern.period) (same_answer-true f.holds holds a.0)
@@ -51,7 +53,8 @@ record Usual (p : Problem) (holds : Bool) (who : Who) (room day period : Option 
   period_there : at < p.periods
   bit_place : bit_place_in p holds course on at room ≡ Some x
 
-usual : (p : Problem) (holds : Bool) (who : Who) (room day period : Option ℕ) (x : BitPlace) → bit_place_of p holds who room day period ≡ Some x → Usual p holds who room day period x
+usual : (p : Problem) (holds : Bool) (who : Who) (room day period : Option ℕ) (x : BitPlace)
+    → bit_place_of p holds who room day period ≡ Some x → Usual p holds who room day period x
 usual p holds (Curriculum q) room day period x e = cc
 usual p holds (Course c) room None period x e = cc
 usual p holds (Course c) room (Some d) None x e = cc
@@ -100,7 +103,8 @@ closed p holds c d s r x e = elim (cases_Bool (nat_lt r (length p.rooms))) [
 
 -- -- each place belongs to one fact
 
-same_fact_row : (p : Problem) (h h0 : Bool) (c c0 : ℕ) → c < length p.courses → c0 < length p.courses → (fact_row p h c == fact_row p h0 c0) ≡ (same_answer h0 h && (c0 == c))
+same_fact_row : (p : Problem) (h h0 : Bool) (c c0 : ℕ) → c < length p.courses → c0 < length p.courses
+    → (fact_row p h c == fact_row p h0 c0) ≡ (same_answer h0 h && (c0 == c))
 same_fact_row p true true c c0 l k = same_test (length p.courses + c) (length p.courses + c0) c0 c (λ e. omega arith) (λ e. omega arith)
 same_fact_row p true false c c0 l k = ne_eqb (length p.courses + c) (0 + c0) (λ e. omega arith)
 same_fact_row p false true c c0 l k = ne_eqb (0 + c) (length p.courses + c0) (λ e. omega arith)
@@ -113,8 +117,10 @@ row_there p false c l = omega arith
 open_there : (p : Problem) (h : Bool) (c d : ℕ) → c < length p.courses → d < p.days → open_place p h c d < open_size p
 open_there p h c d l k = within_row (fact_row p h c) p.days d (fact_rows p) (row_there p h c l) k
 
-same_open : (p : Problem) (h h0 : Bool) (c d c0 d0 : ℕ) → c < length p.courses → c0 < length p.courses → d < p.days → d0 < p.days → (open_place p h c d == open_place p h0 c0 d0) ≡ ((same_answer h0 h && (c0 == c)) && (d0 == d))
-same_open p h h0 c d c0 d0 hc hc0 hd hd0 = same_day (fact_row p h c) d (fact_row p h0 c0) d0 p.days hd hd0 ∙ ap (λ b. b && (d0 == d)) (same_fact_row p h h0 c c0 hc hc0)
+same_open : (p : Problem) (h h0 : Bool) (c d c0 d0 : ℕ) → c < length p.courses → c0 < length p.courses → d < p.days → d0 < p.days
+    → (open_place p h c d == open_place p h0 c0 d0) ≡ ((same_answer h0 h && (c0 == c)) && (d0 == d))
+same_open p h h0 c d c0 d0 hc hc0 hd hd0 = same_day (fact_row p h c) d (fact_row p h0 c0) d0 p.days hd hd0
+    ∙ ap (λ b. b && (d0 == d)) (same_fact_row p h h0 c c0 hc hc0)
 
 in_order : (a c d s : Bool) → (((a && c) && d) && s) ≡ (a && ((c && true && d) && s))
 in_order true true d s = refl
@@ -135,9 +141,12 @@ in_order_too false c d s r = refl
 is_bit_place : BitPlace → BitPlace → Bool
 is_bit_place x y = (x.place == y.place) && (x.number == y.number)
 
-module _ (p : Problem) (h h0 : Bool) (c d s c0 d0 s0 : ℕ) (hc : c < length p.courses) (hc0 : c0 < length p.courses) (hd : d < p.days) (hd0 : d0 < p.days) (hs : s < p.periods) (hs0 : s0 < p.periods) where
-  same_bit_place_in : (room room0 : Option ℕ) (x y : BitPlace) → bit_place_in p h c d s room ≡ Some x → bit_place_in p h0 c0 d0 s0 room0 ≡ Some y
-      → ((x.place == y.place) && (x.number == y.number)) ≡ (same_answer h0 h && (((c0 == c) && same_option room0 room && (d0 == d)) && (s0 == s)))
+module _ (p : Problem) (h h0 : Bool) (c d s c0 d0 s0 : ℕ) (hc : c < length p.courses) (hc0 : c0 < length p.courses) (hd : d < p.days)
+    (hd0 : d0 < p.days) (hs : s < p.periods) (hs0 : s0 < p.periods) where
+  same_bit_place_in : (room room0 : Option ℕ) (x y : BitPlace) → bit_place_in p h c d s room ≡ Some x
+      → bit_place_in p h0 c0 d0 s0 room0 ≡ Some y
+      → ((x.place == y.place) && (x.number == y.number)) ≡
+      (same_answer h0 h && (((c0 == c) && same_option room0 room && (d0 == d)) && (s0 == s)))
   same_bit_place_in None None x y e f =
       let ex : record { place = open_place p h c d; number = s } ≡ x = cc in
       let ey : record { place = open_place p h0 c0 d0; number = s0 } ≡ y = cc in
@@ -151,14 +160,16 @@ module _ (p : Problem) (h h0 : Bool) (c d s c0 d0 s0 : ℕ) (hc : c < length p.c
       let y_is = closed p h0 c0 d0 s0 r0 y f in
       ap (λ (z : BitPlace). (z.place == y.place) && (z.number == y.number)) (sym ex)
       ∙ ap (λ (z : BitPlace). (open_place p h c d == z.place) && (s == z.number)) (sym y_is.bit_place_is)
-      ∙ ap (λ b. b && (s == r0 % 64)) (apart (open_place p h c d) (closed_place p h0 c0 d0 s0 r0) (open_size p) (open_there p h c d hc hd) (omega arith))
+      ∙ ap (λ b. b && (s == r0 % 64)) (apart (open_place p h c d) (closed_place p h0 c0 d0 s0 r0) (open_size p)
+      (open_there p h c d hc hd) (omega arith))
       ∙ sym (other_room (same_answer h0 h) (c0 == c) (d0 == d) (s0 == s))
   same_bit_place_in (Some r) None x y e f =
       let x_is = closed p h c d s r x e in
       let ey : record { place = open_place p h0 c0 d0; number = s0 } ≡ y = cc in
       ap (λ (z : BitPlace). (z.place == y.place) && (z.number == y.number)) (sym x_is.bit_place_is)
       ∙ ap (λ (z : BitPlace). (closed_place p h c d s r == z.place) && (r % 64 == z.number)) (sym ey)
-      ∙ ap (λ b. b && (r % 64 == s0)) (apart_back (open_place p h0 c0 d0) (closed_place p h c d s r) (open_size p) (open_there p h0 c0 d0 hc0 hd0) (omega arith))
+      ∙ ap (λ b. b && (r % 64 == s0)) (apart_back (open_place p h0 c0 d0) (closed_place p h c d s r) (open_size p)
+      (open_there p h0 c0 d0 hc0 hd0) (omega arith))
       ∙ sym (other_room (same_answer h0 h) (c0 == c) (d0 == d) (s0 == s))
   same_bit_place_in (Some r) (Some r0) x y e f =
       let x_is = closed p h c d s r x e in
@@ -173,21 +184,31 @@ module _ (p : Problem) (h h0 : Bool) (c d s c0 d0 s0 : ℕ) (hc : c < length p.c
       ∙ in_order_too (same_answer h0 h) (c0 == c) (d0 == d) (s0 == s) (r0 == r)
 
 -- two facts have the same place exactly if they are equal
-same_bit_place : (p : Problem) (g : Pattern) (holds : Bool) (f : Fact) (x y : BitPlace) → bit_place_at p g holds ≡ Some x → bit_place_at p f.pattern f.holds ≡ Some y → ((x.place == y.place) && (x.number == y.number)) ≡ is_fact g holds f
+same_bit_place : (p : Problem) (g : Pattern) (holds : Bool) (f : Fact) (x y : BitPlace) → bit_place_at p g holds ≡ Some x
+    → bit_place_at p f.pattern f.holds ≡ Some y → ((x.place == y.place) && (x.number == y.number)) ≡ is_fact g holds f
 same_bit_place p g holds f x y e k =
     let a = usual p holds g.who g.room g.day g.period x e in
     let b = usual p f.holds f.pattern.who f.pattern.room f.pattern.day f.pattern.period y k in
-    same_bit_place_in p holds f.holds a.course a.on a.at b.course b.on b.at a.course_there b.course_there a.day_there b.day_there a.period_there b.period_there g.room f.pattern.room x y a.bit_place b.bit_place
-    ∙ ap (λ t. same_answer f.holds holds && (((b.course == a.course) && same_option f.pattern.room g.room && t) && (b.at == a.at))) (ap (λ w. same_option w (Some a.on)) (sym b.day_is) ∙ ap (same_option f.pattern.day) (sym a.day_is))
-    ∙ ap (λ t. same_answer f.holds holds && (((b.course == a.course) && same_option f.pattern.room g.room && same_option f.pattern.day g.day) && t)) (ap (λ w. same_option w (Some a.at)) (sym b.period_is) ∙ ap (same_option f.pattern.period) (sym a.period_is))
-    ∙ ap (λ t. same_answer f.holds holds && ((t && same_option f.pattern.room g.room && same_option f.pattern.day g.day) && same_option f.pattern.period g.period)) (ap (λ w. same_who w (Course a.course)) (sym b.who_is) ∙ ap (same_who f.pattern.who) (sym a.who_is))
+    same_bit_place_in p holds f.holds a.course a.on a.at b.course b.on b.at a.course_there b.course_there a.day_there b.day_there
+    a.period_there b.period_there g.room f.pattern.room x y a.bit_place b.bit_place
+    ∙ ap (λ t. same_answer f.holds holds && (((b.course == a.course) && same_option f.pattern.room g.room && t) && (b.at == a.at)))
+    (ap (λ w. same_option w (Some a.on)) (sym b.day_is) ∙ ap (same_option f.pattern.day) (sym a.day_is))
+    ∙ ap (λ t. same_answer f.holds holds &&
+    (((b.course == a.course) && same_option f.pattern.room g.room && same_option f.pattern.day g.day) && t))
+    (ap (λ w. same_option w (Some a.at)) (sym b.period_is) ∙ ap (same_option f.pattern.period) (sym a.period_is))
+    ∙ ap (λ t. same_answer f.holds holds &&
+    ((t && same_option f.pattern.room g.room && same_option f.pattern.day g.day) && same_option f.pattern.period g.period))
+    (ap (λ w. same_who w (Course a.course)) (sym b.who_is) ∙ ap (same_who f.pattern.who) (sym a.who_is))
 
 -- -- another fact
 
-pub adds_there : (p : Problem) (f : Fact) (y : BitPlace) (old new : List ℕ) → bit_place_at p f.pattern f.holds ≡ Some y → Adds old (λ i. i == y.place) y.number new → ((g : Pattern) (holds : Bool) (x : BitPlace) → bit_place_at p g holds ≡ Some x → x.number < 64) → AddsFact p f old new
+pub adds_there : (p : Problem) (f : Fact) (y : BitPlace) (old new : List ℕ) → bit_place_at p f.pattern f.holds ≡ Some y
+    → Adds old (λ i. i == y.place) y.number new → ((g : Pattern) (holds : Bool) (x : BitPlace) → bit_place_at p g holds ≡ Some x
+    → x.number < 64) → AddsFact p f old new
 adds_there p f y old new k adds small = record {
   len = adds.len;
-  each = λ g holds x e. adds.each x.place x.number (small g holds x e) ∙ ap (λ t. has_at old x.place x.number || t) (same_bit_place p g holds f x y e k);
+  each = λ g holds x e. adds.each x.place x.number (small g holds x e) ∙ ap (λ t. has_at old x.place x.number || t)
+      (same_bit_place p g holds f x y e k);
 }
 
 pub adds_nowhere : (p : Problem) (f : Fact) (words : List ℕ) → bit_place_at p f.pattern f.holds ≡ None → AddsFact p f words words
@@ -202,7 +223,8 @@ adds_nowhere p f words k = record {
     another : (g : Pattern) (holds : Bool) (x : BitPlace) → bit_place_at p g holds ≡ Some x → is_fact g holds f ≡ false
     another g holds x e = false_from_ne_true (is_fact g holds f) (λ t. clash x (sym k ∙ bit_place_of-same p g holds f t ∙ e))
 
-pub fact_table_more : (p : Problem) (facts : List Fact) (f : Fact) (old new : List ℕ) → ShowsFacts p facts old → AddsFact p f old new → ShowsFacts p (facts ++ f ∷ []) new
+pub fact_table_more : (p : Problem) (facts : List Fact) (f : Fact) (old new : List ℕ) → ShowsFacts p facts old → AddsFact p f old new
+    → ShowsFacts p (facts ++ f ∷ []) new
 fact_table_more p facts f old new s w = record {
   len = w.len ∙ s.len;
   each = λ g holds x e.
@@ -213,7 +235,8 @@ fact_table_more p facts f old new s w = record {
 }
 
 -- the numbers of sets
-number_in : (p : Problem) (holds : Bool) (c d s : ℕ) (room : Option ℕ) (x : BitPlace) → s < 64 → bit_place_in p holds c d s room ≡ Some x → x.number < 64
+number_in : (p : Problem) (holds : Bool) (c d s : ℕ) (room : Option ℕ) (x : BitPlace) → s < 64
+    → bit_place_in p holds c d s room ≡ Some x → x.number < 64
 number_in p holds c d s None x h e =
     let ex : s ≡ x.number = ap (λ (z : BitPlace). z.number) (let q : record { place = open_place p holds c d; number = s } ≡ x = cc in q) in
     omega arith
@@ -222,7 +245,8 @@ number_in p holds c d s (Some r) x h e =
     let ex : r % 64 ≡ x.number = ap (λ (z : BitPlace). z.number) q.bit_place_is in
     omega arith
 
-pub small_numbers : (p : Problem) → p.periods ≤ 64 → (g : Pattern) (holds : Bool) (x : BitPlace) → bit_place_at p g holds ≡ Some x → x.number < 64
+pub small_numbers : (p : Problem) → p.periods ≤ 64 → (g : Pattern) (holds : Bool) (x : BitPlace) → bit_place_at p g holds ≡ Some x
+    → x.number < 64
 small_numbers p h g holds x e =
     let a = usual p holds g.who g.room g.day g.period x e in
     let at : a.at < p.periods = a.period_there in
@@ -234,13 +258,18 @@ nowhere_is : (x : Option BitPlace) → x ≡ None → is_nowhere x ≡ true
 nowhere_is x e = ap is_nowhere e
 
 -- a fact without a place is on the path exactly if it is in the list of these facts
-pub unplaced_has_fact : (p : Problem) (facts : List Fact) (g : Pattern) (holds : Bool) → bit_place_at p g holds ≡ None → has_fact (unplaced_of p facts) g holds ≡ has_fact facts g holds
+pub unplaced_has_fact : (p : Problem) (facts : List Fact) (g : Pattern) (holds : Bool) → bit_place_at p g holds ≡ None
+    → has_fact (unplaced_of p facts) g holds ≡ has_fact facts g holds
 unplaced_has_fact p facts g holds e =
     any-filter_same (is_fact g holds) (λ f. is_nowhere (bit_place_at p f.pattern f.holds)) true
     (λ f t. nowhere_is (bit_place_at p f.pattern f.holds) (bit_place_of-same p g holds f t ∙ e)) facts
 
-pub unplaced_more : (p : Problem) (facts : List Fact) (f : Fact) → is_nowhere (bit_place_at p f.pattern f.holds) ≡ true → unplaced_of p (facts ++ f ∷ []) ≡ unplaced_of p facts ++ f ∷ []
-unplaced_more p facts f e = filter-append (λ h. is_nowhere (bit_place_at p h.pattern h.holds)) facts (f ∷ []) ∙ ap (λ b. unplaced_of p facts ++ cond b (f ∷ []) []) e
+pub unplaced_more : (p : Problem) (facts : List Fact) (f : Fact) → is_nowhere (bit_place_at p f.pattern f.holds) ≡ true
+    → unplaced_of p (facts ++ f ∷ []) ≡ unplaced_of p facts ++ f ∷ []
+unplaced_more p facts f e = filter-append (λ h. is_nowhere (bit_place_at p h.pattern h.holds)) facts (f ∷ [])
+    ∙ ap (λ b. unplaced_of p facts ++ cond b (f ∷ []) []) e
 
-pub unplaced_stay : (p : Problem) (facts : List Fact) (f : Fact) → is_nowhere (bit_place_at p f.pattern f.holds) ≡ false → unplaced_of p (facts ++ f ∷ []) ≡ unplaced_of p facts
-unplaced_stay p facts f e = filter-append (λ h. is_nowhere (bit_place_at p h.pattern h.holds)) facts (f ∷ []) ∙ ap (λ b. unplaced_of p facts ++ cond b (f ∷ []) []) e ∙ append-nil (unplaced_of p facts)
+pub unplaced_stay : (p : Problem) (facts : List Fact) (f : Fact) → is_nowhere (bit_place_at p f.pattern f.holds) ≡ false
+    → unplaced_of p (facts ++ f ∷ []) ≡ unplaced_of p facts
+unplaced_stay p facts f e = filter-append (λ h. is_nowhere (bit_place_at p h.pattern h.holds)) facts (f ∷ [])
+    ∙ ap (λ b. unplaced_of p facts ++ cond b (f ∷ []) []) e ∙ append-nil (unplaced_of p facts)

@@ -26,7 +26,8 @@ same_day row d row0 d0 days h k = same_truth (row * days + d == row0 * days + d0
     (eq-eqb row row0 (sym (div-mul-add row days d h) ∙ ap (λ n. n / days) q ∙ div-mul-add row0 days d0 k))
     (eq-eqb d0 d (sym (mod-mul-add row0 days d0 k) ∙ ap (λ n. n % days) (sym q) ∙ mod-mul-add row days d h)))
     (λ e. let b = and_parts (row == row0) (d0 == d) e in
-    eq-eqb (row * days + d) (row0 * days + d0) (ap (λ n. n * days + d) (eqb-true row row0 b.0) ∙ ap (λ n. row0 * days + n) (sym (eqb-true d0 d b.1))))
+    eq-eqb (row * days + d) (row0 * days + d0) (ap (λ n. n * days + d) (eqb-true row row0 b.0)
+    ∙ ap (λ n. row0 * days + n) (sym (eqb-true d0 d b.1))))
 
 pub room_within : (p : Problem) (r : ℕ) → r < length p.rooms → r / 64 < width p
 room_within p r h = omega arith
@@ -35,8 +36,10 @@ pub block_within : (p : Problem) (b : ℕ) → b * 64 < length p.rooms → b < w
 block_within p b h = omega arith
 
 -- a place and a number belong to only one course and room
-pub same_room : (base w c r c0 r0 : ℕ) → r / 64 < w → r0 / 64 < w → ((base + (c * w + r / 64) == base + (c0 * w + r0 / 64)) && (r % 64 == r0 % 64)) ≡ ((c0 == c) && (r0 == r))
-same_room base w c r c0 r0 h k = same_truth ((base + (c * w + r / 64) == base + (c0 * w + r0 / 64)) && (r % 64 == r0 % 64)) ((c0 == c) && (r0 == r))
+pub same_room : (base w c r c0 r0 : ℕ) → r / 64 < w → r0 / 64 < w
+    → ((base + (c * w + r / 64) == base + (c0 * w + r0 / 64)) && (r % 64 == r0 % 64)) ≡ ((c0 == c) && (r0 == r))
+same_room base w c r c0 r0 h k = same_truth ((base + (c * w + r / 64) == base + (c0 * w + r0 / 64)) && (r % 64 == r0 % 64))
+    ((c0 == c) && (r0 == r))
     (λ e. let b = and_parts (base + (c * w + r / 64) == base + (c0 * w + r0 / 64)) (r % 64 == r0 % 64) e in
     let whole = eqb-true (base + (c * w + r / 64)) (base + (c0 * w + r0 / 64)) b.0 in
     let q : c * w + r / 64 ≡ c0 * w + r0 / 64 = cancel base (c * w + r / 64) (c0 * w + r0 / 64) whole in
@@ -49,7 +52,8 @@ same_room base w c r c0 r0 h k = same_truth ((base + (c * w + r / 64) == base + 
     let ec = sym (eqb-true c0 c b.0) in
     let er = sym (eqb-true r0 r b.1) in
     and_from (base + (c * w + r / 64) == base + (c0 * w + r0 / 64)) (r % 64 == r0 % 64)
-    (eq-eqb (base + (c * w + r / 64)) (base + (c0 * w + r0 / 64)) (ap (λ n. base + (n * w + r / 64)) ec ∙ ap (λ n. base + (c0 * w + n / 64)) er))
+    (eq-eqb (base + (c * w + r / 64)) (base + (c0 * w + r0 / 64)) (ap (λ n. base + (n * w + r / 64)) ec
+    ∙ ap (λ n. base + (c0 * w + n / 64)) er))
     (eq-eqb (r % 64) (r0 % 64) (ap (λ n. n % 64) er)))
   where
     cancel : (a b c : ℕ) → a + b ≡ a + c → b ≡ c

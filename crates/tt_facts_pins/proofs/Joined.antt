@@ -17,8 +17,10 @@ pub puts_adds : (old new : List ℕ) (place number : ℕ) → Puts old place num
 puts_adds old new place number h = record {
   len = h.len;
   each = λ i s l. elim (cases_eq i place) [
-    | inl e ↦ ap (λ j. has_at new j s) e ∙ h.here s l ∙ ap (λ j. has_at old j s || (s == number)) (sym e) ∙ ap (λ b. has_at old i s || (b && (s == number))) (sym (eq-eqb i place e))
-    | inr e ↦ ap (λ w. has_bit w s) (h.others i e) ∙ nothing_more (has_at old i s) ((i == place) && (s == number)) (ap (λ b. b && (s == number)) (ne_eqb i place e))
+    | inl e ↦ ap (λ j. has_at new j s) e ∙ h.here s l ∙ ap (λ j. has_at old j s || (s == number)) (sym e)
+        ∙ ap (λ b. has_at old i s || (b && (s == number))) (sym (eq-eqb i place e))
+    | inr e ↦ ap (λ w. has_bit w s) (h.others i e) ∙ nothing_more (has_at old i s) ((i == place) && (s == number))
+        (ap (λ b. b && (s == number)) (ne_eqb i place e))
   ];
 }
 
@@ -42,14 +44,17 @@ adds_none p a d number = record {
   each = λ i s l. sym (or-false (has_at a i s));
 }
 
-day_more : (p : Problem) (qs : List ℕ) (d k q i : ℕ) → k < length qs → q ≡ get_or qs k 0 → is_day_of p (take (k + 1) qs) d i ≡ (is_day_of p (take k qs) d i || (i == day_place p (length p.courses + q) d))
+day_more : (p : Problem) (qs : List ℕ) (d k q i : ℕ) → k < length qs → q ≡ get_or qs k 0 → is_day_of p (take (k + 1) qs) d i ≡
+    (is_day_of p (take k qs) d i || (i == day_place p (length p.courses + q) d))
 day_more p qs d k q i h e =
     ap (λ l. is_day_of p l d i) (take_more qs k 0 h ∙ ap (λ n. take k qs ++ n ∷ []) (sym e))
     ∙ list_any-append (λ n. i == day_place p (length p.courses + n) d) (take k qs) (q ∷ [])
     ∙ ap (λ b. is_day_of p (take k qs) d i || b) (or-false (i == day_place p (length p.courses + q) d))
 
 -- another curriculum
-pub adds_more : (p : Problem) (qs : List ℕ) (d k q number : ℕ) (a b e : List ℕ) → k < length qs → q ≡ get_or qs k 0 → Adds a (is_day_of p (take k qs) d) number b → Adds b (λ i. i == day_place p (length p.courses + q) d) number e → Adds a (is_day_of p (take (k + 1) qs) d) number e
+pub adds_more : (p : Problem) (qs : List ℕ) (d k q number : ℕ) (a b e : List ℕ) → k < length qs → q ≡ get_or qs k 0
+    → Adds a (is_day_of p (take k qs) d) number b → Adds b (λ i. i == day_place p (length p.courses + q) d) number e
+    → Adds a (is_day_of p (take (k + 1) qs) d) number e
 adds_more p qs d k q number a b e h is f g =
     let both = adds_both a b e (is_day_of p (take k qs) d) (λ i. i == day_place p (length p.courses + q) d) number f g in
     record {

@@ -50,7 +50,8 @@ taught_there p g a b same q s m e =
     let k = and_parts (nat_lt s p.periods) (list_any (a s) (members p q)) e in
     let w = member_from_any (a s) (members p q) k.1 in
     let own = member_own p g q m w.0 (any_member (λ c. c == w.0) (members p q) w.0 w.1 (eq-eqb w.0 w.0 refl)) in
-    and_from (nat_lt s p.periods) (list_any (b s) (members p q)) k.0 (any_member (b s) (members p q) w.0 w.1 (sym (same s w.0 (ltb-true s p.periods k.0) own) ∙ w.2))
+    and_from (nat_lt s p.periods) (list_any (b s) (members p q)) k.0
+    (any_member (b s) (members p q) w.0 w.1 (sym (same s w.0 (ltb-true s p.periods k.0) own) ∙ w.2))
 
 module _ (p : Problem) (g : Group) (a b : Day) (same : (s c : ℕ) → s < p.periods → concerns p g c ≡ true → a s c ≡ b s c) where
   taught_same : (q s : ℕ) → Contains g.curricula q → is_taught p a q s ≡ is_taught p b q s
@@ -66,26 +67,32 @@ module _ (p : Problem) (g : Group) (a b : Day) (same : (s c : ℕ) → s < p.per
 
   day_same : day_cost p g a ≡ day_cost p g b
   day_same =
-      sum_by-same_member (λ q. 2 * count_by (is_single p a q) (range_below p.periods)) (λ q. 2 * count_by (is_single p b q) (range_below p.periods)) g.curricula
-      (λ q m. let e = sum_by-same (λ s. one_if (is_single p a q s)) (λ s. one_if (is_single p b q s)) (range_below p.periods) (λ s. ap one_if (single_same q s m)) in omega (arith, e))
+      sum_by-same_member (λ q. 2 * count_by (is_single p a q) (range_below p.periods))
+      (λ q. 2 * count_by (is_single p b q) (range_below p.periods)) g.curricula
+      (λ q m. let e = sum_by-same (λ s. one_if (is_single p a q s)) (λ s. one_if (is_single p b q s)) (range_below p.periods)
+      (λ s. ap one_if (single_same q s m)) in omega (arith, e))
 
-module _ (p : Problem) (g : Group) (a b : Week) (same : (d s c : ℕ) → d < p.days → s < p.periods → concerns p g c ≡ true → a d s c ≡ b d s c) where
+module _ (p : Problem) (g : Group) (a b : Week) (same : (d s c : ℕ) → d < p.days → s < p.periods → concerns p g c ≡ true
+    → a d s c ≡ b d s c) where
   further_same : (c : ℕ) → concerns p g c ≡ true → further p a p.days c ≡ further p b p.days c
   further_same c own =
       sum_by-same_below (λ i. lectures_on p (a i) c - 1) (λ i. lectures_on p (b i) c - 1) p.days
-      (λ i k. ap (λ n. n - 1) (sum_by-same_below (λ s. one_if (a i s c)) (λ s. one_if (b i s c)) p.periods (λ s l. ap one_if (same i s c k l own))))
+      (λ i k. ap (λ n. n - 1) (sum_by-same_below (λ s. one_if (a i s c)) (λ s. one_if (b i s c)) p.periods
+      (λ s l. ap one_if (same i s c k l own))))
 
   -- weeks that have the same courses of the group cost the same
   pub spent_same : spent p g a p.days ≡ spent p g b p.days
   spent_same =
-      let days = sum_by-same_below (λ i. day_cost p g (a i)) (λ i. day_cost p g (b i)) p.days (λ i k. day_same p g (a i) (b i) (λ s c l own. same i s c k l own)) in
+      let days = sum_by-same_below (λ i. day_cost p g (a i)) (λ i. day_cost p g (b i)) p.days
+      (λ i k. day_same p g (a i) (b i) (λ s c l own. same i s c k l own)) in
       let courses = sum_by-same_member (λ c. 5 * (further p a p.days c - slack p c)) (λ c. 5 * (further p b p.days c - slack p c)) g.courses
       (λ c m. ap (λ n. 5 * (n - slack p c)) (further_same c (course_own p g c m))) in
       omega (arith, days, courses)
 
 -- ---- the timetable of a plan
 
-module _ (p : Problem) (g : Group) (week : Week) (plan : IsPlan p g week) (there : (c : ℕ) → concerns p g c ≡ true → c < length p.courses) where
+module _ (p : Problem) (g : Group) (week : Week) (plan : IsPlan p g week) (there : (c : ℕ) → concerns p g c ≡ true
+    → c < length p.courses) where
   abbrev is_needed : Slot → ℕ → Bool
   is_needed s c = concerns p g c && week s.day s.period c
 
@@ -107,12 +114,14 @@ module _ (p : Problem) (g : Group) (week : Week) (plan : IsPlan p g week) (there
   built_at s h =
       each_flat IsBuilt (one_entry s) (all_courses p)
       (each (λ c. AllByRecursion IsBuilt (one_entry s c)) (λ c. each_if IsBuilt (is_needed s c) (cell c 0 s)
-      (λ e. let k = and_parts (concerns p g c) (week s.day s.period c) e in record { own = k.0; inside = record { day = h.day; period = h.period }; taught = k.1 })) (all_courses p))
+      (λ e. let k = and_parts (concerns p g c) (week s.day s.period c) e in
+      record { own = k.0; inside = record { day = h.day; period = h.period }; taught = k.1 })) (all_courses p))
 
   is_built : (x : Cell) → Contains built x → IsBuilt x
   is_built x m =
       at_member IsBuilt built x
-      (each_flat IsBuilt entries_at (all_slots p) (each_weaker (IsSlot p) (λ s. AllByRecursion IsBuilt (entries_at s)) built_at (all_slots p) (each_slot p))) m
+      (each_flat IsBuilt entries_at (all_slots p) (each_weaker (IsSlot p) (λ s. AllByRecursion IsBuilt (entries_at s)) built_at
+      (all_slots p) (each_slot p))) m
 
   -- each lecture of the plan has an entry
   found : (d s c : ℕ) → d < p.days → s < p.periods → is_needed (slot d s) c ≡ true → week_of built d s c ≡ true
@@ -146,9 +155,11 @@ module _ (p : Problem) (g : Group) (week : Week) (plan : IsPlan p g week) (there
     once_at s =
         let test : Cell → ℕ = λ x. one_if (is_of c x) in
         let spread = sum_by-of_flat_map test (one_entry s) (all_courses p) in
-        let each_n = sum_by-same (λ n. sum_by test (one_entry s n)) (λ n. one_if (is_needed s n && (n == c))) (all_courses p) (λ n. counted_if (is_of c) (is_needed s n) (cell n 0 s)) in
+        let each_n = sum_by-same (λ n. sum_by test (one_entry s n)) (λ n. one_if (is_needed s n && (n == c))) (all_courses p)
+        (λ n. counted_if (is_of c) (is_needed s n) (cell n 0 s)) in
         let turned = sum_by-le (λ n. one_if (is_needed s n && (n == c))) (λ n. one_if (is_needed s c && (c == n))) (all_courses p)
-        (each (λ n. one_if (is_needed s n && (n == c)) ≤ one_if (is_needed s c && (c == n))) (λ n. cond-le (is_needed s n && (n == c)) (is_needed s c && (c == n)) (λ h.
+        (each (λ n. one_if (is_needed s n && (n == c)) ≤ one_if (is_needed s c && (c == n)))
+        (λ n. cond-le (is_needed s n && (n == c)) (is_needed s c && (c == n)) (λ h.
         let k = and_parts (is_needed s n) (n == c) h in
         let e = eqb-true n c k.1 in
         and_from (is_needed s c) (c == n) (subst (λ i. is_needed s i ≡ true) e k.0) (eq-eqb c n (sym e)))) (all_courses p)) in
@@ -159,7 +170,8 @@ module _ (p : Problem) (g : Group) (week : Week) (plan : IsPlan p g week) (there
     entries-le : entries_of built c ≤ lectures p c
     entries-le =
         let spread = sum_by-of_flat_map (λ x. one_if (is_of c x)) entries_at (all_slots p) in
-        let up = sum_by-le (λ s. count_by (is_of c) (entries_at s)) (λ s. one_if (week s.day s.period c)) (all_slots p) (each (λ s. count_by (is_of c) (entries_at s) ≤ one_if (week s.day s.period c)) once_at (all_slots p)) in
+        let up = sum_by-le (λ s. count_by (is_of c) (entries_at s)) (λ s. one_if (week s.day s.period c)) (all_slots p)
+        (each (λ s. count_by (is_of c) (entries_at s) ≤ one_if (week s.day s.period c)) once_at (all_slots p)) in
         omega (arith, spread, up, planned)
 
     periods-ge : lectures p c ≤ periods_of p built c
@@ -167,7 +179,8 @@ module _ (p : Problem) (g : Group) (week : Week) (plan : IsPlan p g week) (there
         let has : Slot → Bool = λ s. list_any (λ e. is_of c e && is_at s e) built in
         let up = sum_by-le (λ s. one_if (week s.day s.period c)) (λ s. one_if (has s)) (all_slots p)
         (each_weaker (IsSlot p) (λ s. one_if (week s.day s.period c) ≤ one_if (has s)) (λ s h. cond-le (week s.day s.period c) (has s)
-        (λ e. found s.day s.period c h.day h.period (and_from (concerns p g c) (week s.day s.period c) own e))) (all_slots p) (each_slot p)) in
+        (λ e. found s.day s.period c h.day h.period (and_from (concerns p g c) (week s.day s.period c) own e))) (all_slots p)
+        (each_slot p)) in
         omega (arith, up, planned)
 
     all_lectures : lectures_off p built c ≡ 0
@@ -184,13 +197,16 @@ module _ (p : Problem) (g : Group) (week : Week) (plan : IsPlan p g week) (there
       let l = and_parts (x.day == y.day) (x.period == y.period) k.0 in
       let day = eqb-true x.day y.day l.0 in
       let period = eqb-true x.period y.period l.1 in
-      let other : week x.day x.period y.course ≡ true = ap (λ i. week i x.period y.course) day ∙ ap (λ i. week y.day i y.course) period ∙ b.taught in
-      both_ways (conflict p x.course y.course) ((plan.days x.day a.inside.day).apart x.period x.course y.course a.inside.period a.own b.own a.taught other) k.1)
+      let other : week x.day x.period y.course ≡ true = ap (λ i. week i x.period y.course) day ∙ ap (λ i. week y.day i y.course) period
+      ∙ b.taught in
+      both_ways (conflict p x.course y.course)
+      ((plan.days x.day a.inside.day).apart x.period x.course y.course a.inside.period a.own b.own a.taught other) k.1)
 
   all_available : availability_count p (entries_for p g built) ≡ 0
   all_available = none_counted (λ e. unavailable p e.course e.day e.period) (entries_for p g built) (λ x m h.
       let a = kept_before x m in
-      both_ways (unavailable p x.course x.day x.period) ((plan.days x.day a.inside.day).available x.period x.course a.inside.period a.own a.taught) h)
+      both_ways (unavailable p x.course x.day x.period)
+      ((plan.days x.day a.inside.day).available x.period x.course a.inside.period a.own a.taught) h)
 
   pub is_relaxed : IsRelaxedTimetable p g built
   is_relaxed = record { lectures = all_lectures; conflicts = no_collisions; availability = all_available }

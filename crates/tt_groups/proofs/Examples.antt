@@ -47,7 +47,8 @@ another_course_is_not_concerned = refl
 one_conflict_in_all : conflicts_count three spread ≡ 1
 one_conflict_in_all = refl
 
-no_conflict_in_the_group : conflicts_count three (entries_for three group spread) + availability_count three (entries_for three group spread) + lectures_off three spread 0 + lectures_off three spread 1 ≡ 0
+no_conflict_in_the_group : conflicts_count three (entries_for three group spread) + availability_count three
+    (entries_for three group spread) + lectures_off three spread 0 + lectures_off three spread 1 ≡ 0
 no_conflict_in_the_group = refl
 
 -- 2 for the second lecture of a, and 5 for its missing third day

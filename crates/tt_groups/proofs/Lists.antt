@@ -63,7 +63,8 @@ member_before {X} p (y ∷ ys) x h = by_test (p y) (λ m. member_before p ys x m
     behind : Contains ys x → Contains (y ∷ ys) x
     behind m = Contains-append_right (y ∷ []) ys x m
 
-    by_test : (b : Bool) → (Contains (filter p ys) x → Contains ys x) → Contains (cond b (y ∷ filter p ys) (filter p ys)) x → Contains (y ∷ ys) x
+    by_test : (b : Bool) → (Contains (filter p ys) x → Contains ys x) → Contains (cond b (y ∷ filter p ys) (filter p ys)) x
+        → Contains (y ∷ ys) x
     by_test true later m = elim (member_cases y (filter p ys) x m) [
       | inl same ↦ (0, omega arith, same)
       | inr k ↦ behind (later k)
@@ -73,8 +74,10 @@ member_before {X} p (y ∷ ys) x h = by_test (p y) (λ m. member_before p ys x m
 -- -- writes to tables
 
 -- after two writes, an entry is new or unchanged
-pub made-more : (Made : ℕ → ℕ → Type 0) (old mid new : List ℕ) → ((k : ℕ) → (slice_index mid k ≡ slice_index old k) ⊎ Made k (slice_index mid k))
-    → ((k : ℕ) → (slice_index new k ≡ slice_index mid k) ⊎ Made k (slice_index new k)) → (k : ℕ) → (slice_index new k ≡ slice_index old k) ⊎ Made k (slice_index new k)
+pub made-more : (Made : ℕ → ℕ → Type 0) (old mid new : List ℕ)
+    → ((k : ℕ) → (slice_index mid k ≡ slice_index old k) ⊎ Made k (slice_index mid k))
+    → ((k : ℕ) → (slice_index new k ≡ slice_index mid k) ⊎ Made k (slice_index new k)) → (k : ℕ)
+    → (slice_index new k ≡ slice_index old k) ⊎ Made k (slice_index new k)
 made-more Made old mid new before now k = elim (now k) [
   | inl e ↦ elim (before k) [
     | inl f ↦ inl (e ∙ f)

@@ -32,7 +32,8 @@ module _ (p : Problem) (g : Group) where
         let before : ℕ → ℕ = λ c. 5 * (further p week d c - slack p c) in
         let more : ℕ → ℕ = λ c. 5 * ((capped p week d c + (today c - 1)) - slack p c) in
         let days = sum_more (λ i. day_cost p g (week i)) d in
-        let each_course = sum_by-same (λ c. 5 * (further p week (d + 1) c - slack p c)) (λ c. before c + more c) g.courses (λ c. let e = further-more c in omega arith) in
+        let each_course = sum_by-same (λ c. 5 * (further p week (d + 1) c - slack p c)) (λ c. before c + more c) g.courses
+        (λ c. let e = further-more c in omega arith) in
         let both = sum_by-plus before more g.courses in
         omega (arith, days, each_course, both)
 
@@ -44,9 +45,11 @@ module _ (p : Problem) (g : Group) where
 
   module _ (b : ℕ) where
     pub week_start : (v : Vector → Vector → ℕ) → Starts v → IsWeekTable p g b 0 v
-    week_start v starts = record { low = λ week plan h. omega (arith, starts.free (used p week 0) (capped p week 0) (λ c. refl) (λ c. omega arith)) }
+    week_start v starts =
+        record { low = λ week plan h. omega (arith, starts.free (used p week 0) (capped p week 0) (λ c. refl) (λ c. omega arith)) }
 
-    pub week_next : (d : ℕ) (f : Vector → ℕ) (v next : Vector → Vector → ℕ) → d < p.days → IsDayTable p g b d f → IsWeekTable p g b d v → Extends p g b f v next → IsWeekTable p g b (d + 1) next
+    pub week_next : (d : ℕ) (f : Vector → ℕ) (v next : Vector → Vector → ℕ) → d < p.days → IsDayTable p g b d f → IsWeekTable p g b d v
+        → Extends p g b f v next → IsWeekTable p g b (d + 1) next
     week_next d f v next h day table extends = record {
       low = λ week plan less.
           let more = spent-more week d in
@@ -54,7 +57,8 @@ module _ (p : Problem) (g : Group) where
           let today_fits : Fits p g (lectures_on p (week d)) = λ c own. omega (arith, total c own, used-more week d c) in
           let so_far = table.low week plan (omega arith) in
           let this_day = day.low (week d) (plan.days d h) today_fits (omega arith) in
-          let reached = extends.low (used p week d) (capped p week d) (lectures_on p (week d)) (used p week (d + 1)) (capped p week (d + 1)) (used-more week d) (capped-more week d) total (λ c. omega arith) (omega arith) in
+          let reached = extends.low (used p week d) (capped p week d) (lectures_on p (week d)) (used p week (d + 1))
+          (capped p week (d + 1)) (used-more week d) (capped-more week d) total (λ c. omega arith) (omega arith) in
           omega arith;
     }
 
@@ -69,12 +73,16 @@ module _ (p : Problem) (g : Group) where
     ]
 
     -- by induction over the days
-    weeks : (f : ℕ → Vector → ℕ) (v : ℕ → Vector → Vector → ℕ) → Starts (v 0) → ((d : ℕ) → d < p.days → IsDayTable p g b d (f d)) → ((d : ℕ) → d < p.days → Extends p g b (f d) (v d) (v (d + 1))) → (d : ℕ) → d ≤ p.days → IsWeekTable p g b d (v d)
+    weeks : (f : ℕ → Vector → ℕ) (v : ℕ → Vector → Vector → ℕ) → Starts (v 0) → ((d : ℕ) → d < p.days → IsDayTable p g b d (f d))
+        → ((d : ℕ) → d < p.days → Extends p g b (f d) (v d) (v (d + 1))) → (d : ℕ) → d ≤ p.days → IsWeekTable p g b d (v d)
     weeks f v starts days steps zero h = week_start (v 0) starts
     weeks f v starts days steps (suc d) h =
         let e : d + 1 ≡ suc d = omega arith in
-        subst (λ n. IsWeekTable p g b n (v n)) e (week_next d (f d) (v d) (v (d + 1)) (omega arith) (days d (omega arith)) (weeks f v starts days steps d (omega arith)) (steps d (omega arith)))
+        subst (λ n. IsWeekTable p g b n (v n)) e (week_next d (f d) (v d) (v (d + 1)) (omega arith) (days d (omega arith))
+        (weeks f v starts days steps d (omega arith)) (steps d (omega arith)))
 
     -- Tables of all days bound the group's cost.
-    pub program_bound : (f : ℕ → Vector → ℕ) (v : ℕ → Vector → Vector → ℕ) → Starts (v 0) → ((d : ℕ) → d < p.days → IsDayTable p g b d (f d)) → ((d : ℕ) → d < p.days → Extends p g b (f d) (v d) (v (d + 1))) → Reaches p g b (v p.days) → IsGroupBound p g (base_cost p g + b)
+    pub program_bound : (f : ℕ → Vector → ℕ) (v : ℕ → Vector → Vector → ℕ) → Starts (v 0)
+        → ((d : ℕ) → d < p.days → IsDayTable p g b d (f d)) → ((d : ℕ) → d < p.days → Extends p g b (f d) (v d) (v (d + 1)))
+        → Reaches p g b (v p.days) → IsGroupBound p g (base_cost p g + b)
     program_bound f v starts days steps reaches = week_end (v p.days) (weeks f v starts days steps p.days (omega arith)) reaches

@@ -25,10 +25,12 @@ use Rattle.tt_groups.proofs.Lists.{sum_by-same_member}
 -- ---- courses of the group
 
 pub course_own : (p : Problem) (g : Group) (c : ℕ) → Contains g.courses c → concerns p g c ≡ true
-course_own p g c m = or_left (has_number g.courses c) (list_any (λ q. in_curriculum p q c) g.curricula) (any_member (λ k. k == c) g.courses c m (eq-eqb c c refl))
+course_own p g c m = or_left (has_number g.courses c) (list_any (λ q. in_curriculum p q c) g.curricula)
+    (any_member (λ k. k == c) g.courses c m (eq-eqb c c refl))
 
 pub member_own : (p : Problem) (g : Group) (q : ℕ) → Contains g.curricula q → (c : ℕ) → in_curriculum p q c ≡ true → concerns p g c ≡ true
-member_own p g q m c e = or_right (has_number g.courses c) (list_any (λ k. in_curriculum p k c) g.curricula) (any_member (λ k. in_curriculum p k c) g.curricula q m e)
+member_own p g q m c e = or_right (has_number g.courses c) (list_any (λ k. in_curriculum p k c) g.curricula)
+    (any_member (λ k. in_curriculum p k c) g.curricula q m e)
 
 -- a period that has a course has an entry of it
 pub standing : (t : List Cell) (d s c : ℕ) → week_of t d s c ≡ true → (x : Cell) × Contains t x × (x.course ≡ c) × (slot_of x ≡ slot d s)
@@ -47,21 +49,25 @@ module _ (p : Problem) (g : Group) (t : List Cell) (relaxed : IsRelaxedTimetable
   -- ---- working days
 
   -- a course is taught on a day if and only if it is taught in one of the day's periods
-  pub day_taught : (c : ℕ) → concerns p g c ≡ true → (d : ℕ) → list_any (λ e. is_of c e && is_on d e) t ≡ list_any (λ s. week_of t d s c) (range_below p.periods)
-  day_taught c own d = same_truth (list_any (λ e. is_of c e && is_on d e) t) (list_any (λ s. week_of t d s c) (range_below p.periods)) there back
+  pub day_taught : (c : ℕ) → concerns p g c ≡ true → (d : ℕ) → list_any (λ e. is_of c e && is_on d e) t ≡ list_any
+      (λ s. week_of t d s c) (range_below p.periods)
+  day_taught c own d = same_truth (list_any (λ e. is_of c e && is_on d e) t) (list_any (λ s. week_of t d s c) (range_below p.periods))
+      there back
     where
       there : list_any (λ e. is_of c e && is_on d e) t ≡ true → list_any (λ s. week_of t d s c) (range_below p.periods) ≡ true
       there e =
           let w = member_from_any (λ x. is_of c x && is_on d x) t e in
           let k = and_parts (is_of c w.0) (is_on d w.0) w.2 in
           let here = subst (λ i. week_of t i w.0.period w.0.course ≡ true) (eqb-true w.0.day d k.1) (stands t w.0 w.1) in
-          any_below (λ s. week_of t d s c) p.periods w.0.period (in_week p g t relaxed c own w.0 w.1 k.0).period (subst (λ i. week_of t d w.0.period i ≡ true) (eqb-true w.0.course c k.0) here)
+          any_below (λ s. week_of t d s c) p.periods w.0.period (in_week p g t relaxed c own w.0 w.1 k.0).period
+          (subst (λ i. week_of t d w.0.period i ≡ true) (eqb-true w.0.course c k.0) here)
 
       back : list_any (λ s. week_of t d s c) (range_below p.periods) ≡ true → list_any (λ e. is_of c e && is_on d e) t ≡ true
       back e =
           let w = member_from_any (λ s. week_of t d s c) (range_below p.periods) e in
           let x = standing t d w.0 c w.2 in
-          any_member (λ e. is_of c e && is_on d e) t x.0 x.1 (and_from (is_of c x.0) (is_on d x.0) (eq-eqb x.0.course c x.2) (eq-eqb x.0.day d (ap (λ z. z.day) x.3)))
+          any_member (λ e. is_of c e && is_on d e) t x.0 x.1
+          (and_from (is_of c x.0) (is_on d x.0) (eq-eqb x.0.course c x.2) (eq-eqb x.0.day d (ap (λ z. z.day) x.3)))
 
   -- over all days, a course has all its lectures
   pub lectures_stand : (c : ℕ) → concerns p g c ≡ true → sum_by (λ d. lectures_on p (week_of t d) c) (all_days p) ≡ lectures p c
@@ -78,7 +84,8 @@ module _ (p : Problem) (g : Group) (t : List Cell) (relaxed : IsRelaxedTimetable
       omega (arith, both, all, lectures_stand c own)
 
   -- so a course pays for the days that it can't have, and for further lectures beyond those that are free
-  pub days_cost-excess : (c : ℕ) → concerns p g c ≡ true → days_cost p t c ≡ 5 * (min_days p c - lectures p c) + 5 * (further p (week_of t) p.days c - slack p c)
+  pub days_cost-excess : (c : ℕ) → concerns p g c ≡ true → days_cost p t c ≡ 5 * (min_days p c - lectures p c) + 5 *
+      (further p (week_of t) p.days c - slack p c)
   days_cost-excess c own = let e = days_and_further c own in omega arith
 
   -- ---- compactness
@@ -89,35 +96,44 @@ module _ (p : Problem) (g : Group) (t : List Cell) (relaxed : IsRelaxedTimetable
     taught_by x m e =
         let w = member_from_any (λ c. c == x.course) (members p q) e in
         let slot_there = in_week p g t relaxed x.course (own x.course e) x m (eq-eqb x.course x.course refl) in
-        and_from (nat_lt x.period p.periods) (list_any (week_of t x.day x.period) (members p q)) (lt-ltb x.period p.periods slot_there.period)
-        (any_member (week_of t x.day x.period) (members p q) w.0 w.1 (subst (λ c. week_of t x.day x.period c ≡ true) (sym (eqb-true w.0 x.course w.2)) (stands t x m)))
+        and_from (nat_lt x.period p.periods) (list_any (week_of t x.day x.period) (members p q))
+        (lt-ltb x.period p.periods slot_there.period)
+        (any_member (week_of t x.day x.period) (members p q) w.0 w.1
+        (subst (λ c. week_of t x.day x.period c ≡ true) (sym (eqb-true w.0 x.course w.2)) (stands t x m)))
 
     -- a period in which the curriculum is taught has an entry of it
-    pub taught_entry : (d s : ℕ) → is_taught p (week_of t d) q s ≡ true → (x : Cell) × Contains t x × (in_curriculum p q x.course ≡ true) × (slot_of x ≡ slot d s)
+    pub taught_entry : (d s : ℕ) → is_taught p (week_of t d) q s ≡ true → (x : Cell) × Contains t x
+        × (in_curriculum p q x.course ≡ true) × (slot_of x ≡ slot d s)
     taught_entry d s e =
-        let w = member_from_any (week_of t d s) (members p q) (and_parts (nat_lt s p.periods) (list_any (week_of t d s) (members p q)) e).1 in
+        let w = member_from_any (week_of t d s) (members p q)
+        (and_parts (nat_lt s p.periods) (list_any (week_of t d s) (members p q)) e).1 in
         let x = standing t d s w.0 w.2 in
         (x.0, x.1, any_member (λ c. c == x.0.course) (members p q) w.0 w.1 (eq-eqb w.0 x.0.course (sym x.2)), x.3)
 
     -- if a period is single, no entry of the curriculum is in the period before or after it
-    never_beside : (d s : ℕ) → is_single p (week_of t d) q s ≡ true → (x : Cell) → Contains t x → in_curriculum p q x.course ≡ true → next_to (slot_of x) (slot d s) ≡ true → ⊥
+    never_beside : (d s : ℕ) → is_single p (week_of t d) q s ≡ true → (x : Cell) → Contains t x → in_curriculum p q x.course ≡ true
+        → next_to (slot_of x) (slot d s) ≡ true → ⊥
     never_beside d s e x m i n =
         let taught = is_taught p (week_of t d) q in
         let before = nat_lt 0 s && taught (s - 1) in
         let a = and_parts (taught s && not before) (not (taught (s + 1))) e in
         let b = and_parts (taught s) (not before) a.0 in
         let k = and_parts (x.day == d) ((x.period == s + 1) || (x.period + 1 == s)) n in
-        let here : taught x.period ≡ true = subst (λ z. is_taught p (week_of t z) q x.period ≡ true) (eqb-true x.day d k.0) (taught_by x m i) in
+        let here : taught x.period ≡ true = subst (λ z. is_taught p (week_of t z) q x.period ≡ true) (eqb-true x.day d k.0)
+        (taught_by x m i) in
         elim (or_cases (x.period == s + 1) (x.period + 1 == s) k.1) [
-          | inl f ↦ both_ways (taught (s + 1)) (not-true (taught (s + 1)) a.1) (subst (λ z. taught z ≡ true) (eqb-true x.period (s + 1) f) here)
+          | inl f ↦ both_ways (taught (s + 1)) (not-true (taught (s + 1)) a.1)
+              (subst (λ z. taught z ≡ true) (eqb-true x.period (s + 1) f) here)
           | inr f ↦
               let h = eqb-true (x.period + 1) s f in
               let z : x.period ≡ s - 1 = omega arith in
-              both_ways before (not-true before b.1) (and_from (nat_lt 0 s) (taught (s - 1)) (lt-ltb 0 s (omega arith)) (subst (λ z. taught z ≡ true) z here))
+              both_ways before (not-true before b.1) (and_from (nat_lt 0 s) (taught (s - 1)) (lt-ltb 0 s (omega arith))
+              (subst (λ z. taught z ≡ true) z here))
         ]
 
     -- a single period has an isolated entry of the curriculum
-    single_isolated : (d s : ℕ) → is_single p (week_of t d) q s ≡ true → list_any (λ e. (in_curriculum p q e.course && is_isolated p t q e) && is_at (slot d s) e) t ≡ true
+    single_isolated : (d s : ℕ) → is_single p (week_of t d) q s ≡ true
+        → list_any (λ e. (in_curriculum p q e.course && is_isolated p t q e) && is_at (slot d s) e) t ≡ true
     single_isolated d s e =
         let taught = is_taught p (week_of t d) q in
         let before = nat_lt 0 s && taught (s - 1) in
@@ -130,11 +146,13 @@ module _ (p : Problem) (g : Group) (t : List Cell) (relaxed : IsRelaxedTimetable
         let k = and_parts (in_curriculum p q y.0.course) (next_to (slot_of y.0) (slot_of x.0)) y.2 in
         never_beside d s e y.0 y.1 k.0 (subst (λ z. next_to (slot_of y.0) z ≡ true) x.3 k.1))) in
         any_member (λ e. (in_curriculum p q e.course && is_isolated p t q e) && is_at (slot d s) e) t x.0 x.1
-        (and_from (in_curriculum p q x.0.course && is_isolated p t q x.0) (is_at (slot d s) x.0) (and_from (in_curriculum p q x.0.course) (is_isolated p t q x.0) x.2 alone)
+        (and_from (in_curriculum p q x.0.course && is_isolated p t q x.0) (is_at (slot d s) x.0)
+        (and_from (in_curriculum p q x.0.course) (is_isolated p t q x.0) x.2 alone)
         (subst (λ z. is_at z x.0 ≡ true) x.3 (at_itself x.0)))
 
     -- there are no more single periods than isolated entries
-    pub singles-le : sum_by (λ d. count_by (is_single p (week_of t d) q) (range_below p.periods)) (all_days p) ≤ count_by (λ e. in_curriculum p q e.course && is_isolated p t q e) t
+    pub singles-le : sum_by (λ d. count_by (is_single p (week_of t d) q) (range_below p.periods)) (all_days p) ≤ count_by
+        (λ e. in_curriculum p q e.course && is_isolated p t q e) t
     singles-le =
         let good : Cell → Bool = λ e. in_curriculum p q e.course && is_isolated p t q e in
         let single : Slot → Bool = λ s. is_single p (week_of t s.day) q s.period in
@@ -144,7 +162,8 @@ module _ (p : Problem) (g : Group) (t : List Cell) (relaxed : IsRelaxedTimetable
         let k = cond-le (single s) (list_any (λ e. good e && is_at s e) t) (single_isolated s.day s.period) in
         omega (arith, k, one_if_any (λ e. good e && is_at s e) t)) (all_slots p)) in
         let b = spread_down (λ e. one_if (good e)) (λ s e. one_if (good e && is_at s e)) t (all_slots p)
-        (each (λ e. sum_by (λ s. one_if (good e && is_at s e)) (all_slots p) ≤ one_if (good e)) (λ e. once_at_most (good e) (λ s. is_at s e) 1 (all_slots p) (count_slots p e)) t) in
+        (each (λ e. sum_by (λ s. one_if (good e && is_at s e)) (all_slots p) ≤ one_if (good e))
+        (λ e. once_at_most (good e) (λ s. is_at s e) 1 (all_slots p) (count_slots p e)) t) in
         omega (arith, days, a, b)
 
   -- -- all together
@@ -158,7 +177,8 @@ module _ (p : Problem) (g : Group) (t : List Cell) (relaxed : IsRelaxedTimetable
           let day : x.0.day ≡ d = ap (λ z. z.day) x.3 in
           let period : x.0.period ≡ s = ap (λ z. z.period) x.3 in
           let free = open_there p g t relaxed x.0 x.1 (subst (λ i. concerns p g i ≡ true) (sym x.2) own) in
-          sym (ap (λ i. unavailable p i x.0.day x.0.period) x.2 ∙ ap (λ i. unavailable p c i x.0.period) day ∙ ap (unavailable p c d) period) ∙ free;
+          sym (ap (λ i. unavailable p i x.0.day x.0.period) x.2 ∙ ap (λ i. unavailable p c i x.0.period) day
+          ∙ ap (unavailable p c d) period) ∙ free;
       apart = λ s a b k own_a own_b ea eb.
           let x = standing t d s a ea in
           let y = standing t d s b eb in
@@ -166,7 +186,8 @@ module _ (p : Problem) (g : Group) (t : List Cell) (relaxed : IsRelaxedTimetable
           false_from_ne_true (conflict p a b) (λ f. no_clash p g t relaxed x.0 y.0 x.1 y.1
           (subst (λ i. concerns p g i ≡ true) (sym x.2) own_a) (subst (λ i. concerns p g i ≡ true) (sym y.2) own_b)
           (and_from ((x.0.day == y.0.day) && (x.0.period == y.0.period)) (conflict p x.0.course y.0.course)
-          (and_from (x.0.day == y.0.day) (x.0.period == y.0.period) (eq-eqb x.0.day y.0.day (ap (λ z. z.day) same)) (eq-eqb x.0.period y.0.period (ap (λ z. z.period) same)))
+          (and_from (x.0.day == y.0.day) (x.0.period == y.0.period) (eq-eqb x.0.day y.0.day (ap (λ z. z.day) same))
+          (eq-eqb x.0.period y.0.period (ap (λ z. z.period) same)))
           (ap (λ i. conflict p i y.0.course) x.2 ∙ ap (conflict p a) y.2 ∙ f)));
     };
     lectures = lectures_stand;
@@ -185,11 +206,13 @@ module _ (p : Problem) (g : Group) (t : List Cell) (relaxed : IsRelaxedTimetable
       omega (arith, turned, each_q)
 
   -- the cost of each course beyond its base cost
-  pub courses_excess : sum_by (days_cost p t) g.courses ≡ base_cost p g + sum_by (λ c. 5 * (further p (week_of t) p.days c - slack p c)) g.courses
+  pub courses_excess : sum_by (days_cost p t) g.courses ≡ base_cost p g + sum_by (λ c. 5 * (further p (week_of t) p.days c - slack p c))
+      g.courses
   courses_excess =
       let low : ℕ → ℕ = λ c. 5 * (min_days p c - lectures p c) in
       let high : ℕ → ℕ = λ c. 5 * (further p (week_of t) p.days c - slack p c) in
-      sum_by-same_member (days_cost p t) (λ c. low c + high c) g.courses (λ c m. days_cost-excess c (course_own p g c m)) ∙ sum_by-plus low high g.courses
+      sum_by-same_member (days_cost p t) (λ c. low c + high c) g.courses (λ c m. days_cost-excess c (course_own p g c m))
+      ∙ sum_by-plus low high g.courses
 
   -- a relaxed timetable costs at least as much as its plan
   pub plan-le_cost : base_cost p g + spent p g (week_of t) p.days ≤ group_cost p g t

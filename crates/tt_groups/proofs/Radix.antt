@@ -23,7 +23,8 @@ carried : (m n d r : ℕ) → r < m → d < n → r + d * m < m * n
 carried m n d r h k = let le : d + 1 ≤ n = omega arith in omega (arith, mul-le-mul_right m le)
 
 -- the digit at j
-pub digit_of : (m : ℕ) (ns ds : List ℕ) → AreBelow ns ds → (r : ℕ) → r < m → (j : ℕ) → j < length ns → (r + place_of (weights_from m ns) ds) / slice_index (weights_from m ns) j % slice_index ns j ≡ slice_index ds j
+pub digit_of : (m : ℕ) (ns ds : List ℕ) → AreBelow ns ds → (r : ℕ) → r < m → (j : ℕ) → j < length ns
+    → (r + place_of (weights_from m ns) ds) / slice_index (weights_from m ns) j % slice_index ns j ≡ slice_index ds j
 digit_of m [] ds below r h j k = absurd (omega arith)
 digit_of m (n ∷ ns) [] below r h j k = absurd below
 digit_of m (n ∷ ns) (d ∷ ds) below r h zero k =
@@ -42,7 +43,8 @@ place_below m (n ∷ ns) [] below r h = absurd below
 place_below m (n ∷ ns) (d ∷ ds) below r h = omega (arith, place_below (m * n) ns ds below.1 (r + d * m) (carried m n d r h below.0))
 
 -- a place as a sum over the indices
-pub place-by_index : (ws ds : List ℕ) → length ds ≡ length ws → sum_by (λ j. slice_index ds j * slice_index ws j) (range_below (length ws)) ≡ place_of ws ds
+pub place-by_index : (ws ds : List ℕ) → length ds ≡ length ws → sum_by (λ j. slice_index ds j * slice_index ws j)
+    (range_below (length ws)) ≡ place_of ws ds
 place-by_index [] ds e = refl
 place-by_index (w ∷ ws) [] e = absurd (omega arith)
 place-by_index (w ∷ ws) (d ∷ ds) e =
@@ -61,7 +63,8 @@ at_map h [] i l = absurd (omega arith)
 at_map h (w ∷ ws) zero l = refl
 at_map h (w ∷ ws) (suc i) l = at_map h ws i (omega (arith, l))
 
-pub at_right : (f h : ℕ → ℕ) (cs ws : List ℕ) (i : ℕ) → i < length ws → slice_index (map f cs ++ map h ws) (length cs + i) ≡ h (slice_index ws i)
+pub at_right : (f h : ℕ → ℕ) (cs ws : List ℕ) (i : ℕ) → i < length ws → slice_index (map f cs ++ map h ws) (length cs + i) ≡ h
+    (slice_index ws i)
 at_right f h [] ws i l = let e : 0 + i ≡ i = omega arith in ap (slice_index (map h ws)) e ∙ at_map h ws i l
 at_right f h (c ∷ cs) ws i l =
     let e : suc (length cs) + i ≡ suc (length cs + i) = omega arith in

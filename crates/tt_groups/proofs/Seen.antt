@@ -20,7 +20,8 @@ module _ (p : Problem) (t : List Cell) (ok : IsFeasible p t) where
       record {
         lectures = λ c own. let e = lectures_met p t ok c in let k = in_distinct_periods p t ok c in omega arith;
         conflicts = pairs_none (collide p) (entries_for p g t) (λ x y hx hy e. no_collision p t ok x y (kept x hx) (kept y hy) e);
-        availability = none_counted (λ e. unavailable p e.course e.day e.period) (entries_for p g t) (λ x m e. both_ways (unavailable p x.course x.day x.period) (available p t ok x (kept x m)) e);
+        availability = none_counted (λ e. unavailable p e.course e.day e.period) (entries_for p g t)
+            (λ x m e. both_ways (unavailable p x.course x.day x.period) (available p t ok x (kept x m)) e);
       }
 
   -- so it costs at least a group's bound

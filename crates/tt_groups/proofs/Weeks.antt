@@ -34,16 +34,20 @@ module _ (p : Problem) (g : Group) (t : List Cell) (relaxed : IsRelaxedTimetable
         let own_one : Cell → ℕ = λ y. one_if (is_of c y) in
         let below = each (λ y. places y ≤ own_one y) (λ y. once_at_most (is_of c y) (λ s. is_at s y) 1 (all_slots p) (count_slots p y)) t in
         let turned = sum_by-swap (λ y s. w s y) t (all_slots p) in
-        let met = sum_by-le (λ s. one_if (list_any (λ y. is_of c y && is_at s y) t)) (λ s. count_by (λ y. is_of c y && is_at s y) t) (all_slots p)
-        (each (λ s. one_if (list_any (λ y. is_of c y && is_at s y) t) ≤ count_by (λ y. is_of c y && is_at s y) t) (λ s. one_if_any (λ y. is_of c y && is_at s y) t) (all_slots p)) in
+        let met = sum_by-le (λ s. one_if (list_any (λ y. is_of c y && is_at s y) t)) (λ s. count_by (λ y. is_of c y && is_at s y) t)
+        (all_slots p)
+        (each (λ s. one_if (list_any (λ y. is_of c y && is_at s y) t) ≤ count_by (λ y. is_of c y && is_at s y) t)
+        (λ s. one_if_any (λ y. is_of c y && is_at s y) t) (all_slots p)) in
         let tight = sum_by-tight places own_one t below (omega (arith, turned, met, entries_met)) in
         let here = at_member (λ y. own_one y ≤ places y) t x tight m in
-        let found = member_from_any (λ s. is_of c x && is_at s x) (all_slots p) (any_if_count (λ s. is_of c x && is_at s x) (all_slots p) (omega (arith, here, one_if_true (is_of c x) e))) in
+        let found = member_from_any (λ s. is_of c x && is_at s x) (all_slots p)
+        (any_if_count (λ s. is_of c x && is_at s x) (all_slots p) (omega (arith, here, one_if_true (is_of c x) e))) in
         let at = (and_parts (is_of c x) (is_at found.0 x) found.2).1 in
         subst (IsSlot p) (sym (is_at-slot found.0 x at)) (at_member (IsSlot p) (all_slots p) found.0 (each_slot p) found.1)
 
   -- no two entries of courses that the group concerns conflict
-  pub no_clash : (x y : Cell) → Contains t x → Contains t y → concerns p g x.course ≡ true → concerns p g y.course ≡ true → collide p x y ≡ true → ⊥
+  pub no_clash : (x y : Cell) → Contains t x → Contains t y → concerns p g x.course ≡ true → concerns p g y.course ≡ true
+      → collide p x y ≡ true → ⊥
   no_clash x y hx hy ox oy =
       no_two (collide p) (collide-turn p) (collide-itself p) (entries_for p g t) relaxed.conflicts x y
       (passing_member (λ e. concerns p g e.course) t x hx ox) (passing_member (λ e. concerns p g e.course) t y hy oy)
@@ -51,4 +55,5 @@ module _ (p : Problem) (g : Group) (t : List Cell) (relaxed : IsRelaxedTimetable
   -- each course is available in the period of its entry
   pub open_there : (x : Cell) → Contains t x → concerns p g x.course ≡ true → unavailable p x.course x.day x.period ≡ false
   open_there x h o =
-      none_passes (λ e. unavailable p e.course e.day e.period) (entries_for p g t) x relaxed.availability (passing_member (λ e. concerns p g e.course) t x h o)
+      none_passes (λ e. unavailable p e.course e.day e.period) (entries_for p g t) x relaxed.availability
+      (passing_member (λ e. concerns p g e.course) t x h o)

@@ -40,7 +40,8 @@ module _ (p : Problem) (g : Group) (instance : IsInstance p) (group : IsGroupOf 
   concerned_below c own = elim (or_cases (has_number g.courses c) (list_any (λ q. in_curriculum p q c) g.curricula) own) [
     | inl e ↦
         let w = member_from_any (λ k. k == c) g.courses e in
-        subst (λ (n : ℕ). n < length p.courses) (eqb-true w.0 c w.2) (All-contains (λ k. k < length p.courses) g.courses w.0 group.courses w.1)
+        subst (λ (n : ℕ). n < length p.courses) (eqb-true w.0 c w.2)
+        (All-contains (λ k. k < length p.courses) g.courses w.0 group.courses w.1)
     | inr e ↦
         let w = member_from_any (λ q. in_curriculum p q c) g.curricula e in
         let there = All-contains (λ k. k < length p.curricula) g.curricula w.0 group.curricula w.1 in
@@ -89,7 +90,8 @@ distinct_passing q (suc n) =
 
 -- each course of the group is one of the instance's
 pub courses_below : (p : Problem) (g : Group) → All (λ c. c < length p.courses) (courses_of p g)
-courses_below p g k d h = below_member (length p.courses) (get_or (courses_of p g) k d) (member_before (concerns p g) (all_courses p) (get_or (courses_of p g) k d) (Contains-get_or (courses_of p g) k d h))
+courses_below p g k d h = below_member (length p.courses) (get_or (courses_of p g) k d)
+    (member_before (concerns p g) (all_courses p) (get_or (courses_of p g) k d) (Contains-get_or (courses_of p g) k d h))
 
 -- ---- a claim that is not too wide
 
@@ -127,12 +129,18 @@ narrow_from p g value e =
     record {
       curricula = not_above 64 (length g.curricula) (left_fails t1 (t2 || (t3 || (t4 || t5))) e);
       courses = not_above 16 (length g.courses) (left_fails t2 (t3 || (t4 || t5)) e2);
-      concerned = omega (arith, length-filter (concerns p g) (all_courses p), not_above 16 (count_by (concerns p g) (all_courses p)) (left_fails t3 (t4 || t5) e3));
+      concerned = omega (
+        arith,
+        length-filter (concerns p g) (all_courses p),
+        not_above 16 (count_by (concerns p g) (all_courses p))
+            (left_fails t3 (t4 || t5) e3),
+      );
       lectures_few = λ c m. elim (cases_lt 255 (lectures p c)) [
         | inl h ↦
             let own = member_passes (concerns p g) (all_courses p) c m in
             let there = below_member (length p.courses) c (member_before (concerns p g) (all_courses p) c m) in
-            let yes = any_below (λ k. concerns p g k && nat_lt 255 (lectures p k)) (length p.courses) c there (and_from (concerns p g c) (nat_lt 255 (lectures p c)) own (lt-ltb 255 (lectures p c) h)) in
+            let yes = any_below (λ k. concerns p g k && nat_lt 255 (lectures p k)) (length p.courses) c there
+            (and_from (concerns p g c) (nat_lt 255 (lectures p c)) own (lt-ltb 255 (lectures p c) h)) in
             absurd (both_ways t4 (left_fails t4 t5 e4) yes)
         | inr h ↦ h
       ];
@@ -141,9 +149,11 @@ narrow_from p g value e =
 
 -- -- the sizes of a group's digits
 
-module _ (p : Problem) (g : Group) (cs : List ℕ) (at_most : (c : ℕ) → Contains cs c → lectures p c ≤ 255) (own : (c : ℕ) → Contains g.courses c → Contains cs c) where
+module _ (p : Problem) (g : Group) (cs : List ℕ) (at_most : (c : ℕ) → Contains cs c → lectures p c ≤ 255)
+    (own : (c : ℕ) → Contains g.courses c → Contains cs c) where
   -- each size is between 1 and 256
-  pub sizes_between : (j : ℕ) → j < length (group_sizes p g cs) → (0 < slice_index (group_sizes p g cs) j) × (slice_index (group_sizes p g cs) j ≤ 256)
+  pub sizes_between : (j : ℕ) → j < length (group_sizes p g cs) → (0 < slice_index (group_sizes p g cs) j)
+      × (slice_index (group_sizes p g cs) j ≤ 256)
   sizes_between j h =
       let both = length-two (λ c. lectures p c + 1) (λ c. slack p c + 1) cs g.courses in
       elim (cases_lt j (length cs)) [
@@ -155,22 +165,31 @@ module _ (p : Problem) (g : Group) (cs : List ℕ) (at_most : (c : ℕ) → Cont
             let i = j - length cs in
             let z : length cs + i ≡ j = omega arith in
             let inside : i < length g.courses = omega (arith, both, h) in
-            let e = ap (slice_index (group_sizes p g cs)) (sym z) ∙ at_right (λ c. lectures p c + 1) (λ c. slack p c + 1) cs g.courses i inside in
+            let e = ap (slice_index (group_sizes p g cs)) (sym z) ∙ at_right (λ c. lectures p c + 1)
+            (λ c. slack p c + 1) cs g.courses i inside in
             let k = at_most (slice_index g.courses i) (own (slice_index g.courses i) (Contains-get_or g.courses i 0 inside)) in
             (omega (arith, e), omega (arith, e, k))
       ]
 
 -- ---- days with the same availability
 
-pub same_list : (p : Problem) (g : Group) (cs : List ℕ) (b d e : ℕ) (days : List DayEntry) → AreCourses p g cs → IsSameAvailability p cs d e → IsDayList p g cs b d days → IsDayList p g cs b e days
+pub same_list : (p : Problem) (g : Group) (cs : List ℕ) (b d e : ℕ) (days : List DayEntry) → AreCourses p g cs
+    → IsSameAvailability p cs d e → IsDayList p g cs b d days → IsDayList p g cs b e days
 same_list p g cs b d e days are same list = record {
-  low = λ day is. list.low day (record { available = λ s c h own there. same c s (are.all c own) h ∙ is.available s c h own there; apart = is.apart });
+  low = λ day is. list.low day (record {
+    available = λ s c h own there. same c s (are.all c own) h ∙ is.available s c h own there;
+    apart = is.apart;
+  });
 }
 
-pub same_days : (p : Problem) (g : Group) (cs : List ℕ) (d e : ℕ) (x : DayEntry) → AreCourses p g cs → IsSameAvailability p cs d e → IsReachedDay p g cs d x → IsReachedDay p g cs e x
+pub same_days : (p : Problem) (g : Group) (cs : List ℕ) (d e : ℕ) (x : DayEntry) → AreCourses p g cs → IsSameAvailability p cs d e
+    → IsReachedDay p g cs d x → IsReachedDay p g cs e x
 same_days p g cs d e x are same reached = record {
   day = reached.day;
-  is = record { available = λ s c h own there. sym (same c s (are.all c own) h) ∙ reached.is.available s c h own there; apart = reached.is.apart };
+  is = record {
+    available = λ s c h own there. sym (same c s (are.all c own) h) ∙ reached.is.available s c h own there;
+    apart = reached.is.apart;
+  };
   entry = reached.entry;
   paid = reached.paid;
 }
@@ -183,7 +202,8 @@ base_bound p g value h t relaxed = omega (arith, h, plan-le_cost p g t relaxed)
 -- -- the digits of a group
 
 -- the sizes of a group's digits are between 1 and 256, as the digits require
-pub digits_between : (p : Problem) (g : Group) (value : ℕ) (cs sizes : List ℕ) → cs ≡ courses_of p g → AreCourses p g cs → IsNarrow p g value → sizes ≡ group_sizes p g cs
+pub digits_between : (p : Problem) (g : Group) (value : ℕ) (cs sizes : List ℕ) → cs ≡ courses_of p g → AreCourses p g cs
+    → IsNarrow p g value → sizes ≡ group_sizes p g cs
     → (j : ℕ) → j < length sizes → (0 < slice_index sizes j) × (slice_index sizes j ≤ 256)
 digits_between p g value cs sizes is are narrow sized j h =
     let at_most = λ (c : ℕ) (m : Contains cs c). narrow.lectures_few c (subst (λ (l : List ℕ). Contains l c) is m) in
@@ -191,6 +211,14 @@ digits_between p g value cs sizes is are narrow sized j h =
     subst (λ (l : List ℕ). (0 < slice_index l j) × (slice_index l j ≤ 256)) (sym sized)
     (sizes_between p g cs at_most own j (omega (arith, h, ap length sized)))
 
-pub digits_few : (p : Problem) (g : Group) (value : ℕ) (cs sizes : List ℕ) → cs ≡ courses_of p g → IsNarrow p g value → sizes ≡ group_sizes p g cs → length sizes ≤ 32
+pub digits_few : (p : Problem) (g : Group) (value : ℕ) (cs sizes : List ℕ) → cs ≡ courses_of p g → IsNarrow p g value
+    → sizes ≡ group_sizes p g cs → length sizes ≤ 32
 digits_few p g value cs sizes is narrow sized =
-    omega (arith, ap length sized, length-two (λ c. lectures p c + 1) (λ c. slack p c + 1) cs g.courses, ap length is, narrow.concerned, narrow.courses)
+    omega (
+      arith,
+      ap length sized,
+      length-two (λ c. lectures p c + 1) (λ c. slack p c + 1) cs g.courses,
+      ap length is,
+      narrow.concerned,
+      narrow.courses,
+    )

@@ -14,12 +14,14 @@ use Rattle.tt_groups_week.proofs.Weights.{AreSome, places-take}
 use Rattle.tt_groups_check.specs.CoursesAndSizes.{AreCoursesAndSizes}
 
 -- the weights of the first digits don't depend on the digits after them
-weights-first : (m : ℕ) (xs ys : List ℕ) (j : ℕ) → j < length xs → slice_index (weights_from m (xs ++ ys)) j ≡ slice_index (weights_from m xs) j
+weights-first : (m : ℕ) (xs ys : List ℕ) (j : ℕ) → j < length xs → slice_index (weights_from m (xs ++ ys)) j ≡ slice_index
+    (weights_from m xs) j
 weights-first m [] ys j h = absurd (omega arith)
 weights-first m (x ∷ xs) ys zero h = refl
 weights-first m (x ∷ xs) ys (suc j) h = weights-first (m * x) xs ys j (omega (arith, h))
 
-pub lecture_digits : (p : Problem) (g : Group) (cs sizes weights : List ℕ) (courses count : ℕ) → AreCoursesAndSizes p g cs sizes courses → AreDigits sizes weights courses count → AreLectureDigits p cs sizes weights count
+pub lecture_digits : (p : Problem) (g : Group) (cs sizes weights : List ℕ) (courses count : ℕ) → AreCoursesAndSizes p g cs sizes courses
+    → AreDigits sizes weights courses count → AreLectureDigits p cs sizes weights count
 lecture_digits p g cs sizes weights courses count sized digits =
     let first = lecture_sizes p cs in
     let rest = map (λ c. slack p c + 1) g.courses in
@@ -27,12 +29,15 @@ lecture_digits p g cs sizes weights courses count sized digits =
     let long : length cs ≤ length sizes = omega (arith, ap length sized.sizes_are, two) in
     let some : AreSome (first ++ rest) = subst AreSome sized.sizes_are digits.some in
     let short : length first ≤ length first = omega arith in
-    let taken : take (length first) (first ++ rest) ≡ first = take-append-le (length first) first rest short ∙ take_all (length first) first short in
+    let taken : take (length first) (first ++ rest) ≡ first = take-append-le (length first) first rest short
+    ∙ take_all (length first) first short in
     let fewer = places-take (length first) (first ++ rest) some in
     record {
       sized = long;
       weighed = omega (arith, long, digits.same);
-      sizes_are = λ j h. ap (λ l. slice_index l j) sized.sizes_are ∙ at_left (λ c. lectures p c + 1) (λ c. slack p c + 1) cs g.courses j h ∙ sym (at_map (λ c. lectures p c + 1) cs j h);
-      weights_are = λ j h. ap (λ l. slice_index l j) digits.weighed ∙ ap (λ l. slice_index (weights_from 1 l) j) sized.sizes_are ∙ weights-first 1 first rest j (omega (arith, h, length-map cs (λ c. lectures p c + 1)));
+      sizes_are = λ j h. ap (λ l. slice_index l j) sized.sizes_are ∙ at_left (λ c. lectures p c + 1)
+          (λ c. slack p c + 1) cs g.courses j h ∙ sym (at_map (λ c. lectures p c + 1) cs j h);
+      weights_are = λ j h. ap (λ l. slice_index l j) digits.weighed ∙ ap (λ l. slice_index (weights_from 1 l) j) sized.sizes_are
+          ∙ weights-first 1 first rest j (omega (arith, h, length-map cs (λ c. lectures p c + 1)));
       all_places = omega (arith, fewer, ap places taken, ap places sized.sizes_are, digits.counted);
     }

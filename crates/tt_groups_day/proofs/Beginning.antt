@@ -33,8 +33,11 @@ use Rattle.tt_groups_day.proofs.Running.{settled-le}
 -- ---- words
 
 -- a word of the bits that one word has and another does not
-pub word-without : (a b : ℕ) (qs : List ℕ) (f h : ℕ → Bool) → b < 2 ^ 64 → IsWordOf a qs f → IsWordOf b qs h → IsWordOf (bit_and a (bit_not w64 b)) qs (λ q. f q && not (h q))
-word-without a b qs f h small wa wb k l = has_bit-without a b k small l ∙ ap (λ z. z && not (has_bit b k)) (wa k l) ∙ ap (λ z. (nat_lt k (length qs) && f (slice_index qs k)) && not z) (wb k l) ∙ together (nat_lt k (length qs)) (f (slice_index qs k)) (h (slice_index qs k))
+pub word-without : (a b : ℕ) (qs : List ℕ) (f h : ℕ → Bool) → b < 2 ^ 64 → IsWordOf a qs f → IsWordOf b qs h
+    → IsWordOf (bit_and a (bit_not w64 b)) qs (λ q. f q && not (h q))
+word-without a b qs f h small wa wb k l = has_bit-without a b k small l ∙ ap (λ z. z && not (has_bit b k)) (wa k l)
+    ∙ ap (λ z. (nat_lt k (length qs) && f (slice_index qs k)) && not z) (wb k l) ∙ together (nat_lt k (length qs))
+    (f (slice_index qs k)) (h (slice_index qs k))
   where
     together : (n x y : Bool) → ((n && x) && not (n && y)) ≡ (n && (x && not y))
     together true x y = refl
@@ -50,7 +53,8 @@ ones-of_word w qs f small at_most word =
     all ∙ ap (λ m. count_by (λ k. nat_lt k n && t k) (range_below m)) (sym e) ∙ count-past t n (64 - n) ∙ sum_indices (λ q. one_if (f q)) qs
 
 -- a word of one test is a word of any test that agrees on the curricula
-pub word-same : (w : ℕ) (qs : List ℕ) (f h : ℕ → Bool) → ((k : ℕ) → k < length qs → f (slice_index qs k) ≡ h (slice_index qs k)) → IsWordOf w qs f → IsWordOf w qs h
+pub word-same : (w : ℕ) (qs : List ℕ) (f h : ℕ → Bool) → ((k : ℕ) → k < length qs → f (slice_index qs k) ≡ h (slice_index qs k))
+    → IsWordOf w qs f → IsWordOf w qs h
 word-same w qs f h same word k l = word k l ∙ agree (nat_lt k (length qs)) refl
   where
     agree : (b : Bool) → nat_lt k (length qs) ≡ b → (b && f (slice_index qs k)) ≡ (b && h (slice_index qs k))
@@ -71,17 +75,26 @@ count_one_more : (f : CourseSet → Bool) (xs : List CourseSet) (x : CourseSet) 
 count_one_more f [] x = omega (arith, count_by-cons f x [])
 count_one_more f (y ∷ xs) x = omega (arith, count_by-cons f y (xs ++ x ∷ []), count_by-cons f y xs, count_one_more f xs x)
 
-pub count_prefix : (f : ℕ → Bool) (in_set : CourseSet → Bool) (before : List CourseSet) → ((s : ℕ) (x : CourseSet) → slice_get before s ≡ Some x → in_set x ≡ f s) → count_by f (range_below (length before)) ≡ count_by in_set before
+pub count_prefix : (f : ℕ → Bool) (in_set : CourseSet → Bool) (before : List CourseSet)
+    → ((s : ℕ) (x : CourseSet) → slice_get before s ≡ Some x → in_set x ≡ f s)
+    → count_by f (range_below (length before)) ≡ count_by in_set before
 count_prefix f in_set [] same = refl
 count_prefix f in_set (x ∷ xs) same =
-    omega (arith, sum_head (λ s. one_if (f s)) (length xs), count_by-cons in_set x xs, ap one_if (same 0 x refl), count_prefix (λ s. f (suc s)) in_set xs (λ s y e. same (suc s) y e))
+    omega (
+      arith,
+      sum_head (λ s. one_if (f s)) (length xs),
+      count_by-cons in_set x xs,
+      ap one_if (same 0 x refl),
+      count_prefix (λ s. f (suc s)) in_set xs (λ s y e. same (suc s) y e),
+    )
 
 -- 1 for a course of the set
 pub one_if_course : (x : CourseSet) (i : ℕ) → slice_index x.courses i ≤ 1 → one_if (has_course x i) ≡ slice_index x.courses i
 one_if_course x i h = elim (cases_Bool (has_course x i)) [
   | inl e ↦ omega (arith, one_if_true (has_course x i) e, eqb-true (slice_index x.courses i) 1 e)
   | inr e ↦ elim (cases_lt 0 (slice_index x.courses i)) [
-    | inl l ↦ let one : slice_index x.courses i ≡ 1 = omega arith in absurd (both_ways (has_course x i) e (eq-eqb (slice_index x.courses i) 1 one))
+    | inl l ↦ let one : slice_index x.courses i ≡ 1 = omega arith in
+        absurd (both_ways (has_course x i) e (eq-eqb (slice_index x.courses i) 1 one))
     | inr z ↦ omega (arith, one_if_false (has_course x i) e)
   ]
 ]
@@ -97,7 +110,8 @@ module _ (p : Problem) (g : Group) (cs weights : List ℕ) (before : List Course
   begins-now day begins = begins now x (at_next before x [])
 
   -- a curriculum is pending if it is taught in the period before, and not in the period before that
-  pub pending-next : (day : Day) (q n : ℕ) → is_pending p day q (n + 1) ≡ (is_taught p day q n && not (nat_lt 0 n && is_taught p day q (n - 1)))
+  pub pending-next : (day : Day) (q n : ℕ)
+      → is_pending p day q (n + 1) ≡ (is_taught p day q n && not (nat_lt 0 n && is_taught p day q (n - 1)))
   pending-next day q n =
       let back : n + 1 - 1 ≡ n = omega arith in
       ap (λ k. (nat_lt 0 (n + 1) && is_taught p day q k) && not (nat_lt 0 k && is_taught p day q (k - 1))) back
@@ -118,7 +132,8 @@ module _ (p : Problem) (g : Group) (cs weights : List ℕ) (before : List Course
           let k = and_parts (has_course x w.0) (in_curriculum p q (slice_index cs w.0)) w.2 in
           let m = member_from_any (λ c. c == slice_index cs w.0) (members p q) k.1 in
           let day_has : day now m.0 ≡ true = ap (day now) (eqb-true m.0 (slice_index cs w.0) m.2) ∙ sym (set w.0 l) ∙ k.0 in
-          and_from (nat_lt now p.periods) (list_any (day now) (members p q)) (lt-ltb now p.periods inside) (any_member (day now) (members p q) m.0 m.1 day_has)
+          and_from (nat_lt now p.periods) (list_any (day now) (members p q)) (lt-ltb now p.periods inside)
+          (any_member (day now) (members p q) m.0 m.1 day_has)
 
       back : is_taught p day q now ≡ true → list_any meets (range_below (length cs)) ≡ true
       back e =
@@ -127,49 +142,86 @@ module _ (p : Problem) (g : Group) (cs weights : List ℕ) (before : List Course
           let at = are.all w.0 (member_own p g q own w.0 member) in
           let i = at.0 in
           let is : slice_index cs i ≡ w.0 = get_or_default cs i 0 w.0 at.1 ∙ at.2 in
-          any_below meets (length cs) i at.1 (and_from (has_course x i) (in_curriculum p q (slice_index cs i)) (set i at.1 ∙ ap (day now) is ∙ w.2) (ap (in_curriculum p q) is ∙ member))
+          any_below meets (length cs) i at.1
+          (and_from (has_course x i) (in_curriculum p q (slice_index cs i)) (set i at.1 ∙ ap (day now) is ∙ w.2)
+          (ap (in_curriculum p q) is ∙ member))
 
   module _ (m : Morning) (set : IsCourseSet p g cs weights x) (morning : IsMorningOf p g cs weights before m) where
     -- the cost that the set settles
-    pub settled-now : AreCourses p g cs → length g.curricula ≤ 64 → now < p.periods → m.pending < 2 ^ 64 → x.curricula < 2 ^ 64 → (day : Day) → Begins p g cs day (before ++ x ∷ [])
+    pub settled-now : AreCourses p g cs → length g.curricula ≤ 64 → now < p.periods → m.pending < 2 ^ 64 → x.curricula < 2 ^ 64
+        → (day : Day) → Begins p g cs day (before ++ x ∷ [])
         → m.cost + 2 * count_ones (bit_and m.pending (bit_not w64 x.curricula)) ≡ settled_cost p g day (now + 1)
     settled-now are at_most inside small_a small_b day begins =
         let here = begins-now day begins in
         let earlier = begins-before day begins in
-        let taught = word-same x.curricula g.curricula (λ q. list_any (λ i. has_course x i && in_curriculum p q (slice_index cs i)) (range_below (length cs))) (λ q. is_taught p day q now)
+        let taught = word-same x.curricula g.curricula (λ q. list_any (λ i. has_course x i && in_curriculum p q (slice_index cs i))
+        (range_below (length cs))) (λ q. is_taught p day q now)
         (λ k l. met-taught are inside day here (slice_index g.curricula k) (Contains-get_or g.curricula k 0 l)) set.met in
-        let word = word-without m.pending x.curricula g.curricula (λ q. is_pending p day q now) (λ q. is_taught p day q now) small_b (morning.pending day earlier) taught in
-        let ones = ones-of_word (bit_and m.pending (bit_not w64 x.curricula)) g.curricula (λ q. is_settled p day q now) (omega (arith, small_a, and_le_l m.pending (bit_not w64 x.curricula))) at_most word in
+        let word = word-without m.pending x.curricula g.curricula (λ q. is_pending p day q now) (λ q. is_taught p day q now) small_b
+        (morning.pending day earlier) taught in
+        let ones = ones-of_word (bit_and m.pending (bit_not w64 x.curricula)) g.curricula (λ q. is_settled p day q now)
+        (omega (arith, small_a, and_le_l m.pending (bit_not w64 x.curricula))) at_most word in
         omega (arith, ones, morning.paid day earlier, sum_more (λ i. 2 * count_by (λ q. is_settled p day q i) g.curricula) now)
 
-    pub morning-more : AreCourses p g cs → length g.curricula ≤ 64 → now < p.periods → m.pending < 2 ^ 64 → m.occupied < 2 ^ 64 → x.curricula < 2 ^ 64 → (counts : List ℕ) → ((i : ℕ) → slice_index counts i ≡ slice_index m.counts i + slice_index x.courses i) → (cost : ℕ)
+    pub morning-more : AreCourses p g cs → length g.curricula ≤ 64 → now < p.periods → m.pending < 2 ^ 64 → m.occupied < 2 ^ 64
+        → x.curricula < 2 ^ 64 → (counts : List ℕ) → ((i : ℕ) → slice_index counts i ≡ slice_index m.counts i + slice_index x.courses i)
+        → (cost : ℕ)
         → cost ≡ m.cost + 2 * count_ones (bit_and m.pending (bit_not w64 x.curricula))
-        → IsMorningOf p g cs weights (before ++ x ∷ []) (record { counts = counts; place = m.place + x.index; cost = cost; occupied = x.curricula; pending = bit_and x.curricula (bit_not w64 m.occupied) })
+        → IsMorningOf p g cs weights (before ++ x ∷ [])
+        (record {
+          counts = counts;
+          place = m.place + x.index;
+          cost = cost;
+          occupied = x.curricula;
+          pending = bit_and x.curricula (bit_not w64 m.occupied);
+        })
     morning-more are at_most inside small_p small_o small_x counts sums cost cost_is = record {
-      counts = λ i. omega (arith, sums i, morning.counts i, count_one_more (λ y. has_course y i) before x, one_if_course x i (set.digits i));
+      counts = λ i. omega (
+        arith,
+        sums i,
+        morning.counts i,
+        count_one_more (λ y. has_course y i) before x,
+        one_if_course x i (set.digits i),
+      );
       own = λ i h. omega (arith, sums i, morning.own i h, set.own i h);
       placed =
-          let both = sum_by-same (λ i. slice_index counts i * slice_index weights i) (λ i. slice_index m.counts i * slice_index weights i + slice_index x.courses i * slice_index weights i) (range_below (length cs))
+          let both = sum_by-same (λ i. slice_index counts i * slice_index weights i)
+          (λ i. slice_index m.counts i * slice_index weights i + slice_index x.courses i * slice_index weights i)
+          (range_below (length cs))
           (λ i. ap (λ z. z * slice_index weights i) (sums i) ∙ omega arith) in
-          omega (arith, morning.placed, set.placed, both, sum_by-plus (λ i. slice_index m.counts i * slice_index weights i) (λ i. slice_index x.courses i * slice_index weights i) (range_below (length cs)));
+          omega (
+            arith,
+            morning.placed,
+            set.placed,
+            both,
+            sum_by-plus (λ i. slice_index m.counts i * slice_index weights i)
+                (λ i. slice_index x.courses i * slice_index weights i) (range_below (length cs)),
+          );
       paid = λ day begins. let z : length (before ++ x ∷ []) ≡ now + 1 = length-append before (x ∷ []) in
           ap (settled_cost p g day) z ∙ sym (settled-now are at_most inside small_p small_x day begins) ∙ sym cost_is;
       occupied = λ day begins.
           let here = begins-now day begins in
           let z : now + 1 ≡ length (before ++ x ∷ []) = sym (length-append before (x ∷ [])) in
           let back : now ≡ now + 1 - 1 = omega arith in
-          word-same x.curricula g.curricula (λ q. list_any (λ i. has_course x i && in_curriculum p q (slice_index cs i)) (range_below (length cs))) (λ q. nat_lt 0 (length (before ++ x ∷ [])) && is_taught p day q (length (before ++ x ∷ []) - 1))
+          word-same x.curricula g.curricula (λ q. list_any (λ i. has_course x i && in_curriculum p q (slice_index cs i))
+          (range_below (length cs))) (λ q. nat_lt 0 (length (before ++ x ∷ [])) && is_taught p day q (length (before ++ x ∷ []) - 1))
           (λ k l. met-taught are inside day here (slice_index g.curricula k) (Contains-get_or g.curricula k 0 l)
-          ∙ subst (λ n. is_taught p day (slice_index g.curricula k) now ≡ (nat_lt 0 n && is_taught p day (slice_index g.curricula k) (n - 1))) z
-          (ap (is_taught p day (slice_index g.curricula k)) back ∙ ap (λ b. b && is_taught p day (slice_index g.curricula k) (now + 1 - 1)) (sym (lt-ltb 0 (now + 1) (omega arith))))) set.met;
+          ∙ subst (λ n. is_taught p day (slice_index g.curricula k) now ≡
+          (nat_lt 0 n && is_taught p day (slice_index g.curricula k) (n - 1))) z
+          (ap (is_taught p day (slice_index g.curricula k)) back
+          ∙ ap (λ b. b && is_taught p day (slice_index g.curricula k) (now + 1 - 1)) (sym (lt-ltb 0 (now + 1) (omega arith))))) set.met;
       pending = λ day begins.
           let here = begins-now day begins in
           let earlier = begins-before day begins in
           let z : now + 1 ≡ length (before ++ x ∷ []) = sym (length-append before (x ∷ [])) in
-          let taught = word-same x.curricula g.curricula (λ q. list_any (λ i. has_course x i && in_curriculum p q (slice_index cs i)) (range_below (length cs))) (λ q. is_taught p day q now)
+          let taught = word-same x.curricula g.curricula (λ q. list_any (λ i. has_course x i && in_curriculum p q (slice_index cs i))
+          (range_below (length cs))) (λ q. is_taught p day q now)
           (λ k l. met-taught are inside day here (slice_index g.curricula k) (Contains-get_or g.curricula k 0 l)) set.met in
-          let word = word-without x.curricula m.occupied g.curricula (λ q. is_taught p day q now) (λ q. nat_lt 0 now && is_taught p day q (now - 1)) small_o taught (morning.occupied day earlier) in
-          word-same (bit_and x.curricula (bit_not w64 m.occupied)) g.curricula (λ q. is_taught p day q now && not (nat_lt 0 now && is_taught p day q (now - 1))) (λ q. is_pending p day q (length (before ++ x ∷ [])))
+          let word = word-without x.curricula m.occupied g.curricula (λ q. is_taught p day q now)
+          (λ q. nat_lt 0 now && is_taught p day q (now - 1)) small_o taught (morning.occupied day earlier) in
+          word-same (bit_and x.curricula (bit_not w64 m.occupied)) g.curricula
+          (λ q. is_taught p day q now && not (nat_lt 0 now && is_taught p day q (now - 1)))
+          (λ q. is_pending p day q (length (before ++ x ∷ [])))
           (λ k l. sym (pending-next day (slice_index g.curricula k) now) ∙ ap (is_pending p day (slice_index g.curricula k)) z) word;
     }
 
@@ -177,9 +229,17 @@ module _ (p : Problem) (g : Group) (cs weights : List ℕ) (before : List Course
 
     module _ (b d : ℕ) (table most open_at : List ℕ) (day_of : IsDayOf p g cs d most now open_at) where
       -- the cost has reached the bound
-      pub barred-costly : m.pending < 2 ^ 64 → x.curricula < 2 ^ 64 → b ≤ m.cost + 2 * count_ones (bit_and m.pending (bit_not w64 x.curricula)) → Covers p g cs b d weights table (before ++ x ∷ [])
+      pub barred-costly : m.pending < 2 ^ 64 → x.curricula < 2 ^ 64
+          → b ≤ m.cost + 2 * count_ones (bit_and m.pending (bit_not w64 x.curricula)) → Covers p g cs b d weights table (before ++ x ∷ [])
       barred-costly small_p small_x full = record {
-        low = λ day is fits begins less. absurd (omega (arith, full, less, settled-now day_of.group day_of.at_most day_of.inside small_p small_x day begins, settled-le p g day (now + 1) (omega (arith, day_of.inside))));
+        low = λ day is fits begins less. absurd
+            (omega (
+              arith,
+              full,
+              less,
+              settled-now day_of.group day_of.at_most day_of.inside small_p small_x day begins,
+              settled-le p g day (now + 1) (omega (arith, day_of.inside)),
+            ));
       }
 
       -- a course of the set is closed
@@ -191,13 +251,16 @@ module _ (p : Problem) (g : Group) (cs weights : List ℕ) (before : List Course
             let c = slice_index cs i in
             record {
               low = λ day is fits begins cheap.
-                  absurd (both_ways (unavailable p c d now) (is.available now c day_of.inside (day_of.group.own c (Contains-get_or cs i 0 l)) (sym (begins-now day begins i l) ∙ has)) (day_of.closed i l (omega (arith, set.digits i))));
+                  absurd (both_ways (unavailable p c d now)
+                  (is.available now c day_of.inside (day_of.group.own c (Contains-get_or cs i 0 l))
+                  (sym (begins-now day begins i l) ∙ has)) (day_of.closed i l (omega (arith, set.digits i))));
             }
         | inr h ↦ absurd (omega (arith, set.own i h))
       ]
 
       -- a course has too many lectures
-      pub barred-full : (i : ℕ) → slice_index most i < slice_index m.counts i + slice_index x.courses i → Covers p g cs b d weights table (before ++ x ∷ [])
+      pub barred-full : (i : ℕ) → slice_index most i < slice_index m.counts i + slice_index x.courses i
+          → Covers p g cs b d weights table (before ++ x ∷ [])
       barred-full i less = elim (cases_lt i (length cs)) [
         | inl l ↦
             let c = slice_index cs i in

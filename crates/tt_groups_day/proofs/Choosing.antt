@@ -49,7 +49,8 @@ max_test (suc (suc a)) b h k = absurd (omega arith)
 -- -- another number
 
 any_last : (t : ℕ → Bool) (n : ℕ) → list_any t (range_below (n + 1)) ≡ (list_any t (range_below n) || t n)
-any_last t n = ap (list_any t) (range_below_more n) ∙ list_any-append t (range_below n) (n ∷ []) ∙ ap (λ b. list_any t (range_below n) || b) (stays (t n))
+any_last t n = ap (list_any t) (range_below_more n) ∙ list_any-append t (range_below n) (n ∷ [])
+    ∙ ap (λ b. list_any t (range_below n) || b) (stays (t n))
   where
     stays : (b : Bool) → (b || false) ≡ b
     stays true = refl
@@ -66,20 +67,29 @@ pub none_at : (n : ℕ) → n ≡ 0 → (n == 1) ≡ false
 none_at n e = ap (λ k. k == 1) e
 
 -- an upper bound of the index of courses, each of a weight up to m
-pub index-le : (weights amounts : List ℕ) (m n : ℕ) → ((i : ℕ) → slice_index weights i ≤ m) → ((i : ℕ) → slice_index amounts i ≤ 1) → index_by weights amounts n ≤ n * m
+pub index-le : (weights amounts : List ℕ) (m n : ℕ) → ((i : ℕ) → slice_index weights i ≤ m) → ((i : ℕ) → slice_index amounts i ≤ 1)
+    → index_by weights amounts n ≤ n * m
 index-le weights amounts m zero at_most digits = omega arith
 index-le weights amounts m (suc n) at_most digits =
     let e : suc n ≡ n + 1 = omega arith in
     let more : index_by weights amounts (suc n) ≡ index_by weights amounts n + slice_index amounts n * slice_index weights n =
     ap (index_by weights amounts) e ∙ sum_more (λ i. slice_index amounts i * slice_index weights i) n in
-    omega (arith, more, index-le weights amounts m n at_most digits, is_at_most (slice_index amounts n) (slice_index weights n) (digits n), at_most n)
+    omega (
+      arith,
+      more,
+      index-le weights amounts m n at_most digits,
+      is_at_most (slice_index amounts n) (slice_index weights n)
+          (digits n),
+      at_most n,
+    )
   where
     is_at_most : (a w : ℕ) → a ≤ 1 → a * w ≤ w
     is_at_most zero w h = omega arith
     is_at_most (suc zero) w h = omega arith
     is_at_most (suc (suc a)) w h = absurd (omega arith)
 
-module _ (p : Problem) (g : Group) (cs weights : List ℕ) (n met : ℕ) (below : n < 16) (word : IsWordOf met g.curricula (λ q. in_curriculum p q (slice_index cs n))) where
+module _ (p : Problem) (g : Group) (cs weights : List ℕ) (n met : ℕ) (below : n < 16)
+    (word : IsWordOf met g.curricula (λ q. in_curriculum p q (slice_index cs n))) where
   abbrev meets : CourseSet → ℕ → ℕ → Bool
   meets x q i = has_course x i && in_curriculum p q (slice_index cs i)
 
@@ -97,11 +107,13 @@ module _ (p : Problem) (g : Group) (cs weights : List ℕ) (n met : ℕ) (below 
   has_same x i e = ap (λ k. k == 1) (there x i e)
 
   -- a course that does not clash with a set conflicts with no course of the set
-  apart_last : (x : CourseSet) → IsChoice p g cs weights n x → has_conflict p cs n x ≡ false → (j : ℕ) → has_course x j ≡ true → conflict p (slice_index cs n) (slice_index cs j) ≡ false
+  apart_last : (x : CourseSet) → IsChoice p g cs weights n x → has_conflict p cs n x ≡ false → (j : ℕ) → has_course x j ≡ true
+      → conflict p (slice_index cs n) (slice_index cs j) ≡ false
   apart_last x is none j e = elim (cases_eq j n) [
     | inl same ↦ absurd (both_ways (has_course x j) (none_at (slice_index x.courses j) (is.own j (omega arith))) e)
     | inr other ↦ false_from_ne_true (conflict p (slice_index cs n) (slice_index cs j)) (λ t. both_ways (has_conflict p cs n x) none
-        (any_below (λ i. has_course x i && conflict p (slice_index cs n) (slice_index cs i)) n j (before j e) (and_from (has_course x j) (conflict p (slice_index cs n) (slice_index cs j)) e t)))
+        (any_below (λ i. has_course x i && conflict p (slice_index cs n) (slice_index cs i)) n j (before j e)
+        (and_from (has_course x j) (conflict p (slice_index cs n) (slice_index cs j)) e t)))
   ]
     where
       before : (i : ℕ) → has_course x i ≡ true → i < n
@@ -122,8 +134,12 @@ module _ (p : Problem) (g : Group) (cs weights : List ℕ) (n met : ℕ) (below 
         long = is.long;
         digits = is.digits;
         own = λ i h. is.own i (omega arith);
-        met = λ k h. is.met k h ∙ ap (λ b. nat_lt k (length g.curricula) && b) (sym (any_last (meets x (slice_index g.curricula k)) n ∙ dropped (list_any (meets x (slice_index g.curricula k)) (range_below n)) (has_course x n) (in_curriculum p (slice_index g.curricula k) (slice_index cs n)) none));
-        placed = let nothing : slice_index x.courses n * slice_index weights n ≡ 0 = ap (λ z. z * slice_index weights n) (is.own n (omega arith)) ∙ omega arith in
+        met = λ k h. is.met k h ∙ ap (λ b. nat_lt k (length g.curricula) && b)
+            (sym (any_last (meets x (slice_index g.curricula k)) n
+            ∙ dropped (list_any (meets x (slice_index g.curricula k)) (range_below n)) (has_course x n)
+            (in_curriculum p (slice_index g.curricula k) (slice_index cs n)) none));
+        placed = let nothing : slice_index x.courses n * slice_index weights n ≡ 0 = ap (λ z. z * slice_index weights n)
+            (is.own n (omega arith)) ∙ omega arith in
             omega (arith, is.placed, sum_more (λ i. slice_index x.courses i * slice_index weights i) n, nothing);
         apart = is.apart;
       }
@@ -144,28 +160,38 @@ module _ (p : Problem) (g : Group) (cs weights : List ℕ) (n met : ℕ) (below 
     met = λ k h.
         let q = slice_index g.curricula k in
         let l = nat_lt k (length g.curricula) in
-        let first = any_same_below (meets (wider x) q) (meets x q) n (λ i m. let e : i ≢ n = omega arith in ap (λ b. b && in_curriculum p q (slice_index cs i)) (has_same x i e)) in
-        let last : meets (wider x) q n ≡ in_curriculum p q (slice_index cs n) = ap (λ b. b && in_curriculum p q (slice_index cs n)) (one_at (slice_index (wider x).courses n) (here x is)) in
+        let first = any_same_below (meets (wider x) q) (meets x q) n (λ i m. let e : i ≢ n = omega arith in
+        ap (λ b. b && in_curriculum p q (slice_index cs i)) (has_same x i e)) in
+        let last : meets (wider x) q n ≡ in_curriculum p q (slice_index cs n) = ap (λ b. b && in_curriculum p q (slice_index cs n))
+        (one_at (slice_index (wider x).courses n) (here x is)) in
         has_bit-either x.curricula met k
         ∙ ap (λ b. b || has_bit met k) (is.met k h)
         ∙ ap (λ b. (l && list_any (meets x q) (range_below n)) || b) (word k h)
         ∙ spread l (list_any (meets x q) (range_below n)) (in_curriculum p q (slice_index cs n))
-        ∙ ap (λ b. l && b) (sym (any_last (meets (wider x) q) n ∙ ap (λ b. b || meets (wider x) q n) first ∙ ap (λ b. list_any (meets x q) (range_below n) || b) last));
+        ∙ ap (λ b. l && b)
+        (sym (any_last (meets (wider x) q) n ∙ ap (λ b. b || meets (wider x) q n) first
+        ∙ ap (λ b. list_any (meets x q) (range_below n) || b) last));
     placed =
-        let first = sum_by-same_below (λ i. slice_index (wider x).courses i * slice_index weights i) (λ i. slice_index x.courses i * slice_index weights i) n (λ i m. let e : i ≢ n = omega arith in ap (λ z. z * slice_index weights i) (there x i e)) in
-        let last : slice_index (wider x).courses n * slice_index weights n ≡ slice_index weights n = ap (λ z. z * slice_index weights n) (here x is) ∙ omega arith in
+        let first = sum_by-same_below (λ i. slice_index (wider x).courses i * slice_index weights i)
+        (λ i. slice_index x.courses i * slice_index weights i) n (λ i m. let e : i ≢ n = omega arith in
+        ap (λ z. z * slice_index weights i) (there x i e)) in
+        let last : slice_index (wider x).courses n * slice_index weights n ≡ slice_index weights n = ap (λ z. z * slice_index weights n)
+        (here x is) ∙ omega arith in
         omega (arith, is.placed, sum_more (λ i. slice_index (wider x).courses i * slice_index weights i) n, first, last);
     apart = record { apart = λ i j hi hj. by_places i j hi hj (cases_eq i n) (cases_eq j n) };
   }
     where
-      by_places : (i j : ℕ) → has_course (wider x) i ≡ true → has_course (wider x) j ≡ true → (i ≡ n) ⊎ (i ≢ n) → (j ≡ n) ⊎ (j ≢ n) → conflict p (slice_index cs i) (slice_index cs j) ≡ false
+      by_places : (i j : ℕ) → has_course (wider x) i ≡ true → has_course (wider x) j ≡ true → (i ≡ n) ⊎ (i ≢ n) → (j ≡ n) ⊎ (j ≢ n)
+          → conflict p (slice_index cs i) (slice_index cs j) ≡ false
       by_places i j hi hj (inl ei) (inl ej) =
           ap (λ k. conflict p (slice_index cs k) (slice_index cs j)) (ei ∙ sym ej) ∙ conflict-itself p (slice_index cs j)
       by_places i j hi hj (inl ei) (inr ej) =
           ap (λ k. conflict p (slice_index cs k) (slice_index cs j)) ei ∙ apart_last x is none j (sym (has_same x j ej) ∙ hj)
       by_places i j hi hj (inr ei) (inl ej) =
           ap (λ k. conflict p (slice_index cs i) (slice_index cs k)) ej
-          ∙ false_from_ne_true (conflict p (slice_index cs i) (slice_index cs n)) (λ t. both_ways (conflict p (slice_index cs n) (slice_index cs i)) (apart_last x is none i (sym (has_same x i ei) ∙ hi)) (conflict-turn p (slice_index cs i) (slice_index cs n) t))
+          ∙ false_from_ne_true (conflict p (slice_index cs i) (slice_index cs n))
+          (λ t. both_ways (conflict p (slice_index cs n) (slice_index cs i)) (apart_last x is none i (sym (has_same x i ei) ∙ hi))
+          (conflict-turn p (slice_index cs i) (slice_index cs n) t))
       by_places i j hi hj (inr ei) (inr ej) = is.apart.apart i j (sym (has_same x i ei) ∙ hi) (sym (has_same x j ej) ∙ hj)
 
   -- -- the list with another course
@@ -184,16 +210,20 @@ module _ (p : Problem) (g : Group) (cs weights : List ℕ) (n met : ℕ) (below 
         (All-map (IsChoice p g cs weights (n + 1)) wider (filter goes xs) (λ k d h.
         let x = get_or (filter goes xs) k d in
         let m = Contains-get_or (filter goes xs) k d h in
-        with_last x (All-contains (IsChoice p g cs weights n) xs x each (member_before goes xs x m)) (not-true (has_conflict p cs n x) (All-contains (λ y. goes y ≡ true) (filter goes xs) x (filter_passes goes xs) m))))
+        with_last x (All-contains (IsChoice p g cs weights n) xs x each (member_before goes xs x m))
+        (not-true (has_conflict p cs n x) (All-contains (λ y. goes y ≡ true) (filter goes xs) x (filter_passes goes xs) m))))
 
     pub found_next : HasChoices p cs n xs → HasChoices p cs (n + 1) (with_next p cs n (slice_index weights n) met xs)
     found_next before = record { found = λ f free. by_last f free (f n) refl }
       where
         one_less : (i : ℕ) → i ≢ n → nat_lt i n ≡ nat_lt i (n + 1)
-        one_less i s = same_truth (nat_lt i n) (nat_lt i (n + 1)) (λ h. let l = ltb-true i n h in lt-ltb i (n + 1) (omega arith)) (λ h. let l = ltb-true i (n + 1) h in lt-ltb i n (omega arith))
+        one_less i s = same_truth (nat_lt i n) (nat_lt i (n + 1)) (λ h. let l = ltb-true i n h in lt-ltb i (n + 1) (omega arith))
+            (λ h. let l = ltb-true i (n + 1) h in lt-ltb i n (omega arith))
 
-        by_last : (f : ℕ → Bool) → ((i j : ℕ) → i < n + 1 → j < n + 1 → f i ≡ true → f j ≡ true → conflict p (slice_index cs i) (slice_index cs j) ≡ false)
-            → (b : Bool) → f n ≡ b → (x : CourseSet) × Contains (with_next p cs n (slice_index weights n) met xs) x × ((i : ℕ) → has_course x i ≡ (nat_lt i (n + 1) && f i))
+        by_last : (f : ℕ → Bool)
+            → ((i j : ℕ) → i < n + 1 → j < n + 1 → f i ≡ true → f j ≡ true → conflict p (slice_index cs i) (slice_index cs j) ≡ false)
+            → (b : Bool) → f n ≡ b → (x : CourseSet) × Contains (with_next p cs n (slice_index weights n) met xs) x
+            × ((i : ℕ) → has_course x i ≡ (nat_lt i (n + 1) && f i))
         by_last f free false e =
             let x = before.found f (λ i j hi hj. free i j (omega arith) (omega arith)) in (
               x.0,
@@ -213,7 +243,8 @@ module _ (p : Problem) (g : Group) (cs weights : List ℕ) (n met : ℕ) (below 
             let fj = and_parts (nat_lt j.0 n) (f j.0) (sym (x.2 j.0) ∙ two.0) in
             both_ways (conflict p (slice_index cs n) (slice_index cs j.0)) (free n j.0 (omega arith) (omega arith) e fj.1) two.1) in (
               wider x.0,
-              Contains-append_right xs (map wider (filter goes xs)) (wider x.0) (member_map wider (filter goes xs) x.0 (passing_member goes xs x.0 x.1 (ap not fits_in))),
+              Contains-append_right xs (map wider (filter goes xs)) (wider x.0)
+                  (member_map wider (filter goes xs) x.0 (passing_member goes xs x.0 x.1 (ap not fits_in))),
               (λ i. elim (cases_eq i n) [
                 | inl s ↦ ap (has_course (wider x.0)) s ∙ one_at (slice_index (wider x.0).courses n) (here x.0 is)
                     ∙ sym (and_from (nat_lt i (n + 1)) (f i) (lt-ltb i (n + 1) (omega arith)) (ap f s ∙ e))
@@ -238,24 +269,34 @@ module _ (p : Problem) (g : Group) (cs weights : List ℕ) where
     own = λ i h. none_there i;
     met = λ k h. ap (λ n. n == 1) (bit_at-zero k) ∙ sym (and_right (nat_lt k (length g.curricula)) false refl);
     placed = refl;
-    apart = record { apart = λ i j hi hj. absurd (both_ways (has_course no_course_set i) (none_at (slice_index (replicate 16 0) i) (none_there i)) hi) };
+    apart = record {
+      apart = λ i j hi hj. absurd
+          (both_ways (has_course no_course_set i) (none_at (slice_index (replicate 16 0) i) (none_there i)) hi);
+    };
   }
 
   pub first_found : HasChoices p cs 0 (no_course_set ∷ [])
   first_found = record {
-    found = λ f free. (no_course_set, (0, omega arith, refl), (λ i. none_at (slice_index (replicate 16 0) i) (none_there i) ∙ sym (ap (λ b. b && f i) (le-ltb i 0 (omega arith)))));
+    found = λ f free. (
+      no_course_set,
+      (0, omega arith, refl),
+      (λ i. none_at (slice_index (replicate 16 0) i) (none_there i) ∙ sym (ap (λ b. b && f i) (le-ltb i 0 (omega arith)))),
+    );
   }
 
 module _ (p : Problem) (g : Group) (cs weights : List ℕ) (xs : List CourseSet) where
   -- an upper bound of the index after another course
-  pub room_left : (m n : ℕ) (x : CourseSet) → IsChoice p g cs weights n x → ((i : ℕ) → slice_index weights i ≤ m) → x.index + slice_index weights n ≤ n * m + m
+  pub room_left : (m n : ℕ) (x : CourseSet) → IsChoice p g cs weights n x → ((i : ℕ) → slice_index weights i ≤ m)
+      → x.index + slice_index weights n ≤ n * m + m
   room_left m n x is at_most = omega (arith, is.placed, index-le weights x.courses m n at_most is.digits, at_most n)
 
   pub complete_sets : AreCourses p g cs → HasChoices p cs (length cs) xs → IsComplete p g cs xs
   complete_sets are all = record {
     found = λ f free.
-        let own : (i : ℕ) → i < length cs → concerns p g (slice_index cs i) ≡ true = λ i h. are.own (slice_index cs i) (Contains-get_or cs i 0 h) in
-        let x = all.found (λ i. f (slice_index cs i)) (λ i j hi hj ei ej. free (slice_index cs i) (slice_index cs j) (own i hi) (own j hj) ei ej) in
+        let own : (i : ℕ) → i < length cs → concerns p g (slice_index cs i) ≡ true = λ i h. are.own (slice_index cs i)
+        (Contains-get_or cs i 0 h) in
+        let x = all.found (λ i. f (slice_index cs i)) (λ i j hi hj ei ej. free (slice_index cs i) (slice_index cs j) (own i hi)
+        (own j hj) ei ej) in
         (x.0, x.1, (λ i h. x.2 i ∙ ap (λ b. b && f (slice_index cs i)) (lt-ltb i (length cs) h)));
   }
 
@@ -263,7 +304,8 @@ module _ (p : Problem) (g : Group) (cs weights : List ℕ) (xs : List CourseSet)
   course_sets each = λ k d h. let is = each k d h in record { digits = is.digits; own = is.own; met = is.met; placed = is.placed }
 
   -- the index of a set is small if all weights are small
-  pub small_sets : (m : ℕ) → length cs ≤ 16 → ((i : ℕ) → slice_index weights i ≤ m) → All (IsChoice p g cs weights (length cs)) xs → All (λ x. x.index ≤ 16 * m) xs
+  pub small_sets : (m : ℕ) → length cs ≤ 16 → ((i : ℕ) → slice_index weights i ≤ m) → All (IsChoice p g cs weights (length cs)) xs
+      → All (λ x. x.index ≤ 16 * m) xs
   small_sets m at_most small each = λ k d h.
       let is = each k d h in
       omega (arith, is.placed, index-le weights (get_or xs k d).courses m (length cs) small is.digits, mul-le-mul_right m at_most)

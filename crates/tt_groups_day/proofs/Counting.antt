@@ -41,7 +41,8 @@ count_every {X} (x ∷ xs) = let every : X → Bool = λ y. true in omega (arith
 -- ---- sublists
 
 -- the sublists of a list with another element at its end
-count_last : (f : List ℕ → Bool) (cs : List ℕ) (c : ℕ) → count_by f (sublists (cs ++ c ∷ [])) ≡ count_by f (sublists cs) + count_by (λ s. f (s ++ c ∷ [])) (sublists cs)
+count_last : (f : List ℕ → Bool) (cs : List ℕ) (c : ℕ) → count_by f (sublists (cs ++ c ∷ [])) ≡ count_by f (sublists cs) + count_by
+    (λ s. f (s ++ c ∷ [])) (sublists cs)
 count_last f [] c = count_append f ([] ∷ []) ((c ∷ []) ∷ [])
 count_last f (a ∷ cs) c =
     let old = sublists cs in
@@ -116,7 +117,8 @@ filter_same t u (suc n) h =
     ∙ ap (λ b. filter u (range_below n) ++ cond b (n ∷ []) []) (h n (omega arith))
     ∙ sym (ap (λ k. filter u (range_below k)) e ∙ filter_last u n)
 
-courses_last : (cs : List ℕ) (n : ℕ) (x : CourseSet) → courses_in cs (n + 1) x ≡ courses_in cs n x ++ map (slice_index cs) (cond (has_course x n) (n ∷ []) [])
+courses_last : (cs : List ℕ) (n : ℕ) (x : CourseSet) → courses_in cs (n + 1) x ≡ courses_in cs n x ++ map (slice_index cs)
+    (cond (has_course x n) (n ∷ []) [])
 courses_last cs n x =
     ap (map (slice_index cs)) (filter_last (has_course x) n)
     ∙ map-append (slice_index cs) (filter (has_course x) (range_below n)) (cond (has_course x n) (n ∷ []) [])
@@ -144,7 +146,8 @@ and_regrouped : (a b c : Bool) → ((a && b) && c) ≡ (a && (b && c))
 and_regrouped true b c = refl
 and_regrouped false b c = refl
 
-module _ (p : Problem) (g : Group) (cs weights : List ℕ) (n met : ℕ) (below : n < 16) (word : IsWordOf met g.curricula (λ q. in_curriculum p q (slice_index cs n))) where
+module _ (p : Problem) (g : Group) (cs weights : List ℕ) (n met : ℕ) (below : n < 16)
+    (word : IsWordOf met g.curricula (λ q. in_curriculum p q (slice_index cs n))) where
   abbrev wider : CourseSet → CourseSet
   wider x = with_course n (slice_index weights n) met x
 
@@ -157,30 +160,35 @@ module _ (p : Problem) (g : Group) (cs weights : List ℕ) (n met : ℕ) (below 
   same_without : (x : CourseSet) → IsChoice p g cs weights n x → courses_in cs (n + 1) x ≡ courses_in cs n x
   same_without x is =
       courses_last cs n x
-      ∙ ap (λ b. courses_in cs n x ++ map (slice_index cs) (cond b (n ∷ []) [])) (none_at (slice_index x.courses n) (is.own n (omega arith)))
+      ∙ ap (λ b. courses_in cs n x ++ map (slice_index cs) (cond b (n ∷ []) []))
+      (none_at (slice_index x.courses n) (is.own n (omega arith)))
       ∙ append-nil (courses_in cs n x)
 
   more_with : (x : CourseSet) → IsChoice p g cs weights n x → courses_in cs (n + 1) (wider x) ≡ courses_in cs n x ++ slice_index cs n ∷ []
   more_with x is =
       courses_last cs n (wider x)
-      ∙ ap (λ b. courses_in cs n (wider x) ++ map (slice_index cs) (cond b (n ∷ []) [])) (one_at (slice_index (wider x).courses n) (here p g cs weights n met below word x is))
+      ∙ ap (λ b. courses_in cs n (wider x) ++ map (slice_index cs) (cond b (n ∷ []) []))
+      (one_at (slice_index (wider x).courses n) (here p g cs weights n met below word x is))
       ∙ ap (λ l. map (slice_index cs) l ++ slice_index cs n ∷ []) (filter_same (has_course (wider x)) (has_course x) n
       (λ i l. let e : i ≢ n = omega arith in has_same p g cs weights n met below word x i e))
 
   goes_free : (x : CourseSet) → goes x ≡ free (courses_in cs n x)
   goes_free x = ap not (sym (any_chosen (has_course x) (conflict p (slice_index cs n)) (slice_index cs) (range_below n)))
 
-  pub next_count : (xs : List CourseSet) → All (IsChoice p g cs weights n) xs → n < length cs → HasCount p cs n xs → HasCount p cs (n + 1) (with_next p cs n (slice_index weights n) met xs)
+  pub next_count : (xs : List CourseSet) → All (IsChoice p g cs weights n) xs → n < length cs → HasCount p cs n xs
+      → HasCount p cs (n + 1) (with_next p cs n (slice_index weights n) met xs)
   next_count xs each inside before = record { counted = by_test }
     where
-      by_test : (f : List ℕ → Bool) → count_by (λ x. f (courses_in cs (n + 1) x)) (xs ++ map wider (filter goes xs)) ≡ count_by (λ s. is_apart p s && f s) (sublists (take (n + 1) cs))
+      by_test : (f : List ℕ → Bool) → count_by (λ x. f (courses_in cs (n + 1) x)) (xs ++ map wider (filter goes xs)) ≡ count_by
+          (λ s. is_apart p s && f s) (sublists (take (n + 1) cs))
       by_test f =
           let c = slice_index cs n in
           let old = sublists (take n cs) in
           let now : CourseSet → Bool = λ x. f (courses_in cs (n + 1) x) in
           let more : List ℕ → Bool = λ s. free s && f (s ++ c ∷ []) in
           let passes : List ℕ → Bool = λ s. is_apart p s && f s in
-          let without = count_by-same_at (IsChoice p g cs weights n) now (λ x. f (courses_in cs n x)) xs each (λ x is. ap f (same_without x is)) in
+          let without = count_by-same_at (IsChoice p g cs weights n) now (λ x. f (courses_in cs n x)) xs each
+          (λ x is. ap f (same_without x is)) in
           let with_it = count_by-same_at (IsChoice p g cs weights n) (λ x. goes x && now (wider x)) (λ x. more (courses_in cs n x)) xs each
           (λ x is. ap (λ b. b && now (wider x)) (goes_free x) ∙ ap (λ l. free (courses_in cs n x) && f l) (more_with x is)) in
           let last = count_same (λ s. passes (s ++ c ∷ [])) (λ s. is_apart p s && more s) old
@@ -203,7 +211,8 @@ module _ (p : Problem) (g : Group) (cs weights : List ℕ) (n met : ℕ) (below 
 -- there are as many sets as sublists
 length_counted : (p : Problem) (cs : List ℕ) (n : ℕ) (xs : List CourseSet) → HasCount p cs n xs → length xs ≡ sets_count p (take n cs)
 length_counted p cs n xs count =
-    sym (count_every xs) ∙ count.counted (λ s. true) ∙ count_same (λ s. is_apart p s && true) (is_apart p) (sublists (take n cs)) (λ s. stays (is_apart p s))
+    sym (count_every xs) ∙ count.counted (λ s. true) ∙ count_same (λ s. is_apart p s && true) (is_apart p) (sublists (take n cs))
+    (λ s. stays (is_apart p s))
   where
     stays : (b : Bool) → (b && true) ≡ b
     stays true = refl
@@ -216,7 +225,8 @@ pub length_first : (p : Problem) (cs : List ℕ) (n : ℕ) (xs : List CourseSet)
 length_first p cs n xs count = omega (arith, length_counted p cs n xs count, count_fewer (is_apart p) cs n)
 
 -- the full list has at least one set more than the sets added so far, if the next set passes too
-pub more_added : {X : Type 0} (p : X → Bool) (h : X → X) (xs : List X) (k : ℕ) (x : X) → k < length xs → x ≡ get_or (xs ++ map h (filter p (take k xs))) k x → p x ≡ true
+pub more_added : {X : Type 0} (p : X → Bool) (h : X → X) (xs : List X) (k : ℕ) (x : X) → k < length xs
+    → x ≡ get_or (xs ++ map h (filter p (take k xs))) k x → p x ≡ true
     → length (xs ++ map h (filter p (take k xs))) < length (xs ++ map h (filter p xs))
 more_added {X} p h xs k x inside is passes =
     let added = filter p (take k xs) in

@@ -50,7 +50,8 @@ abbrev day_of : List ℕ → List CourseSet → Day
 day_of cs before s c = list_any (λ i. (slice_index cs i == c) && has_course (get_or before s no_set) i) (range_below (length cs))
 
 module _ (p : Problem) (g : Group) (cs : List ℕ) (before : List CourseSet) where
-  held : (s c : ℕ) → day_of cs before s c ≡ true → (i : ℕ) × (i < length cs) × (slice_index cs i ≡ c) × (has_course (get_or before s no_set) i ≡ true)
+  held : (s c : ℕ) → day_of cs before s c ≡ true → (i : ℕ) × (i < length cs) × (slice_index cs i ≡ c)
+      × (has_course (get_or before s no_set) i ≡ true)
   held s c e =
       let w = member_from_any (λ i. (slice_index cs i == c) && has_course (get_or before s no_set) i) (range_below (length cs)) e in
       let k = and_parts (slice_index cs w.0 == c) (has_course (get_or before s no_set) w.0) w.2 in
@@ -60,23 +61,31 @@ module _ (p : Problem) (g : Group) (cs : List ℕ) (before : List CourseSet) whe
   begins_day distinct s x e i l =
       same_truth (has_course x i) (day_of cs before s (slice_index cs i))
       (λ h. any_below (λ j. (slice_index cs j == slice_index cs i) && has_course (get_or before s no_set) j) (length cs) i l
-      (and_from (slice_index cs i == slice_index cs i) (has_course (get_or before s no_set) i) (eq-eqb (slice_index cs i) (slice_index cs i) refl) (subst (λ (y : CourseSet). has_course y i ≡ true) (sym (got_there before s x e)) h)))
+      (and_from (slice_index cs i == slice_index cs i) (has_course (get_or before s no_set) i)
+      (eq-eqb (slice_index cs i) (slice_index cs i) refl)
+      (subst (λ (y : CourseSet). has_course y i ≡ true) (sym (got_there before s x e)) h)))
       (λ h.
       let w = held s (slice_index cs i) h in
       let same = distinct w.0 i w.1 l w.2 in
-      subst (λ (y : CourseSet). has_course y i ≡ true) (got_there before s x e) (subst (λ (j : ℕ). has_course (get_or before s no_set) j ≡ true) same w.3))
+      subst (λ (y : CourseSet). has_course y i ≡ true) (got_there before s x e)
+      (subst (λ (j : ℕ). has_course (get_or before s no_set) j ≡ true) same w.3))
 
 -- at the end of the day
-pub found-end : (most : List ℕ) (periods : List Period) (sets : List CourseSet) (s : ℕ) (m : Morning) → s ≡ length periods → m.pending < 2 ^ 64 → IsFound most periods sets s m m.place (m.cost + 2 * count_ones m.pending)
+pub found-end : (most : List ℕ) (periods : List Period) (sets : List CourseSet) (s : ℕ) (m : Morning) → s ≡ length periods
+    → m.pending < 2 ^ 64 → IsFound most periods sets s m m.place (m.cost + 2 * count_ones m.pending)
 found-end most periods sets s m end small p g cs weights d before at_most distinct days opened len sets_are apart morning are_open fitting =
     let day = day_of cs before in
     let begins = begins_day p g cs before distinct in
     let e : length before ≡ p.periods = len ∙ end ∙ days.whole in
-    let ones = ones-of_word m.pending g.curricula (λ q. is_pending p day q (length before)) small days.at_most (morning.pending day begins) in
-    let whole = subst (λ n. settled_cost p g day n + 2 * count_by (λ q. is_pending p day q n) g.curricula ≡ day_cost p g day) (sym e) (day_cost-pending p g day) in
+    let ones = ones-of_word m.pending g.curricula (λ q. is_pending p day q (length before)) small days.at_most
+    (morning.pending day begins) in
+    let whole = subst (λ n. settled_cost p g day n + 2 * count_by (λ q. is_pending p day q n) g.curricula ≡ day_cost p g day) (sym e)
+    (day_cost-pending p g day) in
     let tried : (i : ℕ) → i < length cs → lectures_on p day (slice_index cs i) ≡ slice_index m.counts i = λ i l.
-    ap (λ n. count_by (λ t. day t (slice_index cs i)) (range_below n)) (sym e) ∙ count_prefix (λ t. day t (slice_index cs i)) (λ x. has_course x i) before (λ t x h. begins t x h i l) ∙ sym (morning.counts i) in
-    let there : (t : ℕ) → t < p.periods → slice_get before t ≡ Some (get_or before t no_set) = λ t l. is_there before t (omega (arith, l, e)) in
+    ap (λ n. count_by (λ t. day t (slice_index cs i)) (range_below n)) (sym e) ∙ count_prefix (λ t. day t (slice_index cs i))
+    (λ x. has_course x i) before (λ t x h. begins t x h i l) ∙ sym (morning.counts i) in
+    let there : (t : ℕ) → t < p.periods → slice_get before t ≡ Some (get_or before t no_set) =
+    λ t l. is_there before t (omega (arith, l, e)) in
     record {
       day = day;
       is = record {
@@ -93,8 +102,11 @@ found-end most periods sets s m end small p g cs weights d before at_most distin
           let at = days.group.all c own in
           let i = at.0 in
           let is : slice_index cs i ≡ c = get_or_default cs i 0 c at.1 ∙ at.2 in
-          subst (λ (z : ℕ). lectures_on p day z ≤ lectures p z) is (omega (arith, tried i at.1, fitting i (omega (arith, at.1, at_most)), days.most_are i at.1));
-      placed = sum_by-same_below (λ i. lectures_on p day (slice_index cs i) * slice_index weights i) (λ i. slice_index m.counts i * slice_index weights i) (length cs) (λ i l. ap (λ z. z * slice_index weights i) (tried i l)) ∙ sym morning.placed;
+          subst (λ (z : ℕ). lectures_on p day z ≤ lectures p z) is
+          (omega (arith, tried i at.1, fitting i (omega (arith, at.1, at_most)), days.most_are i at.1));
+      placed = sum_by-same_below (λ i. lectures_on p day (slice_index cs i) * slice_index weights i)
+          (λ i. slice_index m.counts i * slice_index weights i) (length cs) (λ i l. ap (λ z. z * slice_index weights i) (tried i l))
+          ∙ sym morning.placed;
       paid = omega (arith, ones, whole, morning.paid day begins);
     }
 
@@ -103,8 +115,10 @@ pub open_first : (p : Problem) (cs : List ℕ) (d : ℕ) → AreOpenSets p cs d 
 open_first p cs d = record { apart = λ s x e. absurd (nothing_there s x e); available = λ s x i e l h. absurd (nothing_there s x e) }
 
 -- another set
-open_more : (p : Problem) (g : Group) (cs : List ℕ) (d : ℕ) (before : List CourseSet) (x : CourseSet) → AreOpenSets p cs d before → IsApart p cs x
-    → ((i : ℕ) → i < length cs → has_course x i ≡ true → unavailable p (slice_index cs i) d (length before) ≡ false) → AreOpenSets p cs d (before ++ x ∷ [])
+open_more : (p : Problem) (g : Group) (cs : List ℕ) (d : ℕ) (before : List CourseSet) (x : CourseSet) → AreOpenSets p cs d before
+    → IsApart p cs x
+    → ((i : ℕ) → i < length cs → has_course x i ≡ true → unavailable p (slice_index cs i) d (length before) ≡ false)
+    → AreOpenSets p cs d (before ++ x ∷ [])
 open_more p g cs d before x are_open apart here = record {
   apart = λ s y e. elim (at_cases before (x ∷ []) s y e) [
     | inl h ↦ are_open.apart s y h
@@ -120,22 +134,30 @@ open_more p g cs d before x are_open apart here = record {
     last_apart {y} zero is = let same : x ≡ y = cc in subst (IsApart p cs) same apart
     last_apart {y} (suc j) is = absurd (nothing_there j y is)
 
-    last_open : {y : CourseSet} (s j : ℕ) → s ≡ length before + j → slice_get (x ∷ []) j ≡ Some y → (i : ℕ) → i < length cs → has_course y i ≡ true → unavailable p (slice_index cs i) d s ≡ false
+    last_open : {y : CourseSet} (s j : ℕ) → s ≡ length before + j → slice_get (x ∷ []) j ≡ Some y → (i : ℕ) → i < length cs
+        → has_course y i ≡ true → unavailable p (slice_index cs i) d s ≡ false
     last_open {y} s zero at is i l h =
         let same : y ≡ x = cc in
         let there : length before ≡ s = omega arith in
         subst (λ n. unavailable p (slice_index cs i) d n ≡ false) there (here i l (subst (λ (z : CourseSet). has_course z i ≡ true) same h))
     last_open {y} s (suc j) at is i l h = absurd (nothing_there j y is)
 
-pub found-next : (most : List ℕ) (periods : List Period) (sets : List CourseSet) (s : ℕ) (m next : Morning) (x : CourseSet) → s < length periods → Contains sets x
-    → ((p : Problem) (g : Group) (cs weights : List ℕ) (before : List CourseSet) → AreCourses p g cs → length g.curricula ≤ 64 → length before < p.periods → IsCourseSet p g cs weights x → IsMorningOf p g cs weights before m
-    → IsMorningOf p g cs weights (before ++ x ∷ []) next) → ((i : ℕ) → i < 16 → slice_index x.courses i ≤ slice_index (get_or periods s no_period).available i) → ((i : ℕ) → i < 16 → slice_index next.counts i ≤ slice_index most i)
+pub found-next : (most : List ℕ) (periods : List Period) (sets : List CourseSet) (s : ℕ) (m next : Morning) (x : CourseSet)
+    → s < length periods → Contains sets x
+    → ((p : Problem) (g : Group) (cs weights : List ℕ) (before : List CourseSet) → AreCourses p g cs → length g.curricula ≤ 64
+    → length before < p.periods → IsCourseSet p g cs weights x → IsMorningOf p g cs weights before m
+    → IsMorningOf p g cs weights (before ++ x ∷ []) next)
+    → ((i : ℕ) → i < 16 → slice_index x.courses i ≤ slice_index (get_or periods s no_period).available i)
+    → ((i : ℕ) → i < 16 → slice_index next.counts i ≤ slice_index most i)
     → (k v : ℕ) → IsFound most periods sets (s + 1) next k v → IsFound most periods sets s m k v
-found-next most periods sets s m next x inside there leads available fitting k v found p g cs weights d before at_most distinct days opened len sets_are apart morning are_open old =
+found-next most periods sets s m next x inside there leads available fitting k v found p g cs weights d before at_most distinct days
+    opened len sets_are apart morning are_open old =
     let set = All-contains (IsCourseSet p g cs weights) sets x sets_are there in
     let here : (i : ℕ) → i < length cs → has_course x i ≡ true → unavailable p (slice_index cs i) d (length before) ≡ false = λ i l h.
     let one = eqb-true (slice_index x.courses i) 1 h in
-    ap (unavailable p (slice_index cs i) d) len ∙ opened s no_period i inside l (omega (arith, one, available i (omega (arith, l, at_most)))) in
-    found p g cs weights d (before ++ x ∷ []) at_most distinct days opened (length-append before (x ∷ []) ∙ ap (λ n. n + 1) len) sets_are apart
+    ap (unavailable p (slice_index cs i) d) len
+    ∙ opened s no_period i inside l (omega (arith, one, available i (omega (arith, l, at_most)))) in
+    found p g cs weights d (before ++ x ∷ []) at_most distinct days opened (length-append before (x ∷ []) ∙ ap (λ n. n + 1) len)
+    sets_are apart
     (leads p g cs weights before days.group days.at_most (omega (arith, len, inside, days.whole)) set morning)
     (open_more p g cs d before x are_open (All-contains (IsApart p cs) sets x apart there) here) fitting

@@ -34,24 +34,32 @@ two_amounts g cs amounts k first more j h = elim (cases_lt j (length cs)) [
       let i = j - length cs in
       let e : length cs + i ≡ j = omega arith in
       let m : i < length g.courses = omega arith in
-      ap (slice_index amounts) (sym e) ∙ more i m ∙ sym (at_right k (λ c. k c - 1) cs g.courses i m) ∙ ap (slice_index (group_amounts g cs k)) e
+      ap (slice_index amounts) (sym e) ∙ more i m ∙ sym (at_right k (λ c. k c - 1) cs g.courses i m)
+      ∙ ap (slice_index (group_amounts g cs k)) e
 ]
 
 -- -- another place
 
-module _ (g : Group) (cs sizes weights : List ℕ) (b : ℕ) (table : List ℕ) (n : ℕ) (xs : List DayEntry) (before : HasEntries g cs sizes weights b table n xs) where
+module _ (g : Group) (cs sizes weights : List ℕ) (b : ℕ) (table : List ℕ) (n : ℕ) (xs : List DayEntry)
+    (before : HasEntries g cs sizes weights b table n xs) where
   pub entries_skip : b ≤ slice_index table n → HasEntries g cs sizes weights b table (n + 1) xs
   entries_skip h = λ s l less. elim (cases_lt s n) [
     | inl m ↦ before s m less
     | inr m ↦ let e : s ≡ n = omega arith in absurd (omega (arith, less, h, ap (slice_index table) e))
   ]
 
-  pub entries_more : (x : DayEntry) → IsEntryAt g cs sizes weights n x → x.cost ≡ slice_index table n → HasEntries g cs sizes weights b table (n + 1) (xs ++ x ∷ [])
+  pub entries_more : (x : DayEntry) → IsEntryAt g cs sizes weights n x → x.cost ≡ slice_index table n
+      → HasEntries g cs sizes weights b table (n + 1) (xs ++ x ∷ [])
   entries_more x at cost = λ s l less. elim (cases_lt s n) [
     | inl m ↦ let y = before s m less in (y.0, Contains-append_left xs (x ∷ []) y.0 y.1, y.2, y.3)
     | inr m ↦
-        let e : n ≡ s = omega arith in
-        (x, Contains-append_right xs (x ∷ []) x (0, omega arith, refl), subst (λ i. IsEntryAt g cs sizes weights i x) e at, cost ∙ ap (slice_index table) e)
+        let e : n ≡ s = omega arith in (
+          x,
+          Contains-append_right xs (x ∷ []) x (0, omega arith, refl),
+          subst (λ i. IsEntryAt g cs sizes weights i x) e at,
+          cost
+              ∙ ap (slice_index table) e,
+        )
   ]
 
 -- ---- the list of the day
@@ -60,7 +68,8 @@ zip_maps : (a h : ℕ → ℕ) (xs : List ℕ) → ((x : ℕ) → Contains xs x 
 zip_maps a h [] f = tt
 zip_maps a h (x ∷ xs) f = (f x (0, omega arith, refl), zip_maps a h xs (λ y m. f y (Contains-append_right (x ∷ []) xs y m)))
 
-module _ (p : Problem) (g : Group) (cs sizes weights table : List ℕ) (group : AreCourses p g cs) (are : AreLectureDigits p cs sizes weights (length table)) (k : Vector) (fits : Fits p g k) where
+module _ (p : Problem) (g : Group) (cs sizes weights table : List ℕ) (group : AreCourses p g cs)
+    (are : AreLectureDigits p cs sizes weights (length table)) (k : Vector) (fits : Fits p g k) where
   abbrev us : List ℕ
   us = lecture_sizes p cs
 
@@ -97,7 +106,8 @@ module _ (p : Problem) (g : Group) (cs sizes weights table : List ℕ) (group : 
       ∙ at_map k cs i h
 
 -- each digit has a weight above 0
-pub weights-positive : (m : ℕ) (ns : List ℕ) → 0 < m → ((j : ℕ) → j < length ns → 0 < slice_index ns j) → (j : ℕ) → j < length ns → 0 < slice_index (weights_from m ns) j
+pub weights-positive : (m : ℕ) (ns : List ℕ) → 0 < m → ((j : ℕ) → j < length ns → 0 < slice_index ns j) → (j : ℕ) → j < length ns
+    → 0 < slice_index (weights_from m ns) j
 weights-positive m [] h some j l = absurd (omega arith)
 weights-positive m (n ∷ ns) h some zero l = h
 weights-positive m (n ∷ ns) h some (suc j) l =
@@ -114,15 +124,20 @@ begins_none p cs g day = λ s x e. absurd (nothing s x e)
     nothing : (s : ℕ) (x : CourseSet) → slice_get {X = CourseSet} [] s ≡ Some x → ⊥
     nothing s x e = cc
 
-pub day_list : (p : Problem) (g : Group) (cs sizes weights table : List ℕ) (b d : ℕ) (xs : List DayEntry) → AreCourses p g cs → AreLectureDigits p cs sizes weights (length table) → HasEntries g cs sizes weights b table (length table) xs
+pub day_list : (p : Problem) (g : Group) (cs sizes weights table : List ℕ) (b d : ℕ) (xs : List DayEntry) → AreCourses p g cs
+    → AreLectureDigits p cs sizes weights (length table) → HasEntries g cs sizes weights b table (length table) xs
     → Covers p g cs b d weights table [] → IsDayList p g cs b d xs
 day_list p g cs sizes weights table b d xs group are has covers = record {
   low = λ day is fits less.
       let k = lectures_on p day in
       let s = sum_by (λ i. k (slice_index cs i) * slice_index weights i) (range_below (length cs)) in
       let low = covers.low day is fits (begins_none p cs g day) less in
-      let x = has s (place_inside p g cs sizes weights table group are k fits) (omega (arith, low, less)) in
-      (x.0, x.1, x.2 k (digits_are p g cs sizes weights table group are k fits) (λ c m. group.all c (course_own p g c m)), omega (arith, x.3, low));
+      let x = has s (place_inside p g cs sizes weights table group are k fits) (omega (arith, low, less)) in (
+        x.0,
+        x.1,
+        x.2 k (digits_are p g cs sizes weights table group are k fits) (λ c m. group.all c (course_own p g c m)),
+        omega (arith, x.3, low),
+      );
 }
 
 module _ (p : Problem) (cs sizes weights : List ℕ) (count : ℕ) (are : AreLectureDigits p cs sizes weights count) where
@@ -138,15 +153,23 @@ module _ (p : Problem) (cs sizes weights : List ℕ) (count : ℕ) (are : AreLec
   pub weights_placed : (i : ℕ) → i < length cs → 0 < slice_index weights i
   weights_placed i h =
       let l = length-map cs (λ c. lectures p c + 1) in
-      omega (arith, are.weights_are i h, weights-positive 1 (lecture_sizes p cs) (omega arith) (λ j m. let k : j < length cs = omega (arith, m, l) in omega (arith, at_map (λ c. lectures p c + 1) cs j k)) i (omega (arith, h, l)))
+      omega (
+        arith,
+        are.weights_are i h,
+        weights-positive 1 (lecture_sizes p cs) (omega arith)
+            (λ j m. let k : j < length cs = omega (arith, m, l) in omega (arith, at_map (λ c. lectures p c + 1) cs j k)) i
+            (omega (arith, h, l)),
+      )
 
 -- -- entries of possible days
 
-module _ (g : Group) (cs sizes weights : List ℕ) (b : ℕ) (table : List ℕ) (n : ℕ) (xs : List DayEntry) (before : AreEntriesOf g cs sizes weights b table n xs) where
+module _ (g : Group) (cs sizes weights : List ℕ) (b : ℕ) (table : List ℕ) (n : ℕ) (xs : List DayEntry)
+    (before : AreEntriesOf g cs sizes weights b table n xs) where
   pub own_skip : AreEntriesOf g cs sizes weights b table (n + 1) xs
   own_skip = λ x m. let s = before x m in (s.0, omega (arith, s.1), s.2, s.3, s.4)
 
-  pub own_more : (x : DayEntry) → slice_index table n < b → IsEntryAt g cs sizes weights n x → x.cost ≡ slice_index table n → AreEntriesOf g cs sizes weights b table (n + 1) (xs ++ x ∷ [])
+  pub own_more : (x : DayEntry) → slice_index table n < b → IsEntryAt g cs sizes weights n x → x.cost ≡ slice_index table n
+      → AreEntriesOf g cs sizes weights b table (n + 1) (xs ++ x ∷ [])
   own_more x less at cost = λ y m. elim (in_append xs y m) [
     | inl old ↦ own_skip y old
     | inr same ↦ (n, omega arith, less, subst (IsEntryAt g cs sizes weights n) same at, ap (λ (z : DayEntry). z.cost) (sym same) ∙ cost)
@@ -165,8 +188,10 @@ module _ (g : Group) (cs sizes weights : List ℕ) (b : ℕ) (table : List ℕ) 
         ]
       ]
 
-pub reached_list : (p : Problem) (g : Group) (cs sizes weights table : List ℕ) (b d : ℕ) (xs : List DayEntry) → AreCourses p g cs → AreLectureDigits p cs sizes weights (length table) → AreEntriesOf g cs sizes weights b table (length table) xs
-    → ((k : ℕ) → k < length table → slice_index table k < b → IsDayAt p g cs d weights k (slice_index table k)) → (x : DayEntry) → Contains xs x → IsReachedDay p g cs d x
+pub reached_list : (p : Problem) (g : Group) (cs sizes weights table : List ℕ) (b d : ℕ) (xs : List DayEntry) → AreCourses p g cs
+    → AreLectureDigits p cs sizes weights (length table) → AreEntriesOf g cs sizes weights b table (length table) xs
+    → ((k : ℕ) → k < length table → slice_index table k < b → IsDayAt p g cs d weights k (slice_index table k)) → (x : DayEntry)
+    → Contains xs x → IsReachedDay p g cs d x
 reached_list p g cs sizes weights table b d xs group are own days x m =
     let w = own x m in
     let at = days w.0 w.1 w.2 in

@@ -37,18 +37,25 @@ module _ (p : Problem) (g : Group) (day : Day) where
       let turned = sum_by-swap single (range_below p.periods) g.curricula in
       let twice = sum_by-times (λ s. sum_by (single s) g.curricula) 2 (range_below p.periods) in
       let each_q = sum_by-times (λ q. count_by (is_single p day q) (range_below p.periods)) 2 g.curricula in
-      let order = sum_by-same (λ q. count_by (is_single p day q) (range_below p.periods) * 2) (λ q. 2 * count_by (is_single p day q) (range_below p.periods)) g.curricula (λ q. omega arith) in
+      let order = sum_by-same (λ q. count_by (is_single p day q) (range_below p.periods) * 2)
+      (λ q. 2 * count_by (is_single p day q) (range_below p.periods)) g.curricula (λ q. omega arith) in
       omega (arith, ap (λ i. sum_by f (range_below i)) z, sum_head f p.periods, none, later, turned, twice, each_q, order)
 
   -- so the settled cost of a beginning is no more than the day's cost
   pub settled-le : (j : ℕ) → j ≤ p.periods + 1 → settled_cost p g day j ≤ day_cost p g day
-  settled-le j h = omega (arith, day_cost-settled, sum_first (λ i. 2 * count_by (λ q. is_settled p day q i) g.curricula) j (p.periods + 1) h)
+  settled-le j h = omega (
+    arith,
+    day_cost-settled,
+    sum_first (λ i. 2 * count_by (λ q. is_settled p day q i) g.curricula) j
+        (p.periods + 1) h,
+  )
 
   -- at the end of the day, each pending curriculum is paid for
   pub day_cost-pending : settled_cost p g day p.periods + 2 * count_by (λ q. is_pending p day q p.periods) g.curricula ≡ day_cost p g day
   day_cost-pending =
       let none = sum_by-same (λ q. one_if (is_settled p day q p.periods)) (λ q. one_if (is_pending p day q p.periods)) g.curricula (λ q.
-      ap (λ b. one_if (is_pending p day q p.periods && not b)) (and_left (nat_lt p.periods p.periods) (list_any (day p.periods) (members p q)) (le-ltb p.periods p.periods (omega arith)))
+      ap (λ b. one_if (is_pending p day q p.periods && not b))
+      (and_left (nat_lt p.periods p.periods) (list_any (day p.periods) (members p q)) (le-ltb p.periods p.periods (omega arith)))
       ∙ ap one_if (stays (is_pending p day q p.periods))) in
       omega (arith, day_cost-settled, none, sum_more (λ i. 2 * count_by (λ q. is_settled p day q i) g.curricula) p.periods)
     where

@@ -27,17 +27,23 @@ no_period = record { available = [] }
 
 -- ---- the end of a day
 
-pub tried-end : (most : List ℕ) (periods : List Period) (sets : List CourseSet) (b s : ℕ) (m : Morning) (table : List ℕ) → s ≡ length periods → m.pending < 2 ^ 64
-    → (m.cost + 2 * count_ones m.pending < b → slice_index table m.place ≤ m.cost + 2 * count_ones m.pending) → IsTried most periods sets b s m table
+pub tried-end : (most : List ℕ) (periods : List Period) (sets : List CourseSet) (b s : ℕ) (m : Morning) (table : List ℕ)
+    → s ≡ length periods → m.pending < 2 ^ 64
+    → (m.cost + 2 * count_ones m.pending < b → slice_index table m.place ≤ m.cost + 2 * count_ones m.pending)
+    → IsTried most periods sets b s m table
 tried-end most periods sets b s m table end small low p g cs weights d before days len sets_are complete morning = record {
   low = λ day is fits begins less.
       let e : length before ≡ p.periods = len ∙ end ∙ days.whole in
-      let ones = ones-of_word m.pending g.curricula (λ q. is_pending p day q (length before)) small days.at_most (morning.pending day begins) in
-      let whole = subst (λ n. settled_cost p g day n + 2 * count_by (λ q. is_pending p day q n) g.curricula ≡ day_cost p g day) (sym e) (day_cost-pending p g day) in
+      let ones = ones-of_word m.pending g.curricula (λ q. is_pending p day q (length before)) small days.at_most
+      (morning.pending day begins) in
+      let whole = subst (λ n. settled_cost p g day n + 2 * count_by (λ q. is_pending p day q n) g.curricula ≡ day_cost p g day) (sym e)
+      (day_cost-pending p g day) in
       let total : m.cost + 2 * count_ones m.pending ≡ day_cost p g day = omega (arith, ones, whole, morning.paid day begins) in
-      let place = sum_by-same_below (λ i. lectures_on p day (slice_index cs i) * slice_index weights i) (λ i. slice_index m.counts i * slice_index weights i) (length cs)
+      let place = sum_by-same_below (λ i. lectures_on p day (slice_index cs i) * slice_index weights i)
+      (λ i. slice_index m.counts i * slice_index weights i) (length cs)
       (λ i l.
-      let tried : lectures_on p day (slice_index cs i) ≡ slice_index m.counts i = ap (λ n. count_by (λ t. day t (slice_index cs i)) (range_below n)) (sym e)
+      let tried : lectures_on p day (slice_index cs i) ≡ slice_index m.counts i =
+      ap (λ n. count_by (λ t. day t (slice_index cs i)) (range_below n)) (sym e)
       ∙ count_prefix (λ t. day t (slice_index cs i)) (λ x. has_course x i) before (λ t x h. begins t x h i l) ∙ sym (morning.counts i) in
       ap (λ z. z * slice_index weights i) tried) in
       let there = low (omega (arith, total, less)) in
@@ -46,7 +52,8 @@ tried-end most periods sets b s m table end small low p g cs weights d before da
 
 -- ---- after all sets
 
-begins-more : (p : Problem) (g : Group) (cs : List ℕ) (day : Day) (before : List CourseSet) (x : CourseSet) → Begins p g cs day before → IsSetOf p g cs day (length before) x → Begins p g cs day (before ++ x ∷ [])
+begins-more : (p : Problem) (g : Group) (cs : List ℕ) (day : Day) (before : List CourseSet) (x : CourseSet) → Begins p g cs day before
+    → IsSetOf p g cs day (length before) x → Begins p g cs day (before ++ x ∷ [])
 begins-more p g cs day before x begins here s y e = elim (at_cases before (x ∷ []) s y e) [
   | inl h ↦ begins s y h
   | inr w ↦ last w.0 w.1 w.2
@@ -62,7 +69,8 @@ begins-more p g cs day before x begins here s y e = elim (at_cases before (x ∷
         none : slice_get {X = CourseSet} [] j ≡ Some y → ⊥
         none f = cc
 
-pub tried-all : (most : List ℕ) (periods : List Period) (sets : List CourseSet) (b s i : ℕ) (m : Morning) (table : List ℕ) → s < length periods → length sets ≤ i
+pub tried-all : (most : List ℕ) (periods : List Period) (sets : List CourseSet) (b s i : ℕ) (m : Morning) (table : List ℕ)
+    → s < length periods → length sets ≤ i
     → All (IsTriedWith most periods sets b s m table) (take i sets) → IsTried most periods sets b s m table
 tried-all most periods sets b s i m table inside long tried p g cs weights d before days len sets_are complete morning = record {
   low = λ day is fits begins less.
@@ -71,24 +79,33 @@ tried-all most periods sets b s i m table inside long tried p g cs weights d bef
       let whole = subst (λ (l : List CourseSet). All (IsTriedWith most periods sets b s m table) l) (take_all i sets long) tried in
       let one = All-contains (IsTriedWith most periods sets b s m table) sets x.0 whole x.1 in
       let set = All-contains (IsCourseSet p g cs weights) sets x.0 sets_are x.1 in
-      (one p g cs weights d before days len (omega (arith, len, here)) sets_are complete morning set).low day is fits (begins-more p g cs day before x.0 begins x.2) less;
+      (one p g cs weights d before days len (omega (arith, len, here)) sets_are complete morning set).low day is fits
+      (begins-more p g cs day before x.0 begins x.2) less;
 }
 
 -- -- another set
 
-pub with-falls : (most : List ℕ) (periods : List Period) (sets : List CourseSet) (b s : ℕ) (m : Morning) (old new : List ℕ) (x : CourseSet) → Falls old new → IsTriedWith most periods sets b s m old x → IsTriedWith most periods sets b s m new x
+pub with-falls : (most : List ℕ) (periods : List Period) (sets : List CourseSet) (b s : ℕ) (m : Morning) (old new : List ℕ)
+    (x : CourseSet) → Falls old new → IsTriedWith most periods sets b s m old x → IsTriedWith most periods sets b s m new x
 with-falls most periods sets b s m old new x falls tried p g cs weights d before days len inside sets_are complete morning set = record {
-  low = λ day is fits begins less. omega (arith, (tried p g cs weights d before days len inside sets_are complete morning set).low day is fits begins less, falls (sum_by (λ i. lectures_on p day (slice_index cs i) * slice_index weights i) (range_below (length cs))));
+  low = λ day is fits begins less. omega (
+    arith,
+    (tried p g cs weights d before days len inside sets_are complete morning set).low day is fits begins less,
+    falls (sum_by (λ i. lectures_on p day (slice_index cs i) * slice_index weights i) (range_below (length cs))),
+  );
 }
 
-pub with-more : (most : List ℕ) (periods : List Period) (sets : List CourseSet) (b s : ℕ) (m : Morning) (i : ℕ) (e : CourseSet) (old new : List ℕ) → i < length sets → Falls old new
-    → All (IsTriedWith most periods sets b s m old) (take i sets) → IsTriedWith most periods sets b s m new (get_or sets i e) → All (IsTriedWith most periods sets b s m new) (take (i + 1) sets)
+pub with-more : (most : List ℕ) (periods : List Period) (sets : List CourseSet) (b s : ℕ) (m : Morning) (i : ℕ) (e : CourseSet)
+    (old new : List ℕ) → i < length sets → Falls old new
+    → All (IsTriedWith most periods sets b s m old) (take i sets) → IsTriedWith most periods sets b s m new (get_or sets i e)
+    → All (IsTriedWith most periods sets b s m new) (take (i + 1) sets)
 with-more most periods sets b s m i e old new h falls before here =
     All-more (IsTriedWith most periods sets b s m new) sets i e h
     (λ k z l. with-falls most periods sets b s m old new (get_or (take i sets) k z) falls (before k z l)) here
 
 -- the day of the period
-pub day_at : (p : Problem) (g : Group) (cs : List ℕ) (d s : ℕ) (most : List ℕ) (periods : List Period) (x : Period) (before : List CourseSet) → ArePeriodsOf p g cs d most periods → length before ≡ s → s < p.periods
+pub day_at : (p : Problem) (g : Group) (cs : List ℕ) (d s : ℕ) (most : List ℕ) (periods : List Period) (x : Period)
+    (before : List CourseSet) → ArePeriodsOf p g cs d most periods → length before ≡ s → s < p.periods
     → IsDayOf p g cs d most (length before) (get_or periods s x).available
 day_at p g cs d s most periods x before days len inside = record {
   group = days.group;
@@ -99,8 +116,12 @@ day_at p g cs d s most periods x before days len inside = record {
 }
 
 -- the next morning has been tried
-pub with-next : (most : List ℕ) (periods : List Period) (sets : List CourseSet) (b s : ℕ) (m next : Morning) (x : CourseSet) (table : List ℕ)
-    → ((p : Problem) (g : Group) (cs weights : List ℕ) (before : List CourseSet) → AreCourses p g cs → length g.curricula ≤ 64 → length before < p.periods → IsCourseSet p g cs weights x → IsMorningOf p g cs weights before m
-    → IsMorningOf p g cs weights (before ++ x ∷ []) next) → IsTried most periods sets b (s + 1) next table → IsTriedWith most periods sets b s m table x
+pub with-next : (most : List ℕ) (periods : List Period) (sets : List CourseSet) (b s : ℕ) (m next : Morning) (x : CourseSet)
+    (table : List ℕ)
+    → ((p : Problem) (g : Group) (cs weights : List ℕ) (before : List CourseSet) → AreCourses p g cs → length g.curricula ≤ 64
+    → length before < p.periods → IsCourseSet p g cs weights x → IsMorningOf p g cs weights before m
+    → IsMorningOf p g cs weights (before ++ x ∷ []) next) → IsTried most periods sets b (s + 1) next table
+    → IsTriedWith most periods sets b s m table x
 with-next most periods sets b s m next x table leads tried p g cs weights d before days len inside sets_are complete morning set =
-    tried p g cs weights d (before ++ x ∷ []) days (length-append before (x ∷ []) ∙ ap (λ n. n + 1) len) sets_are complete (leads p g cs weights before days.group days.at_most (omega (arith, len, inside)) set morning)
+    tried p g cs weights d (before ++ x ∷ []) days (length-append before (x ∷ []) ∙ ap (λ n. n + 1) len) sets_are complete
+    (leads p g cs weights before days.group days.at_most (omega (arith, len, inside)) set morning)

@@ -28,12 +28,14 @@ no_word w qs e k l = ap (λ z. has_bit z k) e ∙ has_bit-none k ∙ sym (never 
     never true = refl
     never false = refl
 
-pub morning-start : (p : Problem) (g : Group) (cs weights : List ℕ) (m : Morning) → ((i : ℕ) → slice_index m.counts i ≡ 0) → m.place ≡ 0 → m.cost ≡ 0 → m.occupied ≡ 0 → m.pending ≡ 0 → IsMorningOf p g cs weights [] m
+pub morning-start : (p : Problem) (g : Group) (cs weights : List ℕ) (m : Morning) → ((i : ℕ) → slice_index m.counts i ≡ 0) → m.place ≡ 0
+    → m.cost ≡ 0 → m.occupied ≡ 0 → m.pending ≡ 0 → IsMorningOf p g cs weights [] m
 morning-start p g cs weights m counts place cost occupied pending = record {
   counts = counts;
   own = λ i h. counts i;
   placed =
-      let none = sum_by-same (λ i. slice_index m.counts i * slice_index weights i) (λ i. 0) (range_below (length cs)) (λ i. ap (λ z. z * slice_index weights i) (counts i) ∙ omega arith) in
+      let none = sum_by-same (λ i. slice_index m.counts i * slice_index weights i) (λ i. 0) (range_below (length cs))
+      (λ i. ap (λ z. z * slice_index weights i) (counts i) ∙ omega arith) in
       omega (arith, place, none, sum_by-nothing (range_below (length cs)));
   paid = λ day begins. sym cost;
   occupied = λ day begins. no_word m.occupied g.curricula occupied;

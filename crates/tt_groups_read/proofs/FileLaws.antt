@@ -22,7 +22,8 @@ use Rattle.tt_groups_read.proofs.GroupLaws.{header_took, header_reads, group_too
 
 module _ (p : Problem) (sizes : Sizes) (are : AreSizes p sizes) where
   -- claims that were read are spelled
-  claims_took : (s : Stream) (ks : List GroupClaim) (after : Stream) → ReadsClaims sizes s ks after → Took s (flat_map claim_pieces ks) after × All (IsClaim p) ks
+  claims_took : (s : Stream) (ks : List GroupClaim) (after : Stream) → ReadsClaims sizes s ks after
+      → Took s (flat_map claim_pieces ks) after × All (IsClaim p) ks
   claims_took s [] after reads = (subst (Took s []) reads (took_nothing s), All-nil (IsClaim p))
   claims_took s (k ∷ ks) after reads =
       let a = group_took p sizes are s (Some k, reads.0) reads.1 in
@@ -30,7 +31,8 @@ module _ (p : Problem) (sizes : Sizes) (are : AreSizes p sizes) where
       (took_then s reads.0 after (claim_pieces k) (flat_map claim_pieces ks) a.0 more.0, All-cons (IsClaim p) k ks a.1 more.1)
 
   -- claims that are spelled can be read
-  claims_read : AreSmall sizes → (ks : List GroupClaim) (s after : Stream) → All (IsClaim p) ks → Took s (flat_map claim_pieces ks) after → ReadsClaims sizes s ks after
+  claims_read : AreSmall sizes → (ks : List GroupClaim) (s after : Stream) → All (IsClaim p) ks
+      → Took s (flat_map claim_pieces ks) after → ReadsClaims sizes s ks after
   claims_read small [] s after each took = took_same s after took
   claims_read small (k ∷ ks) s after each took =
       let parts = took_split (claim_pieces k) (flat_map claim_pieces ks) s after took in (
@@ -40,33 +42,39 @@ module _ (p : Problem) (sizes : Sizes) (are : AreSizes p sizes) where
       )
 
   -- a file that was read is spelled
-  pub reads_spelled : (bytes : List ℕ) (bound : ℕ) (claims : List GroupClaim) → ReadsFile sizes (stream_of_bytes bytes) bound claims → SpellsGroups p bytes bound claims
+  pub reads_spelled : (bytes : List ℕ) (bound : ℕ) (claims : List GroupClaim) → ReadsFile sizes (stream_of_bytes bytes) bound claims
+      → SpellsGroups p bytes bound claims
   reads_spelled bytes bound claims r =
       let s = stream_of_bytes bytes in
       let header = header_took s (bound, r.headed) r.header in
       let listed = claims_took r.headed claims r.listed r.claims in
       let last = group_took p sizes are r.listed (None, r.ended) r.finish in
       let pieces = header_pieces bound ++ (flat_map claim_pieces claims ++ fixed word.End ∷ []) in
-      let whole = took_then s r.headed last.rest (header_pieces bound) (flat_map claim_pieces claims ++ fixed word.End ∷ []) header.0 (took_then r.headed r.listed last.rest (flat_map claim_pieces claims) (fixed word.End ∷ []) listed.0 last.took) in
+      let whole = took_then s r.headed last.rest (header_pieces bound) (flat_map claim_pieces claims ++ fixed word.End ∷ []) header.0
+      (took_then r.headed r.listed last.rest (flat_map claim_pieces claims) (fixed word.End ∷ []) listed.0 last.took) in
       let within = limited MAX_BYTES last.bytes bytes (whole.stop ∙ last.stop) in
       let same = unlimited MAX_BYTES 0 bytes (omega (arith, within.0)) within.1 in
       record {
         bound = header.1;
-        tokens = subst (λ (ts : List Placed). Begins pieces ts []) (ap (λ (x : Stream). x.tokens) same) (subst (Begins pieces s.tokens) last.none whole.begins);
+        tokens = subst (λ (ts : List Placed). Begins pieces ts []) (ap (λ (x : Stream). x.tokens) same)
+            (subst (Begins pieces s.tokens) last.none whole.begins);
         each = listed.1;
         size = within.0;
         short = All-from_recursion (λ t. length t.text ≤ 32) (tokens_of bytes) within.1;
       }
 
   -- a file that is spelled can be read
-  pub spelled_reads : AreSmall sizes → (bytes : List ℕ) (bound : ℕ) (claims : List GroupClaim) → SpellsGroups p bytes bound claims → ReadsFile sizes (stream_of_bytes bytes) bound claims
+  pub spelled_reads : AreSmall sizes → (bytes : List ℕ) (bound : ℕ) (claims : List GroupClaim) → SpellsGroups p bytes bound claims
+      → ReadsFile sizes (stream_of_bytes bytes) bound claims
   spelled_reads small bytes bound claims spelled =
       let s = stream_of_bytes bytes in
       let size = spelled.size in
-      let same = unlimited MAX_BYTES 0 bytes (omega (arith, size)) (recursion_from_All (λ t. length t.text ≤ 32) (tokens_of bytes) spelled.short) in
+      let same = unlimited MAX_BYTES 0 bytes (omega (arith, size))
+      (recursion_from_All (λ t. length t.text ≤ 32) (tokens_of bytes) spelled.short) in
       let after = stopped (Ok (0 + length bytes)) in
       let tail = flat_map claim_pieces claims ++ fixed word.End ∷ [] in
-      let whole : Took s (header_pieces bound ++ tail) after = subst (λ (x : Stream). Took x (header_pieces bound ++ tail) after) (sym same) (record { begins = spelled.tokens; stop = refl }) in
+      let whole : Took s (header_pieces bound ++ tail) after = subst (λ (x : Stream). Took x (header_pieces bound ++ tail) after)
+      (sym same) (record { begins = spelled.tokens; stop = refl }) in
       let headed = took_split (header_pieces bound) tail s after whole in
       let listed = took_split (flat_map claim_pieces claims) (fixed word.End ∷ []) headed.0 after headed.2 in
       record {

@@ -38,26 +38,32 @@ use Rattle.tt_proof_read.proofs.ProofLaws.{no_more_took}
 -- points that were read are spelled
 pub points_took : (s : Stream) (x : ℕ × Stream) → points_at s ≡ Ok x → Took s (Number x.0 ∷ []) x.1 × (x.0 ≤ MAX_POINTS)
 unfolding points_at
-points_took s x e = one_took (λ t. priced_as t.at (number_of MAX_POINTS t.text)) Number (λ n. n ≤ MAX_POINTS) s x (λ t n h. number_spelled MAX_POINTS t.text n (priced_ok t.at _ n h)) e
+points_took s x e = one_took (λ t. priced_as t.at (number_of MAX_POINTS t.text)) Number (λ n. n ≤ MAX_POINTS) s x
+    (λ t n h. number_spelled MAX_POINTS t.text n (priced_ok t.at _ n h)) e
 
 -- points that are spelled can be read
 pub points_reads : (n : ℕ) (s after : Stream) → n ≤ MAX_POINTS → Took s (Number n ∷ []) after → points_at s ≡ Ok (n, after)
 unfolding points_at
-points_reads n s after within took = one_reads (λ t. priced_as t.at (number_of MAX_POINTS t.text)) (Number n) n s after (λ t piece. ap (priced_as t.at) (number_read MAX_POINTS t.text n piece within)) took
+points_reads n s after within took = one_reads (λ t. priced_as t.at (number_of MAX_POINTS t.text)) (Number n) n s after
+    (λ t piece. ap (priced_as t.at) (number_read MAX_POINTS t.text n piece within)) took
 
 -- ---- the header
 
 -- the version, `bound` and the bound that was read are spelled
-bound_took : (s : Stream) (x : ℕ × Stream) → bound_at s ≡ Ok x → Took s (fixed word.One ∷ fixed word.Bound ∷ Number x.0 ∷ []) x.1 × (x.0 ≤ MAX_POINTS)
+bound_took : (s : Stream) (x : ℕ × Stream) → bound_at s ≡ Ok x → Took s (fixed word.One ∷ fixed word.Bound ∷ Number x.0 ∷ []) x.1
+    × (x.0 ≤ MAX_POINTS)
 unfolding bound_at
 bound_took s x e =
     let one = bind_ok (word_at word.One s) _ x e in
     let named = bind_ok (word_at word.Bound one.0) _ x one.2 in
-    let last = points_took named.0 x named.2 in
-    (took_then _ _ _ _ _ (word_took word.One s one.0 one.1) (took_then _ _ _ _ _ (word_took word.Bound one.0 named.0 named.1) last.0), last.1)
+    let last = points_took named.0 x named.2 in (
+      took_then _ _ _ _ _ (word_took word.One s one.0 one.1) (took_then _ _ _ _ _ (word_took word.Bound one.0 named.0 named.1) last.0),
+      last.1,
+    )
 
 -- the version, `bound` and the bound can be read if they are spelled
-bound_reads : (n : ℕ) (s after : Stream) → n ≤ MAX_POINTS → Took s (fixed word.One ∷ fixed word.Bound ∷ Number n ∷ []) after → bound_at s ≡ Ok (n, after)
+bound_reads : (n : ℕ) (s after : Stream) → n ≤ MAX_POINTS → Took s (fixed word.One ∷ fixed word.Bound ∷ Number n ∷ []) after
+    → bound_at s ≡ Ok (n, after)
 unfolding bound_at
 bound_reads n s after within took =
     let a = took_split (fixed word.One ∷ []) (fixed word.Bound ∷ Number n ∷ []) s after took in
@@ -66,7 +72,9 @@ bound_reads n s after within took =
 
 -- an opening without an error is that of a file of groups
 opened_ok : (r : Result (Opening × Stream) TextFault) (x : ℕ × Stream) → opened r ≡ Ok x → r ≡ Ok (opening.Groups x.0, x.1)
-opened_ok (Ok (opening.Groups b, s)) x e = ap (λ (y : ℕ × Stream). let r : Result (Opening × Stream) TextFault = Ok (opening.Groups y.0, y.1) in r) (ok_is {F = GroupTextFault} (b, s) x e)
+opened_ok (Ok (opening.Groups b, s)) x e =
+    ap (λ (y : ℕ × Stream). let r : Result (Opening × Stream) TextFault = Ok (opening.Groups y.0, y.1) in r)
+    (ok_is {F = GroupTextFault} (b, s) x e)
 opened_ok (Ok (opening.Other at, s)) x e = absurd cc
 opened_ok (Err f) x e = absurd cc
 
@@ -83,7 +91,8 @@ abbrev opened_by : Bool → Placed → Stream → Result (Opening × Stream) Tex
 opened_by first t s = cond first (bound_at s >>= λ n. Ok (opening.Groups n.0, n.1)) (Ok (opening.Other t.at, s))
 
 -- a token that opens a file of groups
-opening_ok : (t : Placed) (s : Stream) (x : ℕ × Stream) → opening_of t s ≡ Ok (opening.Groups x.0, x.1) → (is_text (codes "CTTG") t.text ≡ true) × (bound_at s ≡ Ok x)
+opening_ok : (t : Placed) (s : Stream) (x : ℕ × Stream) → opening_of t s ≡ Ok (opening.Groups x.0, x.1)
+    → (is_text (codes "CTTG") t.text ≡ true) × (bound_at s ≡ Ok x)
 opening_ok t s x e = by_test (is_text (codes "CTTG") t.text) refl e
   where
     by_test : (b : Bool) → is_text (codes "CTTG") t.text ≡ b → opened_by b t s ≡ Ok (opening.Groups x.0, x.1)
@@ -92,9 +101,14 @@ opening_ok t s x e = by_test (is_text (codes "CTTG") t.text) refl e
         let n = bind_ok (bound_at s) (λ n. Ok (opening.Groups n.0, n.1)) (opening.Groups x.0, x.1) h in
         let same = ok_is {F = TextFault} (opening.Groups n.0.0, n.0.1) (opening.Groups x.0, x.1) n.2 in
         let bound = same_bound n.0.0 x.0 (ap (λ (y : Opening × Stream). y.0) same) in
-        let rest = ap (λ (y : Opening × Stream). y.1) same in
-        (is, n.1 ∙ ap (λ (k : ℕ). let r : Result (ℕ × Stream) TextFault = Ok (k, n.0.1) in r) bound ∙ ap (λ (u : Stream). let r : Result (ℕ × Stream) TextFault = Ok (x.0, u) in r) rest)
-    by_test false is h = absurd (other_opens_none t.at x.0 (ap (λ (y : Opening × Stream). y.0) (ok_is {F = TextFault} (opening.Other t.at, s) (opening.Groups x.0, x.1) h)))
+        let rest = ap (λ (y : Opening × Stream). y.1) same in (
+          is,
+          n.1 ∙ ap (λ (k : ℕ). let r : Result (ℕ × Stream) TextFault = Ok (k, n.0.1) in r) bound
+              ∙ ap (λ (u : Stream). let r : Result (ℕ × Stream) TextFault = Ok (x.0, u) in r) rest,
+        )
+    by_test false is h =
+        absurd (other_opens_none t.at x.0
+        (ap (λ (y : Opening × Stream). y.0) (ok_is {F = TextFault} (opening.Other t.at, s) (opening.Groups x.0, x.1) h)))
 
 -- a header that was read is spelled
 pub header_took : (s : Stream) (x : ℕ × Stream) → header_at s ≡ Ok x → Took s (header_pieces x.0) x.1 × (x.0 ≤ MAX_POINTS)
@@ -123,7 +137,8 @@ group_is_no_end e = cc
 module _ (p : Problem) (sizes : Sizes) (are : AreSizes p sizes) where
   -- the pieces of a claim after its word
   abbrev claimed_pieces : GroupClaim → List Piece
-  claimed_pieces k = Number k.value ∷ (list_pieces (curricula_form sizes) k.group.curricula ++ list_pieces (courses_form sizes) k.group.courses)
+  claimed_pieces k =
+      Number k.value ∷ (list_pieces (curricula_form sizes) k.group.curricula ++ list_pieces (courses_form sizes) k.group.courses)
 
   pub record ClaimTook (s : Stream) (k : GroupClaim) (after : Stream) : Type 0 where
     pub took : Took s (claimed_pieces k) after
@@ -151,22 +166,28 @@ module _ (p : Problem) (sizes : Sizes) (are : AreSizes p sizes) where
       subst (λ y. ClaimTook s y.0 y.1) (ok_is {F = TextFault} (made, c.0.1) x c.2) took
 
   -- a claim that is spelled can be read
-  claim_reads : AreSmall sizes → (k : GroupClaim) (s after : Stream) → IsClaim p k → Took s (claimed_pieces k) after → claim_at sizes s ≡ Ok (k, after)
+  claim_reads : AreSmall sizes → (k : GroupClaim) (s after : Stream) → IsClaim p k → Took s (claimed_pieces k) after
+      → claim_at sizes s ≡ Ok (k, after)
   unfolding claim_at
   claim_reads small k s after is took =
-      let v = took_split (Number k.value ∷ []) (list_pieces (curricula_form sizes) k.group.curricula ++ list_pieces (courses_form sizes) k.group.courses) s after took in
-      let q = took_split (list_pieces (curricula_form sizes) k.group.curricula) (list_pieces (courses_form sizes) k.group.courses) v.0 after v.2 in
+      let v = took_split (Number k.value ∷ []) (list_pieces (curricula_form sizes) k.group.curricula ++ list_pieces
+      (courses_form sizes) k.group.courses) s after took in
+      let q = took_split (list_pieces (curricula_form sizes) k.group.curricula) (list_pieces (courses_form sizes) k.group.courses) v.0
+      after v.2 in
       rw (
         points_reads k.value s v.0 is.value v.1,
-        list_reads (curricula_form sizes) k.group.curricula v.0 q.0 small.curricula (subst (λ n. AreBelow n k.group.curricula) (sym are.curricula) is.curricula.0) is.curricula.1 q.1,
-        list_reads (courses_form sizes) k.group.courses q.0 after small.courses (subst (λ n. AreBelow n k.group.courses) (sym are.courses) is.courses.0) is.courses.1 q.2,
+        list_reads (curricula_form sizes) k.group.curricula v.0 q.0 small.curricula
+            (subst (λ n. AreBelow n k.group.curricula) (sym are.curricula) is.curricula.0) is.curricula.1 q.1,
+        list_reads (courses_form sizes) k.group.courses q.0 after small.courses
+            (subst (λ n. AreBelow n k.group.courses) (sym are.courses) is.courses.0) is.courses.1 q.2,
       ) refl
 
   -- ---- a group, or the end
 
   -- the pieces of a claim are its word and the pieces after it
   pieces_are : (k : GroupClaim) → Text (codes "G") ∷ claimed_pieces k ≡ claim_pieces k
-  pieces_are k = ap (λ ps. Text (codes "G") ∷ Number k.value ∷ ps) (append_assoc (map (λ n. Index 113 n) k.group.curricula) (Text (codes "/") ∷ []) (list_pieces (courses_form sizes) k.group.courses))
+  pieces_are k = ap (λ ps. Text (codes "G") ∷ Number k.value ∷ ps)
+      (append_assoc (map (λ n. Index 113 n) k.group.curricula) (Text (codes "/") ∷ []) (list_pieces (courses_form sizes) k.group.courses))
 
   pub record EndTook (s after : Stream) : Type 0 where
     pub rest : Stream
@@ -181,16 +202,19 @@ module _ (p : Problem) (sizes : Sizes) (are : AreSizes p sizes) where
   GroupTook s (Some k) after = Took s (claim_pieces k) after × IsClaim p k
 
   -- a token between groups is the word of a group or the end
-  word_is : (t : Placed) (w : GroupWord) → group_word_of t ≡ Ok w → ((w ≡ group_word.Group) → is_text (codes "G") t.text ≡ true) × ((w ≡ group_word.End) → is_text (codes "end") t.text ≡ true)
+  word_is : (t : Placed) (w : GroupWord) → group_word_of t ≡ Ok w → ((w ≡ group_word.Group) → is_text (codes "G") t.text ≡ true)
+      × ((w ≡ group_word.End) → is_text (codes "end") t.text ≡ true)
   word_is t w e = by_tests (is_text (codes "G") t.text) (is_text (codes "end") t.text) e
     where
-      by_tests : (a b : Bool) → cond a (Ok group_word.Group) (cond b (Ok group_word.End) (Err (fault.UnknownWord t.at))) ≡ Ok w → ((w ≡ group_word.Group) → a ≡ true) × ((w ≡ group_word.End) → b ≡ true)
+      by_tests : (a b : Bool) → cond a (Ok group_word.Group) (cond b (Ok group_word.End) (Err (fault.UnknownWord t.at))) ≡ Ok w
+          → ((w ≡ group_word.Group) → a ≡ true) × ((w ≡ group_word.End) → b ≡ true)
       by_tests true b h = (λ is. refl, λ is. absurd (group_is_no_end (ok_is {F = TextFault} group_word.Group w h ∙ is)))
       by_tests false true h = (λ is. absurd (group_is_no_end (sym is ∙ sym (ok_is {F = TextFault} group_word.End w h))), λ is. refl)
       by_tests false false h = absurd cc
 
   -- the tokens after the word were read
-  then_took : (s : Stream) (t : Placed × Stream) (w : GroupWord) (x : Option GroupClaim × Stream) → token_at s ≡ Ok t → group_word_of t.0 ≡ Ok w → group_then sizes w t.1 ≡ Ok x → GroupTook s x.0 x.1
+  then_took : (s : Stream) (t : Placed × Stream) (w : GroupWord) (x : Option GroupClaim × Stream) → token_at s ≡ Ok t
+      → group_word_of t.0 ≡ Ok w → group_then sizes w t.1 ≡ Ok x → GroupTook s x.0 x.1
   unfolding nothing_at
   then_took s t group_word.Group x token is_word e =
       let k = bind_ok (claim_at sizes t.1) (λ k. Ok (Some k.0, k.1)) x e in
@@ -214,7 +238,8 @@ module _ (p : Problem) (sizes : Sizes) (are : AreSizes p sizes) where
       then_took s t.0 w.0 x t.1 w.1 w.2
 
   -- a group that is spelled can be read
-  pub group_reads : AreSmall sizes → (k : GroupClaim) (s after : Stream) → IsClaim p k → Took s (claim_pieces k) after → group_at sizes s ≡ Ok (Some k, after)
+  pub group_reads : AreSmall sizes → (k : GroupClaim) (s after : Stream) → IsClaim p k → Took s (claim_pieces k) after
+      → group_at sizes s ≡ Ok (Some k, after)
   unfolding group_at
   group_reads small k s after is took =
       let f = first_of_pieces (Text (codes "G")) (claimed_pieces k) s after (subst (λ ps. Took s ps after) (sym (pieces_are k)) took) in
@@ -226,4 +251,6 @@ module _ (p : Problem) (sizes : Sizes) (are : AreSizes p sizes) where
   end_reads s m took =
       let f = first_of_pieces (fixed word.End) [] s (stopped (Ok m)) took in
       let no_group : is_text (codes "G") f.token.text ≡ false = ap (is_text (codes "G")) f.piece in
-      rw (f.is, no_group, is_text_of f.token.text (codes "end") f.piece) (ap (λ (u : Stream). no_more u.tokens u.stop >>= λ rest. let r : Result (Option GroupClaim × Stream) TextFault = Ok (None, rest) in r) (took_same f.mid (stopped (Ok m)) f.rest))
+      rw (f.is, no_group, is_text_of f.token.text (codes "end") f.piece)
+      (ap (λ (u : Stream). no_more u.tokens u.stop >>= λ rest. let r : Result (Option GroupClaim × Stream) TextFault = Ok
+      (None, rest) in r) (took_same f.mid (stopped (Ok m)) f.rest))

@@ -13,11 +13,18 @@ use Rattle.tt_groups_week.specs.declared.state.Step.{Step}
 use Rattle.tt_groups_week.proofs.Moving.{step-none, step-some}
 
 -- bytes have a small floor
-pub floor-below : (sizes amounts : List ℕ) → ((j : ℕ) → slice_index amounts j ≤ 255) → (n : ℕ) → sum_by (floor_at sizes amounts) (range_below n) ≤ 1275 * n
+pub floor-below : (sizes amounts : List ℕ) → ((j : ℕ) → slice_index amounts j ≤ 255) → (n : ℕ) → sum_by (floor_at sizes amounts)
+    (range_below n) ≤ 1275 * n
 floor-below sizes amounts bytes zero = omega arith
 floor-below sizes amounts bytes (suc n) =
     let e : suc n ≡ n + 1 = omega arith in
-    omega (arith, ap (λ k. sum_by (floor_at sizes amounts) (range_below k)) e, sum_more (floor_at sizes amounts) n, bytes n, floor-below sizes amounts bytes n)
+    omega (
+      arith,
+      ap (λ k. sum_by (floor_at sizes amounts) (range_below k)) e,
+      sum_more (floor_at sizes amounts) n,
+      bytes n,
+      floor-below sizes amounts bytes n,
+    )
 
 module _ (sizes weights : List ℕ) (courses : ℕ) (amounts : List ℕ) (state : ℕ) where
   -- a step pays at least the floor
@@ -48,29 +55,47 @@ module _ (sizes weights : List ℕ) (courses : ℕ) (amounts : List ℕ) (state 
   abbrev before : ℕ → ℕ
   before j = digit sizes weights state j * slice_index weights j
 
-  module _ (j place whole pay floor : ℕ) (placed : place + sum_by before (range_below j) ≡ sum_by (moved sizes weights courses amounts state) (range_below j) + whole)
-      (paid : pay + sum_by (floor_at sizes amounts) (range_below j) ≡ sum_by (paid_at sizes weights courses amounts state) (range_below j) + floor) where
-    module _ (below : digit sizes weights state j < slice_index sizes j) (kept : ℕ) (is : kept ≡ min (raised sizes weights courses amounts state j) (slice_index sizes j - 1)) where
-      pub placed-more : place + (kept - digit sizes weights state j) * slice_index weights j + sum_by before (range_below (j + 1)) ≡ sum_by (moved sizes weights courses amounts state) (range_below (j + 1)) + whole
+  module _ (j place whole pay floor : ℕ)
+      (placed : place + sum_by before (range_below j) ≡ sum_by (moved sizes weights courses amounts state) (range_below j) + whole)
+      (paid : pay + sum_by (floor_at sizes amounts) (range_below j) ≡ sum_by (paid_at sizes weights courses amounts state)
+      (range_below j) + floor) where
+    module _ (below : digit sizes weights state j < slice_index sizes j) (kept : ℕ)
+        (is : kept ≡ min (raised sizes weights courses amounts state j) (slice_index sizes j - 1)) where
+      pub placed-more : place + (kept - digit sizes weights state j) * slice_index weights j + sum_by before (range_below (j + 1))
+          ≡ sum_by (moved sizes weights courses amounts state) (range_below (j + 1)) + whole
       placed-more =
           let whole_digit : (kept - digit sizes weights state j) + digit sizes weights state j ≡ kept = omega arith in
           let both = ap (λ z. z * slice_index weights j) whole_digit in
           let now : kept * slice_index weights j ≡ moved sizes weights courses amounts state j = ap (λ z. z * slice_index weights j) is in
           omega (arith, placed, both, now, sum_more before j, sum_more (moved sizes weights courses amounts state) j)
 
-      pub paid-more : pay + 5 * ((raised sizes weights courses amounts state j - kept) - (slice_index amounts j - (slice_index sizes j - 1))) + sum_by (floor_at sizes amounts) (range_below (j + 1))
+      pub paid-more : pay + 5 *
+          ((raised sizes weights courses amounts state j - kept) - (slice_index amounts j - (slice_index sizes j - 1))) + sum_by
+          (floor_at sizes amounts) (range_below (j + 1))
           ≡ sum_by (paid_at sizes weights courses amounts state) (range_below (j + 1)) + floor
-      paid-more = omega (arith, paid, is, below, sum_more (floor_at sizes amounts) j, sum_more (paid_at sizes weights courses amounts state) j)
+      paid-more = omega (
+        arith,
+        paid,
+        is,
+        below,
+        sum_more (floor_at sizes amounts) j,
+        sum_more (paid_at sizes weights courses amounts state) j,
+      )
 
     -- a digit that is not raised, or has no slack, pays its floor and keeps its value
-    module _ (below : digit sizes weights state j < slice_index sizes j) (none : (slice_index amounts j ≡ 0) ⊎ (slice_index sizes j ≤ 1)) where
-      pub placed-same : place + sum_by before (range_below (j + 1)) ≡ sum_by (moved sizes weights courses amounts state) (range_below (j + 1)) + whole
+    module _ (below : digit sizes weights state j < slice_index sizes j)
+        (none : (slice_index amounts j ≡ 0) ⊎ (slice_index sizes j ≤ 1)) where
+      pub placed-same : place + sum_by before (range_below (j + 1)) ≡ sum_by (moved sizes weights courses amounts state)
+          (range_below (j + 1)) + whole
       placed-same =
-          let kept : min (raised sizes weights courses amounts state j) (slice_index sizes j - 1) ≡ digit sizes weights state j = elim none [ inl z ↦ omega arith | inr z ↦ omega arith ] in
+          let kept : min (raised sizes weights courses amounts state j) (slice_index sizes j - 1) ≡ digit sizes weights state j =
+          elim none [ inl z ↦ omega arith | inr z ↦ omega arith ] in
           let now = ap (λ z. z * slice_index weights j) kept in
           omega (arith, placed, now, sum_more before j, sum_more (moved sizes weights courses amounts state) j)
 
-      pub paid-same : pay + sum_by (floor_at sizes amounts) (range_below (j + 1)) ≡ sum_by (paid_at sizes weights courses amounts state) (range_below (j + 1)) + floor
+      pub paid-same : pay + sum_by (floor_at sizes amounts) (range_below (j + 1)) ≡ sum_by (paid_at sizes weights courses amounts state)
+          (range_below (j + 1)) + floor
       paid-same =
-          let same : paid_at sizes weights courses amounts state j ≡ floor_at sizes amounts j = elim none [ inl z ↦ omega arith | inr z ↦ omega arith ] in
+          let same : paid_at sizes weights courses amounts state j ≡ floor_at sizes amounts j =
+          elim none [ inl z ↦ omega arith | inr z ↦ omega arith ] in
           omega (arith, paid, same, sum_more (floor_at sizes amounts) j, sum_more (paid_at sizes weights courses amounts state) j)

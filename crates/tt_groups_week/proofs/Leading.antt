@@ -28,8 +28,10 @@ in_two a b j h = elim (cases_lt j a) [
 
 -- ---- the step of a group
 
-module _ (p : Problem) (g : Group) (cs : List ℕ) (u e k u' e' : Vector) (more_u : (c : ℕ) → u' c ≡ u c + k c) (more_e : (c : ℕ) → e' c ≡ min (e c + (k c - 1)) (slack p c))
-    (fits : (j : ℕ) → j < length cs → u' (slice_index cs j) ≤ lectures p (slice_index cs j)) (below : AreBelow (group_sizes p g cs) (group_digits g cs u e)) where
+module _ (p : Problem) (g : Group) (cs : List ℕ) (u e k u' e' : Vector) (more_u : (c : ℕ) → u' c ≡ u c + k c)
+    (more_e : (c : ℕ) → e' c ≡ min (e c + (k c - 1)) (slack p c))
+    (fits : (j : ℕ) → j < length cs → u' (slice_index cs j) ≤ lectures p (slice_index cs j))
+    (below : AreBelow (group_sizes p g cs) (group_digits g cs u e)) where
   abbrev ws : List ℕ
   ws = g.courses
 
@@ -72,10 +74,12 @@ module _ (p : Problem) (g : Group) (cs : List ℕ) (u e k u' e' : Vector) (more_
 
   -- each lecture has room
   all_room : list_all (has_room sizes weights (length cs) amounts state) (range_below (length sizes)) ≡ true
-  all_room = all_below (has_room sizes weights (length cs) amounts state) (length sizes) (λ j h. elim (in_two (length cs) (length ws) j (omega (arith, h, size_of))) [
-    | inl l ↦ room_of_fitting sizes weights (length cs) amounts state j (omega (arith, up_left j l, size_left j l, more_u (slice_index cs j), fits j l))
-    | inr w ↦ room_of_further sizes weights (length cs) amounts state j (omega (arith, w.2))
-  ])
+  all_room = all_below (has_room sizes weights (length cs) amounts state) (length sizes)
+      (λ j h. elim (in_two (length cs) (length ws) j (omega (arith, h, size_of))) [
+        | inl l ↦ room_of_fitting sizes weights (length cs) amounts state j
+            (omega (arith, up_left j l, size_left j l, more_u (slice_index cs j), fits j l))
+        | inr w ↦ room_of_further sizes weights (length cs) amounts state j (omega (arith, w.2))
+      ])
 
   -- the digits that are reached
   kept : (j : ℕ) → j < length sizes → min (up j) (slice_index sizes j - 1) ≡ slice_index (group_digits g cs u' e') j
@@ -85,10 +89,13 @@ module _ (p : Problem) (g : Group) (cs : List ℕ) (u e k u' e' : Vector) (more_
         (omega (arith, up_right w.0 w.1, size_right w.0 w.1, more_e (slice_index ws w.0), at_right u' e' cs ws w.0 w.1))
   ]
 
-  place_reached : sum_by (moved sizes weights (length cs) amounts state) (range_below (length sizes)) ≡ place_of weights (group_digits g cs u' e')
+  place_reached : sum_by (moved sizes weights (length cs) amounts state) (range_below (length sizes)) ≡ place_of weights
+      (group_digits g cs u' e')
   place_reached =
       let l = length-weights_from 1 sizes in
-      sum_by-same_below (moved sizes weights (length cs) amounts state) (λ j. slice_index (group_digits g cs u' e') j * slice_index weights j) (length sizes) (λ j h. ap (λ d. d * slice_index weights j) (kept j h))
+      sum_by-same_below (moved sizes weights (length cs) amounts state)
+      (λ j. slice_index (group_digits g cs u' e') j * slice_index weights j) (length sizes)
+      (λ j h. ap (λ d. d * slice_index weights j) (kept j h))
       ∙ ap (λ n. sum_by (λ j. slice_index (group_digits g cs u' e') j * slice_index weights j) (range_below n)) (sym l)
       ∙ place-by_index weights (group_digits g cs u' e') (omega (arith, length-two u' e' cs ws, l, size_of))
 
@@ -97,12 +104,23 @@ module _ (p : Problem) (g : Group) (cs : List ℕ) (u e k u' e' : Vector) (more_
       let pay = paid_at sizes weights (length cs) amounts state in
       let over : ℕ → ℕ = λ c. 5 * ((e c + (k c - 1)) - slack p c) in
       let two = ap (λ n. sum_by pay (range_below n)) size_of ∙ sum_further pay (length cs) (length ws) in
-      let left = sum_by-same_below pay (λ j. 0) (length cs) (λ j h. omega (arith, up_left j h, size_left j h, more_u (slice_index cs j), fits j h)) in
-      let right = sum_by-same_below (λ i. pay (length cs + i)) (λ i. over (slice_index ws i)) (length ws) (λ i h. omega (arith, up_right i h, size_right i h)) in
+      let left = sum_by-same_below pay (λ j. 0) (length cs)
+      (λ j h. omega (arith, up_left j h, size_left j h, more_u (slice_index cs j), fits j h)) in
+      let right = sum_by-same_below (λ i. pay (length cs + i)) (λ i. over (slice_index ws i)) (length ws)
+      (λ i h. omega (arith, up_right i h, size_right i h)) in
       omega (arith, two, left, sum_by-nothing (range_below (length cs)), right, sum_indices over ws)
 
-  pub step_leads : step_of sizes weights (length cs) amounts state ≡ Some (record { place = place_of weights (group_digits g cs u' e'); pay = overrun p g e k })
+  pub step_leads : step_of sizes weights (length cs) amounts state ≡ Some
+      (record { place = place_of weights (group_digits g cs u' e'); pay = overrun p g e k })
   step_leads =
-      ap (λ b. cond b (Some (record { place = sum_by (moved sizes weights (length cs) amounts state) (range_below (length sizes)); pay = sum_by (paid_at sizes weights (length cs) amounts state) (range_below (length sizes)) })) None) all_room
-      ∙ ap (λ (n : ℕ). let s : Step = record { place = n; pay = sum_by (paid_at sizes weights (length cs) amounts state) (range_below (length sizes)) } in Some s) place_reached
+      ap (λ b. cond b
+      (Some (record {
+        place = sum_by (moved sizes weights (length cs) amounts state) (range_below (length sizes));
+        pay = sum_by (paid_at sizes weights (length cs) amounts state) (range_below (length sizes));
+      })) None) all_room
+      ∙ ap (λ (n : ℕ). let s : Step = record {
+        place = n;
+        pay = sum_by (paid_at sizes weights (length cs) amounts state)
+            (range_below (length sizes));
+      } in Some s) place_reached
       ∙ ap (λ (n : ℕ). let s : Step = record { place = place_of weights (group_digits g cs u' e'); pay = n } in Some s) paid_is

@@ -48,7 +48,8 @@ reached_first p g cs n =
       week = week;
       days = λ i h. absurd (omega arith);
       fits = λ c own. omega arith;
-      placed = sym (zero_place (weights_from 1 (group_sizes p g cs)) (group_digits g cs (used p week 0) (capped p week 0)) (all_zero (used p week 0) (capped p week 0) cs g.courses (λ c. refl) (λ c. omega arith)));
+      placed = sym (zero_place (weights_from 1 (group_sizes p g cs)) (group_digits g cs (used p week 0) (capped p week 0))
+          (all_zero (used p week 0) (capped p week 0) cs g.courses (λ c. refl) (λ c. omega arith)));
       paid = omega (arith, none, sum_by-nothing g.courses);
     }
 
@@ -69,15 +70,18 @@ module _ (p : Problem) (g : Group) (cs : List ℕ) (are : AreCourses p g cs) whe
       subst P (get_or_default cs m.0 0 c m.1 ∙ m.2) (h m.0 m.1)
 
   -- the digits of a place that is reached are the lectures used so far
-  digit_read : (d place n : ℕ) (at : IsReachedPlace p g cs d place n) (j : ℕ) → j < length cs → digit sizes weights place j ≡ used p at.week d (slice_index cs j)
+  digit_read : (d place n : ℕ) (at : IsReachedPlace p g cs d place n) (j : ℕ) → j < length cs
+      → digit sizes weights place j ≡ used p at.week d (slice_index cs j)
   digit_read d place n at j h =
       let u = used p at.week d in
       let e = capped p at.week d in
       let below = digits_below p g cs are 0 u e at.fits (λ c. omega arith) in
       let z : place ≡ 0 + place_of weights (group_digits g cs u e) = omega (arith, at.placed) in
-      ap (λ s. s / slice_index weights j % slice_index sizes j) z ∙ digit_of 1 sizes (group_digits g cs u e) below 0 (omega arith) j (omega (arith, h, size_of)) ∙ at_left u e cs g.courses j h
+      ap (λ s. s / slice_index weights j % slice_index sizes j) z ∙ digit_of 1 sizes (group_digits g cs u e) below 0 (omega arith) j
+      (omega (arith, h, size_of)) ∙ at_left u e cs g.courses j h
 
-  module _ (d place n : ℕ) (at : IsReachedPlace p g cs d place n) (x : DayEntry) (today : IsReachedDay p g cs d x) (r : Step) (leads : step_of sizes weights (length cs) x.amounts place ≡ Some r) where
+  module _ (d place n : ℕ) (at : IsReachedPlace p g cs d place n) (x : DayEntry) (today : IsReachedDay p g cs d x) (r : Step)
+      (leads : step_of sizes weights (length cs) x.amounts place ≡ Some r) where
     abbrev week : Week
     week i = cond (i == d) today.day (at.week i)
 
@@ -97,10 +101,12 @@ module _ (p : Problem) (g : Group) (cs : List ℕ) (are : AreCourses p g cs) whe
     now = ap (λ b. cond b today.day (at.week d)) (eq-eqb d d refl)
 
     used_same : (c : ℕ) → used p week d c ≡ u c
-    used_same c = sum_by-same_below (λ i. lectures_on p (week i) c) (λ i. lectures_on p (at.week i) c) d (λ i h. ap (λ w. lectures_on p w c) (before i h))
+    used_same c = sum_by-same_below (λ i. lectures_on p (week i) c) (λ i. lectures_on p (at.week i) c) d
+        (λ i h. ap (λ w. lectures_on p w c) (before i h))
 
     further_same : (c : ℕ) → further p week d c ≡ further p at.week d c
-    further_same c = sum_by-same_below (λ i. lectures_on p (week i) c - 1) (λ i. lectures_on p (at.week i) c - 1) d (λ i h. ap (λ w. lectures_on p w c - 1) (before i h))
+    further_same c = sum_by-same_below (λ i. lectures_on p (week i) c - 1) (λ i. lectures_on p (at.week i) c - 1) d
+        (λ i h. ap (λ w. lectures_on p w c - 1) (before i h))
 
     lectures_now : (c : ℕ) → lectures_on p (week d) c ≡ k c
     lectures_now c = ap (λ w. lectures_on p w c) now
@@ -120,7 +126,8 @@ module _ (p : Problem) (g : Group) (cs : List ℕ) (are : AreCourses p g cs) whe
     fits_next : (j : ℕ) → j < length cs → used p week (d + 1) (slice_index cs j) ≤ lectures p (slice_index cs j)
     fits_next j h =
         let inside : j < length sizes = omega (arith, h, size_of) in
-        let fitting = fitting_of_room sizes weights (length cs) x.amounts place j h (at_below (has_room sizes weights (length cs) x.amounts place) (length sizes) j has_all inside) in
+        let fitting = fitting_of_room sizes weights (length cs) x.amounts place j h
+        (at_below (has_room sizes weights (length cs) x.amounts place) (length sizes) j has_all inside) in
         omega (
           arith,
           fitting,
@@ -134,18 +141,25 @@ module _ (p : Problem) (g : Group) (cs : List ℕ) (are : AreCourses p g cs) whe
     below : AreBelow sizes (group_digits g cs u e)
     below = digits_below p g cs are 0 u e at.fits (λ c. omega arith)
 
-    step_is : r ≡ record { place = place_of weights (group_digits g cs (used p week (d + 1)) (capped p week (d + 1))); pay = overrun p g e k }
+    step_is : r ≡ record {
+      place = place_of weights (group_digits g cs (used p week (d + 1)) (capped p week (d + 1)));
+      pay = overrun p g e k;
+    }
     step_is =
         let state = place_of weights (group_digits g cs u e) in
-        let all = sym leads ∙ ap (λ s. step_of sizes weights (length cs) x.amounts s) at.placed ∙ step_same sizes weights (length cs) x.amounts (group_amounts g cs k) state amount_is
+        let all = sym leads ∙ ap (λ s. step_of sizes weights (length cs) x.amounts s) at.placed
+        ∙ step_same sizes weights (length cs) x.amounts (group_amounts g cs k) state amount_is
         ∙ step_leads p g cs u e k (used p week (d + 1)) (capped p week (d + 1)) used_next capped_next fits_next below in
         cc
 
     spent_next : spent p g week (d + 1) ≡ spent p g at.week d + day_cost p g today.day + overrun p g e k
     spent_next =
-        let days = sum_by-same_below (λ i. day_cost p g (week i)) (λ i. day_cost p g (at.week i)) d (λ i h. ap (day_cost p g) (before i h)) in
-        let courses = sum_by-same (λ c. 5 * (further p week d c - slack p c)) (λ c. 5 * (further p at.week d c - slack p c)) g.courses (λ c. omega (arith, further_same c)) in
-        let over = sum_by-same (λ c. 5 * ((capped p week d c + (lectures_on p (week d) c - 1)) - slack p c)) (λ c. 5 * ((e c + (k c - 1)) - slack p c)) g.courses (λ c. omega (arith, further_same c, lectures_now c)) in
+        let days = sum_by-same_below (λ i. day_cost p g (week i)) (λ i. day_cost p g (at.week i)) d
+        (λ i h. ap (day_cost p g) (before i h)) in
+        let courses = sum_by-same (λ c. 5 * (further p week d c - slack p c)) (λ c. 5 * (further p at.week d c - slack p c)) g.courses
+        (λ c. omega (arith, further_same c)) in
+        let over = sum_by-same (λ c. 5 * ((capped p week d c + (lectures_on p (week d) c - 1)) - slack p c))
+        (λ c. 5 * ((e c + (k c - 1)) - slack p c)) g.courses (λ c. omega (arith, further_same c, lectures_now c)) in
         omega (arith, spent-more p g week d, days, courses, over, ap (day_cost p g) now)
 
     -- another day
@@ -164,14 +178,16 @@ module _ (p : Problem) (g : Group) (cs : List ℕ) (are : AreCourses p g cs) whe
     }
 
   -- at the end, a full place is that of a plan
-  pub reached_plan : (place n : ℕ) (at : IsReachedPlace p g cs p.days place n) → is_full sizes weights (length cs) place ≡ true → IsPlan p g at.week
+  pub reached_plan : (place n : ℕ) (at : IsReachedPlace p g cs p.days place n) → is_full sizes weights (length cs) place ≡ true
+      → IsPlan p g at.week
   reached_plan place n at full = record {
     days = at.days;
     lectures = each_own (λ c. used p at.week p.days c ≡ lectures p c) (λ j h.
         omega (
           arith,
           digit_read p.days place n at j h,
-          eqb-true (digit sizes weights place j) (slice_index sizes j - 1) (at_below (λ i. digit sizes weights place i == slice_index sizes i - 1) (length cs) j full h),
+          eqb-true (digit sizes weights place j) (slice_index sizes j - 1)
+              (at_below (λ i. digit sizes weights place i == slice_index sizes i - 1) (length cs) j full h),
           at_left (λ c. lectures p c + 1) (λ c. slack p c + 1) cs g.courses j h,
         ));
   }

@@ -15,7 +15,8 @@ use Rattle.tt_groups_week.specs.Steps.{step_of, IsMadeFrom}
 use Rattle.tt_groups_week.proofs.Listing.{list_start, list_next, list_end}
 use Rattle.tt_groups_week.proofs.Reaching.{IsReachedPlace, reached_next, reached_plan}
 
-module _ (p : Problem) (g : Group) (cs sizes weights : List ℕ) (courses b : ℕ) (lists : List (Vec Move Global)) (of_day : List ℕ) (s : Suits p g cs sizes weights courses b lists of_day) where
+module _ (p : Problem) (g : Group) (cs sizes weights : List ℕ) (courses b : ℕ) (lists : List (Vec Move Global)) (of_day : List ℕ)
+    (s : Suits p g cs sizes weights courses b lists of_day) where
   -- the table has at least as many places as the sizes give
   long_enough : (table : List ℕ) → places sizes ≤ length table → places (group_sizes p g cs) ≤ length table
   long_enough table h = subst (λ n. places n ≤ length table) s.sizes_are h
@@ -27,24 +28,30 @@ module _ (p : Problem) (g : Group) (cs sizes weights : List ℕ) (courses b : �
   suits_start table h = list_start p g cs s.group b table h
 
   -- the moves of a day
-  pub moves_on : (d : ℕ) (v : Vec Move Global) → d < length of_day → v ≡ get_or lists (slice_index of_day d) v → AreMovesOn p g cs (group_sizes p g cs) (weights_from 1 (group_sizes p g cs)) (length cs) b d v.items
+  pub moves_on : (d : ℕ) (v : Vec Move Global) → d < length of_day → v ≡ get_or lists (slice_index of_day d) v
+      → AreMovesOn p g cs (group_sizes p g cs) (weights_from 1 (group_sizes p g cs)) (length cs) b d v.items
   moves_on d v h is =
       let a = subst (λ (x : Vec Move Global). AreMovesOn p g cs sizes weights courses b d x.items) (sym is) (s.each_day d v h) in
       let e = subst (λ (n : List ℕ). AreMovesOn p g cs n weights courses b d v.items) s.sizes_are a in
       let c = subst (λ (n : List ℕ). AreMovesOn p g cs (group_sizes p g cs) n courses b d v.items) weights_is e in
       subst (λ (n : ℕ). AreMovesOn p g cs (group_sizes p g cs) (weights_from 1 (group_sizes p g cs)) n b d v.items) s.courses_are c
 
-  pub suits_next : (d : ℕ) (v : Vec Move Global) (table next : List ℕ) → d < length of_day → v ≡ get_or lists (slice_index of_day d) v → places sizes ≤ length table → IsWeekList p g cs b d table
-      → ((k : ℕ) → k < length table → slice_index table k < b → All (Relaxed sizes weights courses b k (slice_index table k) next) v.items) → IsWeekList p g cs b (d + 1) next
+  pub suits_next : (d : ℕ) (v : Vec Move Global) (table next : List ℕ) → d < length of_day → v ≡ get_or lists (slice_index of_day d) v
+      → places sizes ≤ length table → IsWeekList p g cs b d table
+      → ((k : ℕ) → k < length table → slice_index table k < b
+      → All (Relaxed sizes weights courses b k (slice_index table k) next) v.items) → IsWeekList p g cs b (d + 1) next
   suits_next d v table next h is long before relaxed =
       let here = moves_on d v h is in
       list_next p g cs s.group b d here.0 v.items table next (omega (arith, h, s.all_days)) (long_enough table long) here.1 here.2 before
       (λ k l less.
-      let c = subst (λ (n : List ℕ). All (Relaxed n weights courses b k (slice_index table k) next) v.items) s.sizes_are (relaxed k l less) in
+      let c = subst (λ (n : List ℕ). All (Relaxed n weights courses b k (slice_index table k) next) v.items) s.sizes_are
+      (relaxed k l less) in
       let e = subst (λ (n : List ℕ). All (Relaxed (group_sizes p g cs) n courses b k (slice_index table k) next) v.items) weights_is c in
-      subst (λ (n : ℕ). All (Relaxed (group_sizes p g cs) (weights_from 1 (group_sizes p g cs)) n b k (slice_index table k) next) v.items) s.courses_are e)
+      subst (λ (n : ℕ). All (Relaxed (group_sizes p g cs) (weights_from 1 (group_sizes p g cs)) n b k (slice_index table k) next)
+      v.items) s.courses_are e)
 
-  pub suits_end : (d : ℕ) (table : List ℕ) → d ≡ length of_day → places sizes ≤ length table → IsWeekList p g cs b d table → IsHighList sizes weights courses b table → IsGroupBound p g (base_cost p g + b)
+  pub suits_end : (d : ℕ) (table : List ℕ) → d ≡ length of_day → places sizes ≤ length table → IsWeekList p g cs b d table
+      → IsHighList sizes weights courses b table → IsGroupBound p g (base_cost p g + b)
   suits_end d table e long last high =
       let c = subst (λ (n : List ℕ). IsHighList n weights courses b table) s.sizes_are high in
       let h = subst (λ (n : List ℕ). IsHighList (group_sizes p g cs) n courses b table) weights_is c in
@@ -54,7 +61,8 @@ module _ (p : Problem) (g : Group) (cs sizes weights : List ℕ) (courses b : �
   -- -- possible weeks
 
   -- a day's moves lead from reached places to reached places
-  pub suits_reached : (d : ℕ) (v : Vec Move Global) (table : List ℕ) → d < length of_day → v ≡ get_or lists (slice_index of_day d) v → AreReached p g cs lists of_day
+  pub suits_reached : (d : ℕ) (v : Vec Move Global) (table : List ℕ) → d < length of_day → v ≡ get_or lists (slice_index of_day d) v
+      → AreReached p g cs lists of_day
       → ((k : ℕ) → k < length table → slice_index table k < b → IsReachedPlace p g cs d k (slice_index table k))
       → (k n : ℕ) → IsMadeFrom sizes weights courses v.items b table k n → IsReachedPlace p g cs (d + 1) k n
   suits_reached d v table h is reached before k n from =
@@ -65,12 +73,16 @@ module _ (p : Problem) (g : Group) (cs sizes weights : List ℕ) (courses b : �
       let c = subst (λ (ns : List ℕ). Leads ns weights courses) s.sizes_are from.made.leads in
       let e = subst (λ (ws : List ℕ). Leads (group_sizes p g cs) ws courses) weights_is c in
       let leads = subst (λ (m : ℕ). Leads (group_sizes p g cs) (weights_from 1 (group_sizes p g cs)) m) s.courses_are e in
-      let next = reached_next p g cs s.group d from.place paid (before from.place from.inside from.cheap) by.entry today from.made.step leads in
-      subst (λ (m : ℕ). IsReachedPlace p g cs (d + 1) m n) (sym from.made.reached) (subst (IsReachedPlace p g cs (d + 1) from.made.step.place) (sym from.made.value) next)
+      let next = reached_next p g cs s.group d from.place paid (before from.place from.inside from.cheap) by.entry today from.made.step
+      leads in
+      subst (λ (m : ℕ). IsReachedPlace p g cs (d + 1) m n) (sym from.made.reached)
+      (subst (IsReachedPlace p g cs (d + 1) from.made.step.place) (sym from.made.value) next)
 
   -- a full place that costs less than b is the place of a plan that costs less than b
-  pub suits_fails : (d : ℕ) (table : List ℕ) → d ≡ length of_day → ((k : ℕ) → k < length table → slice_index table k < b → IsReachedPlace p g cs d k (slice_index table k))
-      → (k : ℕ) → is_full sizes weights courses k ≡ true → k < length table → slice_index table k < b → (week : Week) × IsPlan p g week × (spent p g week p.days < b)
+  pub suits_fails : (d : ℕ) (table : List ℕ) → d ≡ length of_day
+      → ((k : ℕ) → k < length table → slice_index table k < b → IsReachedPlace p g cs d k (slice_index table k))
+      → (k : ℕ) → is_full sizes weights courses k ≡ true → k < length table → slice_index table k < b → (week : Week) × IsPlan p g week
+      × (spent p g week p.days < b)
   suits_fails d table e reached k full inside cheap =
       let at = subst (λ (n : ℕ). IsReachedPlace p g cs n k (slice_index table k)) (e ∙ s.all_days) (reached k inside cheap) in
       let c = subst (λ (ns : List ℕ). is_full ns weights courses k ≡ true) s.sizes_are full in

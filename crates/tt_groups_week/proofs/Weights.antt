@@ -27,7 +27,8 @@ weight_positive m (n ∷ ns) some h (suc j) k =
     weight_positive (m * n) ns (some_later n ns some) (omega (arith, mul-le-mul_right m first)) j (omega (arith, k))
 
 -- a digit's size times its weight is no more than the number of places
-pub weight_within : (m : ℕ) (ns : List ℕ) → AreSome ns → (j : ℕ) → j < length ns → slice_index ns j * slice_index (weights_from m ns) j ≤ m * places ns
+pub weight_within : (m : ℕ) (ns : List ℕ) → AreSome ns → (j : ℕ) → j < length ns
+    → slice_index ns j * slice_index (weights_from m ns) j ≤ m * places ns
 weight_within m [] some j k = absurd (omega arith)
 weight_within m (n ∷ ns) some zero k =
     let one : 1 ≤ places ns = places_positive ns (some_later n ns some) in
@@ -54,7 +55,8 @@ places-take (suc i) (n ∷ ns) some = omega (arith, mul-le-mul_right n (places-t
 
 -- ---- digits
 
-pub are_digits : (sizes weights : List ℕ) (courses count : ℕ) → length sizes ≤ 32 → courses ≤ length sizes → courses ≤ 16 → AreSome sizes → ((j : ℕ) → j < length sizes → slice_index sizes j ≤ 256)
+pub are_digits : (sizes weights : List ℕ) (courses count : ℕ) → length sizes ≤ 32 → courses ≤ length sizes → courses ≤ 16
+    → AreSome sizes → ((j : ℕ) → j < length sizes → slice_index sizes j ≤ 256)
     → weights ≡ weights_from 1 sizes → count ≡ places sizes → count ≤ 1048576 → AreDigits sizes weights courses count
 are_digits sizes weights courses count at_most own narrow some small weighed counted limited = record {
   at_most = at_most;
@@ -71,10 +73,12 @@ are_digits sizes weights courses count at_most own narrow some small weighed cou
 }
 
 -- another weight
-pub weights-more : (ns : List ℕ) (i : ℕ) → i < length ns → weights_from 1 (take i ns) ++ places (take i ns) ∷ [] ≡ weights_from 1 (take (i + 1) ns)
+pub weights-more : (ns : List ℕ) (i : ℕ) → i < length ns → weights_from 1 (take i ns) ++ places (take i ns) ∷ [] ≡ weights_from 1
+    (take (i + 1) ns)
 weights-more ns i h =
     let e : places (take i ns) ≡ 1 * places (take i ns) = omega arith in
-    ap (λ z. weights_from 1 (take i ns) ++ z ∷ []) e ∙ sym (weights_from-snoc 1 (take i ns) (slice_index ns i)) ∙ ap (weights_from 1) (sym (take_more ns i 0 h))
+    ap (λ z. weights_from 1 (take i ns) ++ z ∷ []) e ∙ sym (weights_from-snoc 1 (take i ns) (slice_index ns i))
+    ∙ ap (weights_from 1) (sym (take_more ns i 0 h))
 
 pub places-more : (ns : List ℕ) (i : ℕ) → i < length ns → places (take i ns) * slice_index ns i ≡ places (take (i + 1) ns)
 places-more ns i h = sym (places-snoc (take i ns) (slice_index ns i)) ∙ ap places (sym (take_more ns i 0 h))

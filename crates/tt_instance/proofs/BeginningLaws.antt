@@ -63,7 +63,8 @@ module _ (at end other : ℕ) where
   -- a number below a bound
   below_alike : (bound : ℕ) → Reads (λ e. below_at e bound)
   unfolding below_at
-  below_alike bound = then_token _ _ _ _ refl (λ t n. then_verdict _ _ _ _ (ranged_same t n (number_of (bound - 1) t.text)) (λ v. ok_reads v))
+  below_alike bound = then_token _ _ _ _ refl (λ t n. then_verdict _ _ _ _ (ranged_same t n (number_of (bound - 1) t.text))
+      (λ v. ok_reads v))
 
   -- the verdicts on a name that must be new
   new_test_same : (t : Placed) (n : ℕ) (old : Bool) → SameVerdict token_offset at (t.at ≢ at) (new_test t.at old) (new_test n old)
@@ -82,7 +83,8 @@ module _ (at end other : ℕ) where
   unfolding course_at
   course_alike before =
       then_token _ _ _ _ refl (λ id n. then_verdict _ _ _ _ (new_test_same id n _) (λ new. then_token _ _ _ _ refl (λ teacher m.
-      then_reads _ _ (on_condition (limited_alike _)) (λ lectures. then_reads _ _ (limited_alike _) (λ min_days. then_reads _ _ (limited_alike _) (λ students. ok_reads _))))))
+      then_reads _ _ (on_condition (limited_alike _))
+      (λ lectures. then_reads _ _ (limited_alike _) (λ min_days. then_reads _ _ (limited_alike _) (λ students. ok_reads _))))))
 
   -- this many more courses
   courses_alike : (n : ℕ) (before : List Course) → Reads (λ e. courses_at e n before)
@@ -93,7 +95,10 @@ module _ (at end other : ℕ) where
   -- another room
   room_alike : (before : List Room) → Reads (λ e. room_at e before)
   unfolding room_at
-  room_alike before = then_token _ _ _ _ refl (λ id n. then_verdict _ _ _ _ (new_test_same id n _) (λ new. then_reads _ _ (on_condition (limited_alike _)) (λ capacity. ok_reads _)))
+  room_alike before =
+      then_token _ _ _ _ refl
+      (λ id n. then_verdict _ _ _ _ (new_test_same id n _)
+      (λ new. then_reads _ _ (on_condition (limited_alike _)) (λ capacity. ok_reads _)))
 
   -- this many more rooms
   rooms_alike : (n : ℕ) (before : List Room) → Reads (λ e. rooms_at e n before)
@@ -133,34 +138,45 @@ module _ (at end other : ℕ) where
   curricula_alike ids (suc n) before = then_reads _ _ (curriculum_alike ids before) (λ more. curricula_alike ids n more)
 
   -- another unavailability
-  unavailability_alike : (ids : List (List ℕ)) (days periods : ℕ) (before : List Unavailability) → Reads (λ e. unavailability_at e ids days periods before)
+  unavailability_alike : (ids : List (List ℕ)) (days periods : ℕ) (before : List Unavailability)
+      → Reads (λ e. unavailability_at e ids days periods before)
   unfolding unavailability_at
-  unavailability_alike ids days periods before = then_reads _ _ (named_alike ids) (λ course. then_reads _ _ (below_alike days) (λ day. then_reads _ _ (below_alike periods) (λ period. ok_reads _)))
+  unavailability_alike ids days periods before =
+      then_reads _ _ (named_alike ids)
+      (λ course. then_reads _ _ (below_alike days) (λ day. then_reads _ _ (below_alike periods) (λ period. ok_reads _)))
 
   -- this many more unavailabilities
-  unavailabilities_alike : (ids : List (List ℕ)) (days periods n : ℕ) (before : List Unavailability) → Reads (λ e. unavailabilities_at e ids days periods n before)
+  unavailabilities_alike : (ids : List (List ℕ)) (days periods n : ℕ) (before : List Unavailability)
+      → Reads (λ e. unavailabilities_at e ids days periods n before)
   unfolding unavailabilities_at
   unavailabilities_alike ids days periods zero before = ok_reads before
-  unavailabilities_alike ids days periods (suc n) before = then_reads _ _ (unavailability_alike ids days periods before) (λ more. unavailabilities_alike ids days periods n more)
+  unavailabilities_alike ids days periods (suc n) before = then_reads _ _ (unavailability_alike ids days periods before)
+      (λ more. unavailabilities_alike ids days periods n more)
 
   -- ---- the name and the header
 
   -- the name ends here, or goes on
-  name_test_stays : (before : List (List ℕ)) (ts : List Placed) (last : Bool) (more : Result (List (List ℕ) × List Placed) InstanceFault) → NoneAt at ts
-      → Stays token_offset at (NoneLeft token_offset at) more → Stays token_offset at (NoneLeft token_offset at) (cond last (Ok (before, ts)) more)
+  name_test_stays : (before : List (List ℕ)) (ts : List Placed) (last : Bool)
+      (more : Result (List (List ℕ) × List Placed) InstanceFault) → NoneAt at ts
+      → Stays token_offset at (NoneLeft token_offset at) more → Stays token_offset at (NoneLeft token_offset at)
+      (cond last (Ok (before, ts)) more)
   name_test_stays before ts true more none stays = none
   name_test_stays before ts false more none stays = stays
 
   -- reading a name whose tokens are not at the offset of the fault
-  name_stays : (before : List (List ℕ)) (ts : List Placed) → NoneAt at ts → Stays token_offset at (NoneLeft token_offset at) (name_at end before ts)
+  name_stays : (before : List (List ℕ)) (ts : List Placed) → NoneAt at ts → Stays token_offset at (NoneLeft token_offset at)
+      (name_at end before ts)
   unfolding name_at
   name_stays before [] none = λ e. cc
-  name_stays before (t ∷ ts) none = name_test_stays before ts (is_text (word_text word.Courses) t.text) _ none.1 (name_stays (before ++ t.text ∷ []) ts none.1)
+  name_stays before (t ∷ ts) none = name_test_stays before ts (is_text (word_text word.Courses) t.text) _ none.1
+      (name_stays (before ++ t.text ∷ []) ts none.1)
 
   -- the name ends here in both, or goes on in both
-  name_test_joins : (before : List (List ℕ)) (ts us : List Placed) (last : Bool) (more also : Result (List (List ℕ) × List Placed) InstanceFault) → Shared at ts us
+  name_test_joins : (before : List (List ℕ)) (ts us : List Placed) (last : Bool)
+      (more also : Result (List (List ℕ) × List Placed) InstanceFault) → Shared at ts us
       → Joins token_offset at (NoneLeft token_offset at) (SharedLeft token_offset at) more also
-      → Joins token_offset at (NoneLeft token_offset at) (SharedLeft token_offset at) (cond last (Ok (before, ts)) more) (cond last (Ok (before, us)) also)
+      → Joins token_offset at (NoneLeft token_offset at) (SharedLeft token_offset at) (cond last (Ok (before, ts)) more)
+      (cond last (Ok (before, us)) also)
   name_test_joins before ts us true more also shared joins = ok_joins token_offset at before ts us shared
   name_test_joins before ts us false more also shared joins = joins
 
@@ -168,9 +184,11 @@ module _ (at end other : ℕ) where
   name_joins : (before : List (List ℕ)) (ts us : List Placed) → Shared at ts us
       → Joins token_offset at (NoneLeft token_offset at) (SharedLeft token_offset at) (name_at end before ts) (name_at other before us)
   unfolding name_at
-  name_joins before ts us (Apart none) = stays_joins token_offset at (NoneLeft token_offset at) (SharedLeft token_offset at) _ _ (name_stays before ts none)
+  name_joins before ts us (Apart none) = stays_joins token_offset at (NoneLeft token_offset at) (SharedLeft token_offset at) _ _
+      (name_stays before ts none)
   name_joins before ts us (Next {t} {ts = rest} {us = others} n shared) =
-      name_test_joins before rest others (is_text (word_text word.Courses) t.text) _ _ shared (name_joins (before ++ t.text ∷ []) rest others shared)
+      name_test_joins before rest others (is_text (word_text word.Courses) t.text) _ _ shared
+      (name_joins (before ++ t.text ∷ []) rest others shared)
 
   -- the name
   name_alike : (before : List (List ℕ)) → Reads (λ e. name_at e before)
@@ -185,13 +203,16 @@ module _ (at end other : ℕ) where
   days_alike : Reads days_at
   unfolding days_at
   days_alike =
-      then_skips _ _ (word_alike word.Days) (then_token _ _ _ _ refl (λ t n. then_verdict _ _ _ _ (numbered_same t n (number_of MAX_DAYS t.text)) (λ v. if_reads _ (err_reads _ _ (other_offset at t.at)) (ok_reads v))))
+      then_skips _ _ (word_alike word.Days)
+      (then_token _ _ _ _ refl (λ t n. then_verdict _ _ _ _ (numbered_same t n (number_of MAX_DAYS t.text))
+      (λ v. if_reads _ (err_reads _ _ (other_offset at t.at)) (ok_reads v))))
 
   -- the periods of a day
   periods_alike : (pairs days : ℕ) → Reads (λ e. periods_at e pairs days)
   unfolding periods_at
   periods_alike pairs days =
-      then_skips _ _ (word_alike word.PeriodsPerDay) (then_token _ _ _ _ refl (λ t n. then_verdict _ _ _ _ (numbered_same t n (number_of MAX_PERIODS t.text)) (λ v.
+      then_skips _ _ (word_alike word.PeriodsPerDay)
+      (then_token _ _ _ _ refl (λ t n. then_verdict _ _ _ _ (numbered_same t n (number_of MAX_PERIODS t.text)) (λ v.
       if_reads (nat_lt MAX_SLOTS (days * v)) (err_reads (fault.OverLimit t.at) (fault.OverLimit n) (other_offset at t.at))
       (if_reads (nat_lt MAX_CELLS (pairs * (days * v))) (err_reads (fault.OverLimit t.at) (fault.OverLimit n) (other_offset at t.at))
       (if_reads (v == 0) (err_reads (fault.OutOfRange t.at) (fault.OutOfRange n) (other_offset at t.at)) (ok_reads v))))))
@@ -200,8 +221,11 @@ module _ (at end other : ℕ) where
   header_alike : Reads header_at
   unfolding header_at
   header_alike =
-      then_reads _ _ (limited_alike _) (λ courses. then_reads _ _ (counted_alike word.Rooms _) (λ rooms. then_reads _ _ days_alike (λ days. then_reads _ _ (periods_alike _ days) (λ periods.
-      then_reads _ _ (counted_alike word.Curricula _) (λ curricula. then_reads _ _ (counted_alike word.Constraints _) (λ unavailabilities. ok_reads _))))))
+      then_reads _ _ (limited_alike _)
+      (λ courses. then_reads _ _ (counted_alike word.Rooms _)
+      (λ rooms. then_reads _ _ days_alike (λ days. then_reads _ _ (periods_alike _ days) (λ periods.
+      then_reads _ _ (counted_alike word.Curricula _)
+      (λ curricula. then_reads _ _ (counted_alike word.Constraints _) (λ unavailabilities. ok_reads _))))))
 
   -- -- the sections, and the whole instance
 
@@ -217,13 +241,15 @@ module _ (at end other : ℕ) where
   unfolding groups_at
   groups_alike counts ids =
       then_skips _ _ (word_alike word.CurriculaPart) (then_reads _ _ (curricula_alike ids counts.curricula []) (λ curricula.
-      then_skips _ _ (word_alike word.UnavailabilityPart) (then_reads _ _ (unavailabilities_alike ids counts.days counts.periods counts.unavailabilities []) (λ unavailabilities.
+      then_skips _ _ (word_alike word.UnavailabilityPart)
+      (then_reads _ _ (unavailabilities_alike ids counts.days counts.periods counts.unavailabilities []) (λ unavailabilities.
       then_skips _ _ (word_alike word.End) (ok_reads _)))))
 
   -- all sections after the header
   sections_alike : (counts : Counts) → Reads (λ e. sections_at e counts)
   unfolding sections_at
-  sections_alike counts = then_reads _ _ (places_alike counts) (λ places. then_reads _ _ (groups_alike counts (ids_of places.0)) (λ groups. ok_reads _))
+  sections_alike counts = then_reads _ _ (places_alike counts)
+      (λ places. then_reads _ _ (groups_alike counts (ids_of places.0)) (λ groups. ok_reads _))
 
 -- the instance of these tokens, for a text that ends at this offset
 abbrev pub instance_from : ℕ → List Placed → Result Problem InstanceFault
@@ -256,14 +282,18 @@ read_from bytes = refl
 -- -- the meaning of a fault at a token
 
 -- a token of the bytes begins at the offset of the fault
-pub fault_stands : (bytes : List ℕ) (e : InstanceFault) (at : ℕ) → instance_of bytes ≡ Err e → token_offset e ≡ Some at → Any (λ t. t.at ≡ at) (tokens_of bytes)
+pub fault_stands : (bytes : List ℕ) (e : InstanceFault) (at : ℕ) → instance_of bytes ≡ Err e → token_offset e ≡ Some at
+    → Any (λ t. t.at ≡ at) (tokens_of bytes)
 fault_stands bytes e at failed offset_of =
     let end : ℕ = length bytes in
-    fault_at_token token_offset at (instance_from end) (instance_from end) (instance_alike at end end) (tokens_of bytes) e (sym (read_from bytes) ∙ failed) offset_of
+    fault_at_token token_offset at (instance_from end) (instance_from end) (instance_alike at end end) (tokens_of bytes) e
+    (sym (read_from bytes) ∙ failed) offset_of
 
 -- bytes that begin the same way spell no instance
-pub fault_stays : (bytes other : List ℕ) (e : InstanceFault) (at : ℕ) → instance_of bytes ≡ Err e → token_offset e ≡ Some at → BeginsAs at bytes other → (p : Problem) → ¬ Spells other p
+pub fault_stays : (bytes other : List ℕ) (e : InstanceFault) (at : ℕ) → instance_of bytes ≡ Err e → token_offset e ≡ Some at
+    → BeginsAs at bytes other → (p : Problem) → ¬ Spells other p
 fault_stays bytes other e at failed offset_of begins p spelled =
     let end : ℕ = length bytes in
-    fault_of_all token_offset at (instance_from end) (instance_from (length other)) (instance_alike at end (length other)) (tokens_of bytes) e (sym (read_from bytes) ∙ failed) offset_of
+    fault_of_all token_offset at (instance_from end) (instance_from (length other)) (instance_alike at end (length other))
+    (tokens_of bytes) e (sym (read_from bytes) ∙ failed) offset_of
     (tokens_of other) (begins_shared at bytes other begins) p (sym (read_from other) ∙ is_read other p spelled)

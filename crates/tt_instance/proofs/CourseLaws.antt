@@ -23,7 +23,8 @@ abbrev pub CoursesTaken : ℕ → List Placed → List Course × List Placed →
 CoursesTaken n ts x = ManyTaken (λ cs. cs) course_pieces IsNextCourse n [] ts x
 
 -- one course that was read is spelled
-course_takes : (end : ℕ) (before : List Course) (ts : List Placed) (x : List Course × List Placed) → lectures_of before ≤ 4096 → course_at end before ts ≡ Ok x → OneTaken (λ cs. cs) course_pieces IsNextCourse before ts x
+course_takes : (end : ℕ) (before : List Course) (ts : List Placed) (x : List Course × List Placed) → lectures_of before ≤ 4096
+    → course_at end before ts ≡ Ok x → OneTaken (λ cs. cs) course_pieces IsNextCourse before ts x
 unfolding course_at
 course_takes end before ts x fits e =
     let id = bind_ok (token_at end ts) _ x e in
@@ -35,7 +36,13 @@ course_takes end before ts x fits e =
     let l = limited_takes end (4096 - lectures_of before) teacher.0.1 lectures.0 lectures.1 in
     let m = limited_takes end 512 lectures.0.1 min_days.0 min_days.1 in
     let s = limited_takes end 1000000 min_days.0.1 students.0 students.1 in
-    let c : Course = record { id = id.0.0.text; teacher = teacher.0.0.text; lectures = lectures.0.0; min_days = min_days.0.0; students = students.0.0 } in
+    let c : Course = record {
+      id = id.0.0.text;
+      teacher = teacher.0.0.text;
+      lectures = lectures.0.0;
+      min_days = min_days.0.0;
+      students = students.0.0;
+    } in
     let pieces : Takes ts (course_pieces c) students.0.1 =
     takes_then _ _ _ _ _ (text_takes end ts id.0 id.1)
     (takes_then _ _ _ _ _ (text_takes end id.0.1 teacher.0 teacher.1) (takes_then _ _ _ _ _ l.0 (takes_then _ _ _ _ _ m.0 s.0))) in
@@ -43,7 +50,8 @@ course_takes end before ts x fits e =
     (record { item = c; list = refl; next = record { fresh = g.0; lectures = omega (arith, l.1, fits); is = (m.1, s.1) }; takes = pieces })
 
 -- one course that is spelled is read
-course_reads : (end : ℕ) (before : List Course) (ts : List Placed) (c : Course) (qs : List Piece) (rest : List Placed) → IsNextCourse before c → Begins (course_pieces c ++ qs) ts rest
+course_reads : (end : ℕ) (before : List Course) (ts : List Placed) (c : Course) (qs : List Piece) (rest : List Placed)
+    → IsNextCourse before c → Begins (course_pieces c ++ qs) ts rest
     → ReadsOn (course_at end before ts) (before ++ c ∷ []) qs rest
 unfolding course_at
 course_reads end before ts c qs rest next h =
@@ -57,16 +65,28 @@ course_reads end before ts c qs rest next h =
     let min_days = limited_reads end 512 lectures.mid c.min_days q3 rest next.is.0 lectures.left in
     let students = limited_reads end 1000000 min_days.mid c.students qs rest next.is.1 min_days.left in
     let fresh : has_name (ids_of before) id.token.0.text ≡ false = ap (has_name (ids_of before)) id.piece ∙ next.fresh in
-    let made : done {A = List Course × List Placed} (before ++ record { id = id.token.0.text; teacher = teacher.token.0.text; lectures = c.lectures; min_days = c.min_days; students = c.students } ∷ [], students.mid) ≡ Ok (before ++ c ∷ [], students.mid) = rw (id.piece, teacher.piece) refl in
+    let made : done {A = List Course × List Placed} (
+      before ++ record {
+        id = id.token.0.text;
+        teacher = teacher.token.0.text;
+        lectures = c.lectures;
+        min_days = c.min_days;
+        students = c.students;
+      } ∷ [],
+      students.mid,
+    ) ≡ Ok (before ++ c ∷ [], students.mid) = rw (id.piece, teacher.piece) refl in
     record { mid = students.mid; is = rw (id.is, fresh, teacher.is, lectures.is, min_days.is, students.is) made; left = students.left }
 
 -- this many courses that were read are spelled
 pub courses_take : (end n : ℕ) (ts : List Placed) (x : List Course × List Placed) → courses_at end n [] ts ≡ Ok x → CoursesTaken n ts x
 courses_take end n ts x e =
     series_takes (λ cs. cs) course_pieces IsNextCourse (λ cs. lectures_of cs ≤ 4096) (course_at end) (courses_at end) (courses_repeat end)
-    (course_takes end) (λ before c fits next. omega (arith, sum_by_push (λ (c : Course). c.lectures) before c, next.lectures)) n [] ts x (omega arith) e
+    (course_takes end) (λ before c fits next. omega (arith, sum_by_push (λ (c : Course). c.lectures) before c, next.lectures)) n [] ts x
+    (omega arith) e
 
 -- courses that are spelled are read
-pub courses_read : (end : ℕ) (ts : List Placed) (cs : List Course) (qs : List Piece) (rest : List Placed) → EachAfter IsNextCourse [] cs → Begins (flat_map course_pieces cs ++ qs) ts rest
+pub courses_read : (end : ℕ) (ts : List Placed) (cs : List Course) (qs : List Piece) (rest : List Placed) → EachAfter IsNextCourse [] cs
+    → Begins (flat_map course_pieces cs ++ qs) ts rest
     → ReadsOn (courses_at end (length cs) [] ts) cs qs rest
-courses_read end ts cs qs rest each h = series_reads (λ l. l) course_pieces IsNextCourse (course_at end) (courses_at end) (courses_repeat end) (course_reads end) [] ts cs qs rest each h
+courses_read end ts cs qs rest each h = series_reads (λ l. l) course_pieces IsNextCourse (course_at end) (courses_at end)
+    (courses_repeat end) (course_reads end) [] ts cs qs rest each h

@@ -35,7 +35,8 @@ module _ (end : ℕ) (cs : List Course) where
   CurriculaTaken n ts x = ManyTaken all_kept (curriculum_pieces cs) (IsNextCurriculum (length cs)) n [] ts x
 
   -- one curriculum that was read is spelled
-  curriculum_takes : (before : List Curriculum) (ts : List Placed) (x : List Curriculum × List Placed) → Unit {0} → curriculum_at end (ids_of cs) (all_kept before) ts ≡ Ok x
+  curriculum_takes : (before : List Curriculum) (ts : List Placed) (x : List Curriculum × List Placed) → Unit {0}
+      → curriculum_at end (ids_of cs) (all_kept before) ts ≡ Ok x
       → OneTaken all_kept (curriculum_pieces cs) (IsNextCurriculum (length cs)) before ts x
   unfolding curriculum_at
   curriculum_takes before ts x _ e =
@@ -47,22 +48,28 @@ module _ (end : ℕ) (cs : List Course) where
       let m = members_take end cs count.0.0 count.0.1 members.0 members.1 in
       let q : Curriculum = record { id = id.0.0.text; members = m.listed } in
       let fresh : has_name (curriculum_ids_of before) q.id ≡ false = ap (λ names. has_name names q.id) (sym (ids_kept before)) ∙ g.0 in
-      let counted : Takes id.0.1 (Number (length m.listed) ∷ []) count.0.1 = subst (λ k. Takes id.0.1 (Number k ∷ []) count.0.1) (sym m.len) n.0 in
-      let pieces : Takes ts (curriculum_pieces cs q) members.0.1 = takes_then _ _ _ _ _ (text_takes end ts id.0 id.1) (takes_then _ _ _ _ _ counted m.takes) in
+      let counted : Takes id.0.1 (Number (length m.listed) ∷ []) count.0.1 = subst (λ k. Takes id.0.1 (Number k ∷ []) count.0.1)
+      (sym m.len) n.0 in
+      let pieces : Takes ts (curriculum_pieces cs q) members.0.1 = takes_then _ _ _ _ _ (text_takes end ts id.0 id.1)
+      (takes_then _ _ _ _ _ counted m.takes) in
       let list : all_kept before ++ record { id = q.id; members = members.0.0 } ∷ [] ≡ all_kept (before ++ q ∷ []) =
       ap (λ ms. all_kept before ++ record { id = q.id; members = ms } ∷ []) m.list ∙ sym (map_push without_repeated_members before q) in
-      subst (OneTaken all_kept (curriculum_pieces cs) (IsNextCurriculum (length cs)) before ts) (ok_is (all_kept before ++ record { id = q.id; members = members.0.0 } ∷ [], members.0.1) x members.2)
+      subst (OneTaken all_kept (curriculum_pieces cs) (IsNextCurriculum (length cs)) before ts)
+      (ok_is (all_kept before ++ record { id = q.id; members = members.0.0 } ∷ [], members.0.1) x members.2)
       (record { item = q; list = list; next = record { fresh = fresh; is = (omega (arith, m.len, n.1), m.each) }; takes = pieces })
 
   -- this many curricula that were read are spelled
-  pub curricula_take : (n : ℕ) (ts : List Placed) (x : List Curriculum × List Placed) → curricula_at end (ids_of cs) n [] ts ≡ Ok x → CurriculaTaken n ts x
+  pub curricula_take : (n : ℕ) (ts : List Placed) (x : List Curriculum × List Placed) → curricula_at end (ids_of cs) n [] ts ≡ Ok x
+      → CurriculaTaken n ts x
   curricula_take n ts x e =
-      series_takes all_kept (curriculum_pieces cs) (IsNextCurriculum (length cs)) (λ _. Unit {0}) (curriculum_at end (ids_of cs)) (curricula_at end (ids_of cs)) (curricula_repeat end (ids_of cs)) curriculum_takes
+      series_takes all_kept (curriculum_pieces cs) (IsNextCurriculum (length cs)) (λ _. Unit {0}) (curriculum_at end (ids_of cs))
+      (curricula_at end (ids_of cs)) (curricula_repeat end (ids_of cs)) curriculum_takes
       (λ before q fits next. tt) n [] ts x tt e
 
   module _ (apart : AreNamed cs) where
     -- one curriculum that is spelled is read
-    curriculum_reads : (before : List Curriculum) (ts : List Placed) (q : Curriculum) (qs : List Piece) (rest : List Placed) → IsNextCurriculum (length cs) before q → Begins (curriculum_pieces cs q ++ qs) ts rest
+    curriculum_reads : (before : List Curriculum) (ts : List Placed) (q : Curriculum) (qs : List Piece) (rest : List Placed)
+        → IsNextCurriculum (length cs) before q → Begins (curriculum_pieces cs q ++ qs) ts rest
         → ReadsOn (curriculum_at end (ids_of cs) (all_kept before) ts) (all_kept (before ++ q ∷ [])) qs rest
     unfolding curriculum_at
     curriculum_reads before ts q qs rest next h =
@@ -70,14 +77,23 @@ module _ (end : ℕ) (cs : List Course) where
         let id = has_piece (fault.Ended end) ts (Text q.id) (Number (length q.members) ∷ after_count) rest h in
         let count = limited_reads end 4096 id.token.1 (length q.members) after_count rest next.is.0 id.left in
         let members = members_read end cs apart count.mid q.members qs rest next.is.1 count.left in
-        let fresh : has_name (curriculum_ids_of (all_kept before)) id.token.0.text ≡ false = ap (has_name (curriculum_ids_of (all_kept before))) id.piece ∙ ap (λ names. has_name names q.id) (ids_kept before) ∙ next.fresh in
-        let made : done {A = List Curriculum × List Placed} (all_kept before ++ record { id = id.token.0.text; members = once q.members } ∷ [], members.mid) ≡ Ok (all_kept (before ++ q ∷ []), members.mid) =
-        ap (λ name. done {A = List Curriculum × List Placed} (all_kept before ++ record { id = name; members = once q.members } ∷ [], members.mid)) id.piece
+        let fresh : has_name (curriculum_ids_of (all_kept before)) id.token.0.text ≡ false =
+        ap (has_name (curriculum_ids_of (all_kept before))) id.piece ∙ ap (λ names. has_name names q.id) (ids_kept before)
+        ∙ next.fresh in
+        let made : done {A = List Curriculum × List Placed}
+        (all_kept before ++ record { id = id.token.0.text; members = once q.members } ∷ [], members.mid) ≡ Ok
+        (all_kept (before ++ q ∷ []), members.mid) =
+        ap (λ name. done {A = List Curriculum × List Placed} (
+          all_kept before ++ record { id = name; members = once q.members } ∷ [],
+          members.mid,
+        )) id.piece
         ∙ ap (λ l. done {A = List Curriculum × List Placed} (l, members.mid)) (sym (map_push without_repeated_members before q)) in
         record { mid = members.mid; is = rw (id.is, fresh, count.is, members.is) made; left = members.left }
 
     -- curricula that are spelled are read
-    pub curricula_read : (ts : List Placed) (qs : List Curriculum) (ps : List Piece) (rest : List Placed) → EachAfter (IsNextCurriculum (length cs)) [] qs → Begins (flat_map (curriculum_pieces cs) qs ++ ps) ts rest
+    pub curricula_read : (ts : List Placed) (qs : List Curriculum) (ps : List Piece) (rest : List Placed)
+        → EachAfter (IsNextCurriculum (length cs)) [] qs → Begins (flat_map (curriculum_pieces cs) qs ++ ps) ts rest
         → ReadsOn (curricula_at end (ids_of cs) (length qs) [] ts) (all_kept qs) ps rest
     curricula_read ts qs ps rest next h =
-        series_reads all_kept (curriculum_pieces cs) (IsNextCurriculum (length cs)) (curriculum_at end (ids_of cs)) (curricula_at end (ids_of cs)) (curricula_repeat end (ids_of cs)) curriculum_reads [] ts qs ps rest next h
+        series_reads all_kept (curriculum_pieces cs) (IsNextCurriculum (length cs)) (curriculum_at end (ids_of cs))
+        (curricula_at end (ids_of cs)) (curricula_repeat end (ids_of cs)) curriculum_reads [] ts qs ps rest next h

@@ -25,7 +25,8 @@ use Rattle.tt_instance_data.specs.Inner.Indexed.{IsTeacher, IsMarked, IsIndexedP
 use Rattle.tt_instance_data.proofs.Getting.{field_at}
 
 -- two teachers are the same if their numbers are
-same_number : (names : List (List ℕ)) (s t : List ℕ) (i j : ℕ) (v : Bool) → is_text s t ≡ v → index_of_name names s ≡ Some i → index_of_name names t ≡ Some j → eqb j i ≡ v
+same_number : (names : List (List ℕ)) (s t : List ℕ) (i j : ℕ) (v : Bool) → is_text s t ≡ v → index_of_name names s ≡ Some i
+    → index_of_name names t ≡ Some j → eqb j i ≡ v
 same_number names s t i j true e at_s at_t =
     let same : s ≡ t = same_text s t (sym e) in
     eq-eqb j i (same_Some j i (sym at_t ∙ ap (index_of_name names) (sym same) ∙ at_s))
@@ -49,7 +50,8 @@ abbrev one_name : List CourseRow → ℕ → ℕ → Bool
 one_name rows a b = is_same_text (slice_get (map teacher_of (courses_seen rows)) a) (slice_get (map teacher_of (courses_seen rows)) b)
 
 -- the flag of a course in the row of a teacher
-teacher_reported : (names : List (List ℕ)) (rows : List CourseRow) (a b : ℕ) (x : CourseRow) → All (IsTeacher names) rows → a < length rows → x ≡ get_or rows a x
+teacher_reported : (names : List (List ℕ)) (rows : List CourseRow) (a b : ℕ) (x : CourseRow) → All (IsTeacher names) rows
+    → a < length rows → x ≡ get_or rows a x
     → get_or (flags_of rows x.teacher) b false ≡ one_name rows a b
 teacher_reported names rows a b x all in_a x_is = elim (cases_lt b (length rows)) [ inl lt ↦ here lt | inr le ↦ past le ]
   where
@@ -59,11 +61,13 @@ teacher_reported names rows a b x all in_a x_is = elim (cases_lt b (length rows)
     here : b < length rows → get_or (flags_of rows x.teacher) b false ≡ one_name rows a b
     here lt =
         let y : CourseRow = get_or rows b x in
-        let at_b : slice_get (map teacher_of (courses_seen rows)) b ≡ Some y.teacher_name.now = field_at course_seen rows b y teacher_of lt (get_or_default rows b x y lt) in
+        let at_b : slice_get (map teacher_of (courses_seen rows)) b ≡ Some y.teacher_name.now =
+        field_at course_seen rows b y teacher_of lt (get_or_default rows b x y lt) in
         let of_x : IsTeacher names x = subst (IsTeacher names) (sym x_is) (All-get_or (IsTeacher names) rows a x in_a all) in
         let of_y : IsTeacher names y = All-get_or (IsTeacher names) rows b x lt all in
         rw (at_a, at_b) (get_or-map (λ (r : CourseRow). eqb r.teacher x.teacher) rows b x false lt
-        ∙ same_number names x.teacher_name.now y.teacher_name.now x.teacher y.teacher (is_text x.teacher_name.now y.teacher_name.now) refl of_x of_y)
+        ∙ same_number names x.teacher_name.now y.teacher_name.now x.teacher y.teacher
+        (is_text x.teacher_name.now y.teacher_name.now) refl of_x of_y)
 
     past : length rows ≤ b → get_or (flags_of rows x.teacher) b false ≡ one_name rows a b
     past le =
@@ -83,7 +87,8 @@ module _ (count : ℕ) where
   ]
 
   -- the members of each curriculum are courses
-  pub all_within : (rows : List CurriculumRow) → All (λ r. IsMarked count r.members) rows → All (λ q. All (λ c. c < count) q.members.courses.items) rows
+  pub all_within : (rows : List CurriculumRow) → All (λ r. IsMarked count r.members) rows
+      → All (λ q. All (λ c. c < count) q.members.courses.items) rows
   all_within rows all k d h = members_within (get_or rows k d).members (all k d h)
 
 -- there are as many names as courses
@@ -96,17 +101,21 @@ teacher_rows_of rows = map (λ x. flags_of rows x.teacher) rows
 
 -- the length of each row is the number of rows
 pub teacher_rows_square : (rows : List CourseRow) → IsSquare (teacher_rows_of rows)
-teacher_rows_square rows = All-map (λ (row : List Bool). length row ≡ length (teacher_rows_of rows)) (λ x. flags_of rows x.teacher) rows (λ k d h.
+teacher_rows_square rows = All-map (λ (row : List Bool). length row ≡ length (teacher_rows_of rows)) (λ x. flags_of rows x.teacher) rows
+    (λ k d h.
     length-map rows (λ r. eqb r.teacher (get_or rows k d).teacher) ∙ sym (length-map rows (λ x. flags_of rows x.teacher)))
 
 -- each course has a row
-pub row_for_each : (p : Parts) (courses : List CourseRow) (first : List (List Bool)) → courses ≡ p.courses.rows.items → first ≡ teacher_rows_of courses
+pub row_for_each : (p : Parts) (courses : List CourseRow) (first : List (List Bool)) → courses ≡ p.courses.rows.items
+    → first ≡ teacher_rows_of courses
     → length first ≡ length (courses_seen p.courses.rows.items)
 row_for_each p courses first courses_are first_is =
-    ap length first_is ∙ length-map courses (λ x. flags_of courses x.teacher) ∙ ap length courses_are ∙ sym (length-map p.courses.rows.items course_seen)
+    ap length first_is ∙ length-map courses (λ x. flags_of courses x.teacher) ∙ ap length courses_are
+    ∙ sym (length-map p.courses.rows.items course_seen)
 
 -- each member has a row
-pub members_have_rows : (p : Parts) (courses : List CourseRow) (curricula : List CurriculumRow) (first : List (List Bool)) → IsIndexedParts p
+pub members_have_rows : (p : Parts) (courses : List CourseRow) (curricula : List CurriculumRow) (first : List (List Bool))
+    → IsIndexedParts p
     → courses ≡ p.courses.rows.items → curricula ≡ p.curricula.rows.items → first ≡ teacher_rows_of courses
     → All (λ q. All (λ c. c < length first) q.members.courses.items) curricula
 members_have_rows p courses curricula first is courses_are curricula_are first_is =
@@ -117,7 +126,8 @@ members_have_rows p courses curricula first is courses_are curricula_are first_i
     (all_within (length p.courses.ids) p.curricula.rows.items is.curricula.marked))
 
 -- the marks of these rows are the courses with the same teacher
-teacher_at : (p : Parts) (a b : ℕ) → IsIndexedParts p → mark_at (teacher_rows_of p.courses.rows.items) a b ≡ one_teacher (problem_seen p) a b
+teacher_at : (p : Parts) (a b : ℕ) → IsIndexedParts p → mark_at (teacher_rows_of p.courses.rows.items) a b ≡ one_teacher
+    (problem_seen p) a b
 teacher_at p a b is = elim (slice_get_cases p.courses.rows.items a).1 [
   | inl here ↦
       let rows = p.courses.rows.items in
@@ -132,10 +142,12 @@ teacher_at p a b is = elim (slice_get_cases p.courses.rows.items a).1 [
 ]
 
 -- the rows of conflicts: those of teachers, with the members of curricula added, and each course's own mark cleared
-pub rows_reported : (p : Parts) (courses : List CourseRow) (curricula : List CurriculumRow) (first added cleared : List (List Bool)) → IsIndexedParts p
+pub rows_reported : (p : Parts) (courses : List CourseRow) (curricula : List CurriculumRow) (first added cleared : List (List Bool))
+    → IsIndexedParts p
     → courses ≡ p.courses.rows.items → curricula ≡ p.curricula.rows.items
     → first ≡ teacher_rows_of courses
-    → ((a b : ℕ) → mark_at added a b ≡ (mark_at first a b || list_any (λ q. has_number q.members.courses.items a && has_number q.members.courses.items b) curricula))
+    → ((a b : ℕ) → mark_at added a b ≡
+    (mark_at first a b || list_any (λ q. has_number q.members.courses.items a && has_number q.members.courses.items b) curricula))
     → ((a b : ℕ) → mark_at cleared a b ≡ (not (a == b) && mark_at added a b))
     → (a b : ℕ) → mark_at cleared a b ≡ conflict (problem_seen p) a b
 rows_reported p courses curricula first added cleared is courses_are curricula_are first_is more less a b =
@@ -143,5 +155,7 @@ rows_reported p courses curricula first added cleared is courses_are curricula_a
     let teacher : mark_at first a b ≡ one_teacher (problem_seen p) a b =
     ap (λ rows. mark_at rows a b) (first_is ∙ ap teacher_rows_of courses_are) ∙ teacher_at p a b is in
     let curriculum : list_any both curricula ≡ one_curriculum (problem_seen p) a b =
-    ap (list_any both) curricula_are ∙ sym (list_any-of_map (λ q. has_number q.members a && has_number q.members b) curriculum_seen p.curricula.rows.items) in
-    less a b ∙ ap (λ x. not (a == b) && x) (more a b ∙ ap (λ x. x || list_any both curricula) teacher ∙ ap (λ x. one_teacher (problem_seen p) a b || x) curriculum)
+    ap (list_any both) curricula_are
+    ∙ sym (list_any-of_map (λ q. has_number q.members a && has_number q.members b) curriculum_seen p.curricula.rows.items) in
+    less a b ∙ ap (λ x. not (a == b) && x) (more a b ∙ ap (λ x. x || list_any both curricula) teacher
+    ∙ ap (λ x. one_teacher (problem_seen p) a b || x) curriculum)

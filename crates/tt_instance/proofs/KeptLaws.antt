@@ -13,7 +13,8 @@ use Rattle.tt_instance.proofs.CurriculumLaws.{all_kept}
 
 -- a curriculum without repeated members is within the limits, too
 curriculum_within : (courses : ℕ) (q : Curriculum) → IsCurriculum courses q → IsCurriculum courses (without_repeated_members q)
-curriculum_within courses q is = (omega (arith, length-distinct (λ a b. a == b) q.members, is.0), All-distinct (λ a b. a == b) (λ c. c < courses) q.members is.1)
+curriculum_within courses q is =
+    (omega (arith, length-distinct (λ a b. a == b) q.members, is.0), All-distinct (λ a b. a == b) (λ c. c < courses) q.members is.1)
 
 -- curricula without repeated members preserve their names
 names_apart : (qs : List Curriculum) → AllPairs (λ q r. q.id ≢ r.id) qs → AllPairs (λ q r. q.id ≢ r.id) (all_kept qs)
@@ -44,8 +45,10 @@ kept_within w within = let Is : Curriculum → Type 0 = IsCurriculum (length w.c
   lectures = within.lectures;
   each_course = within.each_course;
   each_room = within.each_room;
-  each_curriculum = All-map Is without_repeated_members w.curricula (All-weaker Is (λ q. Is (without_repeated_members q)) (curriculum_within (length w.courses)) w.curricula within.each_curriculum);
-  each_unavailability = All-distinct same_unavailability (IsUnavailability (length w.courses) w.days w.periods) w.unavailabilities within.each_unavailability;
+  each_curriculum = All-map Is without_repeated_members w.curricula
+      (All-weaker Is (λ q. Is (without_repeated_members q)) (curriculum_within (length w.courses)) w.curricula within.each_curriculum);
+  each_unavailability = All-distinct same_unavailability (IsUnavailability (length w.courses) w.days w.periods) w.unavailabilities
+      within.each_unavailability;
 }
 
 -- each member of a curriculum occurs once

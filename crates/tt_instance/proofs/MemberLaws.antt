@@ -31,7 +31,8 @@ module _ (end : ℕ) (cs : List Course) where
   IsNextMember _ m = m < length cs
 
   -- one member that was read is spelled
-  member_takes : (before : List ℕ) (ts : List Placed) (x : List ℕ × List Placed) → Unit {0} → member_at end (ids_of cs) (once before) ts ≡ Ok x → OneTaken once member_pieces IsNextMember before ts x
+  member_takes : (before : List ℕ) (ts : List Placed) (x : List ℕ × List Placed) → Unit {0}
+      → member_at end (ids_of cs) (once before) ts ≡ Ok x → OneTaken once member_pieces IsNextMember before ts x
   unfolding member_at
   member_takes before ts x _ e =
       let c = bind_ok (named_at end (ids_of cs) ts) _ x e in
@@ -50,7 +51,8 @@ module _ (end : ℕ) (cs : List Course) where
   -- this many members that were read are spelled
   pub members_take : (n : ℕ) (ts : List Placed) (x : List ℕ × List Placed) → members_at end (ids_of cs) n [] ts ≡ Ok x → MembersTaken n ts x
   members_take n ts x e =
-      let m = series_takes once member_pieces IsNextMember (λ _. Unit {0}) (member_at end (ids_of cs)) (members_at end (ids_of cs)) (members_repeat end (ids_of cs)) member_takes (λ before c fits next. tt) n [] ts x tt e in
+      let m = series_takes once member_pieces IsNextMember (λ _. Unit {0}) (member_at end (ids_of cs)) (members_at end (ids_of cs))
+      (members_repeat end (ids_of cs)) member_takes (λ before c fits next. tt) n [] ts x tt e in
       record {
         listed = m.items;
         list = m.list;
@@ -61,7 +63,8 @@ module _ (end : ℕ) (cs : List Course) where
 
   module _ (apart : AreNamed cs) where
     -- one member that is spelled is read
-    member_reads : (before : List ℕ) (ts : List Placed) (m : ℕ) (qs : List Piece) (rest : List Placed) → m < length cs → Begins (member_pieces m ++ qs) ts rest
+    member_reads : (before : List ℕ) (ts : List Placed) (m : ℕ) (qs : List Piece) (rest : List Placed) → m < length cs
+        → Begins (member_pieces m ++ qs) ts rest
         → ReadsOn (member_at end (ids_of cs) (once before) ts) (once (before ++ m ∷ [])) qs rest
     unfolding member_at
     member_reads before ts m qs rest below h =
@@ -70,8 +73,10 @@ module _ (end : ℕ) (cs : List Course) where
         record { mid = c.mid; is = bind_is _ (m, c.mid) _ _ c.is made; left = c.left }
 
     -- members that are spelled are read
-    pub members_read : (ts : List Placed) (ms : List ℕ) (qs : List Piece) (rest : List Placed) → All (λ m. m < length cs) ms → Begins (map (named cs) ms ++ qs) ts rest
+    pub members_read : (ts : List Placed) (ms : List ℕ) (qs : List Piece) (rest : List Placed) → All (λ m. m < length cs) ms
+        → Begins (map (named cs) ms ++ qs) ts rest
         → ReadsOn (members_at end (ids_of cs) (length ms) [] ts) (once ms) qs rest
     members_read ts ms qs rest below h =
-        series_reads once member_pieces IsNextMember (member_at end (ids_of cs)) (members_at end (ids_of cs)) (members_repeat end (ids_of cs)) member_reads [] ts ms qs rest (EachAfter-from_all (λ m. m < length cs) [] ms below)
+        series_reads once member_pieces IsNextMember (member_at end (ids_of cs)) (members_at end (ids_of cs))
+        (members_repeat end (ids_of cs)) member_reads [] ts ms qs rest (EachAfter-from_all (λ m. m < length cs) [] ms below)
         (subst (λ ps. Begins (ps ++ qs) ts rest) (sym (flat_map_single (named cs) ms)) h)

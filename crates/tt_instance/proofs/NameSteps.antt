@@ -9,7 +9,8 @@ use Rattle.tt_text.specs.Texts.{is_text}
 use Rattle.tt_instance.specs.Reading.{name_at}
 
 -- the word that ends the name
-pub name_done : (end : ℕ) (before : List (List ℕ)) (ts rest : List Placed) (t : Placed) (total : Result (List (List ℕ) × List Placed) InstanceFault) → ts ≡ t ∷ rest
+pub name_done : (end : ℕ) (before : List (List ℕ)) (ts rest : List Placed) (t : Placed)
+    (total : Result (List (List ℕ) × List Placed) InstanceFault) → ts ≡ t ∷ rest
     → is_text (word_text word.Courses) t.text ≡ true → name_at end before ts ≡ total → total ≡ Ok (before, rest)
 unfolding name_at
 name_done end before ts rest t total first is so_far =
@@ -17,7 +18,8 @@ name_done end before ts rest t total first is so_far =
     sym so_far ∙ step
 
 -- another token of the name
-pub name_on : (end : ℕ) (before : List (List ℕ)) (ts rest : List Placed) (t : Placed) (total : Result (List (List ℕ) × List Placed) InstanceFault) → ts ≡ t ∷ rest
+pub name_on : (end : ℕ) (before : List (List ℕ)) (ts rest : List Placed) (t : Placed)
+    (total : Result (List (List ℕ) × List Placed) InstanceFault) → ts ≡ t ∷ rest
     → is_text (word_text word.Courses) t.text ≡ false → name_at end before ts ≡ total → name_at end (before ++ t.text ∷ []) rest ≡ total
 unfolding name_at
 name_on end before ts rest t total first other so_far =
@@ -25,7 +27,8 @@ name_on end before ts rest t total first other so_far =
     sym step ∙ so_far
 
 -- the text ends within the name
-pub name_ended : (end : ℕ) (before : List (List ℕ)) (ts : List Placed) (total : Result (List (List ℕ) × List Placed) InstanceFault) → ts ≡ []
+pub name_ended : (end : ℕ) (before : List (List ℕ)) (ts : List Placed) (total : Result (List (List ℕ) × List Placed) InstanceFault)
+    → ts ≡ []
     → name_at end before ts ≡ total → total ≡ Err (fault.Ended end)
 unfolding name_at
 name_ended end before ts total none so_far =

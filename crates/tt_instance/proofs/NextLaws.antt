@@ -33,7 +33,8 @@ courses_next cs are = EachAfter-from_at IsNextCourse [] cs (λ i d l. record {
 })
 
 -- the lectures of all courses, if those before have at most 4,096 lectures
-lectures_after : (before cs : List Course) → EachAfter IsNextCourse before cs → lectures_of before ≤ 4096 → lectures_of before + lectures_of cs ≤ 4096
+lectures_after : (before cs : List Course) → EachAfter IsNextCourse before cs → lectures_of before ≤ 4096
+    → lectures_of before + lectures_of cs ≤ 4096
 lectures_after before [] next at_most = omega (arith, at_most)
 lectures_after before (c ∷ cs) next at_most =
     let pushed = sum_by-append (λ (c : Course). c.lectures) before (c ∷ []) in
@@ -62,7 +63,8 @@ pub record AreRooms (rs : List Room) : Type 0 where
   pub each : All (λ r. r.capacity ≤ MAX_SEATS) rs
 
 pub rooms_next : (rs : List Room) → AreRooms rs → EachAfter IsNextRoom [] rs
-rooms_next rs are = EachAfter-from_at IsNextRoom [] rs (λ i d l. record { fresh = is_new (λ (r : Room). r.id) d rs are.names i l; capacity = are.each i d l })
+rooms_next rs are = EachAfter-from_at IsNextRoom [] rs
+    (λ i d l. record { fresh = is_new (λ (r : Room). r.id) d rs are.names i l; capacity = are.each i d l })
 
 pub rooms_are : (rs : List Room) → EachAfter IsNextRoom [] rs → AreRooms rs
 rooms_are rs next = record {
@@ -83,7 +85,8 @@ pub record AreCurricula (courses : ℕ) (qs : List Curriculum) : Type 0 where
   pub each : All (IsCurriculum courses) qs
 
 pub curricula_next : (courses : ℕ) (qs : List Curriculum) → AreCurricula courses qs → EachAfter (IsNextCurriculum courses) [] qs
-curricula_next courses qs are = EachAfter-from_at (IsNextCurriculum courses) [] qs (λ i d l. record { fresh = is_new (λ (q : Curriculum). q.id) d qs are.names i l; is = are.each i d l })
+curricula_next courses qs are = EachAfter-from_at (IsNextCurriculum courses) [] qs
+    (λ i d l. record { fresh = is_new (λ (q : Curriculum). q.id) d qs are.names i l; is = are.each i d l })
 
 pub curricula_are : (courses : ℕ) (qs : List Curriculum) → EachAfter (IsNextCurriculum courses) [] qs → AreCurricula courses qs
 curricula_are courses qs next = record {

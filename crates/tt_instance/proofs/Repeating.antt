@@ -24,6 +24,7 @@ unfolding curricula_at
 curricula_repeat end ids = record { none = λ x ts. refl; more = λ n x ts. refl }
 
 -- unavailabilities
-pub unavailabilities_repeat : (end : ℕ) (ids : List (List ℕ)) (days periods : ℕ) → IsSeries (unavailability_at end ids days periods) (unavailabilities_at end ids days periods)
+pub unavailabilities_repeat : (end : ℕ) (ids : List (List ℕ)) (days periods : ℕ) → IsSeries (unavailability_at end ids days periods)
+    (unavailabilities_at end ids days periods)
 unfolding unavailabilities_at
 unavailabilities_repeat end ids days periods = record { none = λ x ts. refl; more = λ n x ts. refl }

@@ -22,7 +22,8 @@ abbrev pub RoomsTaken : ℕ → List Placed → List Room × List Placed → Typ
 RoomsTaken n ts x = ManyTaken (λ rs. rs) room_pieces IsNextRoom n [] ts x
 
 -- one room that was read is spelled
-room_takes : (end : ℕ) (before : List Room) (ts : List Placed) (x : List Room × List Placed) → Unit {0} → room_at end before ts ≡ Ok x → OneTaken (λ rs. rs) room_pieces IsNextRoom before ts x
+room_takes : (end : ℕ) (before : List Room) (ts : List Placed) (x : List Room × List Placed) → Unit {0} → room_at end before ts ≡ Ok x
+    → OneTaken (λ rs. rs) room_pieces IsNextRoom before ts x
 unfolding room_at
 room_takes end before ts x _ e =
     let id = bind_ok (token_at end ts) _ x e in
@@ -35,7 +36,8 @@ room_takes end before ts x _ e =
     (record { item = r; list = refl; next = record { fresh = g.0; capacity = s.1 }; takes = pieces })
 
 -- one room that is spelled is read
-room_reads : (end : ℕ) (before : List Room) (ts : List Placed) (r : Room) (qs : List Piece) (rest : List Placed) → IsNextRoom before r → Begins (room_pieces r ++ qs) ts rest
+room_reads : (end : ℕ) (before : List Room) (ts : List Placed) (r : Room) (qs : List Piece) (rest : List Placed) → IsNextRoom before r
+    → Begins (room_pieces r ++ qs) ts rest
     → ReadsOn (room_at end before ts) (before ++ r ∷ []) qs rest
 unfolding room_at
 room_reads end before ts r qs rest next h =
@@ -43,15 +45,19 @@ room_reads end before ts r qs rest next h =
     let id = has_piece (fault.Ended end) ts (Text r.id) q1 rest h in
     let capacity = limited_reads end 1000000 id.token.1 r.capacity qs rest next.capacity id.left in
     let fresh : has_name (room_ids_of before) id.token.0.text ≡ false = ap (has_name (room_ids_of before)) id.piece ∙ next.fresh in
-    let made : done {A = List Room × List Placed} (before ++ record { id = id.token.0.text; capacity = r.capacity } ∷ [], capacity.mid) ≡ Ok (before ++ r ∷ [], capacity.mid) = rw id.piece refl in
+    let made : done {A = List Room × List Placed} (before ++ record { id = id.token.0.text; capacity = r.capacity } ∷ [], capacity.mid)
+    ≡ Ok (before ++ r ∷ [], capacity.mid) = rw id.piece refl in
     record { mid = capacity.mid; is = rw (id.is, fresh, capacity.is) made; left = capacity.left }
 
 -- this many rooms that were read are spelled
 pub rooms_take : (end n : ℕ) (ts : List Placed) (x : List Room × List Placed) → rooms_at end n [] ts ≡ Ok x → RoomsTaken n ts x
 rooms_take end n ts x e =
-    series_takes (λ rs. rs) room_pieces IsNextRoom (λ _. Unit {0}) (room_at end) (rooms_at end) (rooms_repeat end) (room_takes end) (λ before r fits next. tt) n [] ts x tt e
+    series_takes (λ rs. rs) room_pieces IsNextRoom (λ _. Unit {0}) (room_at end) (rooms_at end) (rooms_repeat end) (room_takes end)
+    (λ before r fits next. tt) n [] ts x tt e
 
 -- rooms that are spelled are read
-pub rooms_read : (end : ℕ) (ts : List Placed) (rs : List Room) (qs : List Piece) (rest : List Placed) → EachAfter IsNextRoom [] rs → Begins (flat_map room_pieces rs ++ qs) ts rest
+pub rooms_read : (end : ℕ) (ts : List Placed) (rs : List Room) (qs : List Piece) (rest : List Placed) → EachAfter IsNextRoom [] rs
+    → Begins (flat_map room_pieces rs ++ qs) ts rest
     → ReadsOn (rooms_at end (length rs) [] ts) rs qs rest
-rooms_read end ts rs qs rest each h = series_reads (λ l. l) room_pieces IsNextRoom (room_at end) (rooms_at end) (rooms_repeat end) (room_reads end) [] ts rs qs rest each h
+rooms_read end ts rs qs rest each h = series_reads (λ l. l) room_pieces IsNextRoom (room_at end) (rooms_at end) (rooms_repeat end)
+    (room_reads end) [] ts rs qs rest each h

@@ -25,15 +25,20 @@ record HasTokens (w : Problem) : Type 0 where
   curricula : All (λ q. IsToken q.id) w.curricula
 
 -- if each text among the pieces of an item is a token, the property holds of the item, for each of the items
-each_item : {X : Type 0} (item_pieces : X → List Piece) (P : X → Type 0) → ((x : X) → AllByRecursion IsTokenPiece (item_pieces x) → P x) → (xs : List X) → AllByRecursion IsTokenPiece (flat_map item_pieces xs) → All P xs
+each_item : {X : Type 0} (item_pieces : X → List Piece) (P : X → Type 0) → ((x : X) → AllByRecursion IsTokenPiece (item_pieces x) → P x)
+    → (xs : List X) → AllByRecursion IsTokenPiece (flat_map item_pieces xs) → All P xs
 each_item item_pieces P weaker xs h =
-    All-weaker (λ x. AllByRecursion IsTokenPiece (item_pieces x)) P weaker xs (All-from_recursion (λ x. AllByRecursion IsTokenPiece (item_pieces x)) xs (each_of_flat_map IsTokenPiece item_pieces xs h))
+    All-weaker (λ x. AllByRecursion IsTokenPiece (item_pieces x)) P weaker xs
+    (All-from_recursion (λ x. AllByRecursion IsTokenPiece (item_pieces x)) xs (each_of_flat_map IsTokenPiece item_pieces xs h))
 
 -- the parts of a file, each of them a list of pieces
-each_part : (name header courses rooms curricula unavailabilities last : List Piece) → AllByRecursion IsTokenPiece (name ++ header ++ courses ++ rooms ++ curricula ++ unavailabilities ++ last)
-    → AllByRecursion IsTokenPiece name × AllByRecursion IsTokenPiece courses × AllByRecursion IsTokenPiece rooms × AllByRecursion IsTokenPiece curricula
+each_part : (name header courses rooms curricula unavailabilities last : List Piece)
+    → AllByRecursion IsTokenPiece (name ++ header ++ courses ++ rooms ++ curricula ++ unavailabilities ++ last)
+    → AllByRecursion IsTokenPiece name × AllByRecursion IsTokenPiece courses × AllByRecursion IsTokenPiece rooms
+    × AllByRecursion IsTokenPiece curricula
 each_part name header courses rooms curricula unavailabilities last h =
-    let to_unavailabilities = (each_of_append IsTokenPiece (name ++ header ++ courses ++ rooms ++ curricula ++ unavailabilities) last h).0 in
+    let to_unavailabilities =
+    (each_of_append IsTokenPiece (name ++ header ++ courses ++ rooms ++ curricula ++ unavailabilities) last h).0 in
     let to_curricula = each_of_append IsTokenPiece (name ++ header ++ courses ++ rooms ++ curricula) unavailabilities to_unavailabilities in
     let to_rooms = each_of_append IsTokenPiece (name ++ header ++ courses ++ rooms) curricula to_curricula.0 in
     let to_courses = each_of_append IsTokenPiece (name ++ header ++ courses) rooms to_rooms.0 in
@@ -44,8 +49,10 @@ each_part name header courses rooms curricula unavailabilities last h =
 has_tokens : (w : Problem) → AllByRecursion IsTokenPiece (pieces w) → HasTokens w
 has_tokens w h =
     let parts =
-    each_part (fixed word.Name ∷ map Text w.name) (header_pieces w) (fixed word.CoursesPart ∷ flat_map course_pieces w.courses) (fixed word.RoomsPart ∷ flat_map room_pieces w.rooms)
-    (fixed word.CurriculaPart ∷ flat_map (curriculum_pieces w.courses) w.curricula) (fixed word.UnavailabilityPart ∷ flat_map (unavailability_pieces w.courses) w.unavailabilities) (fixed word.End ∷ []) h in
+    each_part (fixed word.Name ∷ map Text w.name) (header_pieces w) (fixed word.CoursesPart ∷ flat_map course_pieces w.courses)
+    (fixed word.RoomsPart ∷ flat_map room_pieces w.rooms)
+    (fixed word.CurriculaPart ∷ flat_map (curriculum_pieces w.courses) w.curricula)
+    (fixed word.UnavailabilityPart ∷ flat_map (unavailability_pieces w.courses) w.unavailabilities) (fixed word.End ∷ []) h in
     record {
       name = All-from_recursion IsToken w.name (each_of_map IsTokenPiece Text w.name parts.0.1);
       courses = each_item course_pieces (λ c. IsToken c.id × IsToken c.teacher) (λ c p. (p.0, p.1.0)) w.courses parts.1.1;

@@ -22,18 +22,27 @@ use Rattle.tt_instance.proofs.SectionLaws.{ArePlaces, AreGroups, section_pieces,
 
 -- the numbers of an instance's header
 abbrev counts_of : Problem → Counts
-counts_of w = record { courses = length w.courses; rooms = length w.rooms; days = w.days; periods = w.periods; curricula = length w.curricula; unavailabilities = length w.unavailabilities }
+counts_of w = record {
+  courses = length w.courses;
+  rooms = length w.rooms;
+  days = w.days;
+  periods = w.periods;
+  curricula = length w.curricula;
+  unavailabilities = length w.unavailabilities;
+}
 
 -- the sections of an instance
 abbrev sections_of : Problem → List Piece
 sections_of w = section_pieces w.courses w.rooms w.curricula w.unavailabilities
 
 -- a header with these counts
-counts_are : (c : Counts) (n m q b : ℕ) → n ≡ c.courses → m ≡ c.rooms → q ≡ c.curricula → b ≡ c.unavailabilities → c ≡ record { courses = n; rooms = m; days = c.days; periods = c.periods; curricula = q; unavailabilities = b }
+counts_are : (c : Counts) (n m q b : ℕ) → n ≡ c.courses → m ≡ c.rooms → q ≡ c.curricula → b ≡ c.unavailabilities
+    → c ≡ record { courses = n; rooms = m; days = c.days; periods = c.periods; curricula = q; unavailabilities = b }
 counts_are c n m q b n_is m_is q_is b_is = rw (n_is, m_is, q_is, b_is) refl
 
 -- the limits of the parts imply those of the whole
-within_limits : (w : Problem) → All IsNamePart w.name → IsHeader (counts_of w) → ArePlaces (counts_of w) w.courses w.rooms → AreGroups (counts_of w) w.courses w.curricula w.unavailabilities → IsWithinLimits w
+within_limits : (w : Problem) → All IsNamePart w.name → IsHeader (counts_of w) → ArePlaces (counts_of w) w.courses w.rooms
+    → AreGroups (counts_of w) w.courses w.curricula w.unavailabilities → IsWithinLimits w
 within_limits w name header places groups = record {
   name = name;
   courses = header.courses;
@@ -97,22 +106,42 @@ regrouped : (w : Problem) → pieces w ≡ (fixed word.Name ∷ []) ++ part_piec
 regrouped w = simp append_assoc
 
 -- tokens that begin with each part in turn begin with the whole
-parts_begin : (w : Problem) (ts t1 t2 t3 t4 : List Placed) → Takes ts (fixed word.Name ∷ []) t1 → Takes t1 (map Text w.name ++ fixed word.Courses ∷ []) t2
+parts_begin : (w : Problem) (ts t1 t2 t3 t4 : List Placed) → Takes ts (fixed word.Name ∷ []) t1
+    → Takes t1 (map Text w.name ++ fixed word.Courses ∷ []) t2
     → Takes t2 (count_pieces (counts_of w)) t3 → Takes t3 (sections_of w) t4 → Begins (pieces w) ts t4
 parts_begin w ts t1 t2 t3 t4 first name header sections =
-    let whole : Takes ts ((fixed word.Name ∷ []) ++ part_pieces w) t4 = takes_then _ _ _ _ _ first (takes_then _ _ _ _ _ name (takes_then _ _ _ _ _ header sections)) in
-    subst (λ (ps : List Piece). Begins ps ts t4) (append-nil ((fixed word.Name ∷ []) ++ part_pieces w) ∙ sym (regrouped w)) (whole.take [] t4 refl)
+    let whole : Takes ts ((fixed word.Name ∷ []) ++ part_pieces w) t4 =
+    takes_then _ _ _ _ _ first (takes_then _ _ _ _ _ name (takes_then _ _ _ _ _ header sections)) in
+    subst (λ (ps : List Piece). Begins ps ts t4) (append-nil ((fixed word.Name ∷ []) ++ part_pieces w) ∙ sym (regrouped w))
+    (whole.take [] t4 refl)
 
 -- the instance made of the parts read
 abbrev problem_of : List (List ℕ) → Counts → Sections → Problem
-problem_of name c s = record { name = name; days = c.days; periods = c.periods; courses = s.courses; rooms = s.rooms; curricula = s.curricula; unavailabilities = s.unavailabilities }
+problem_of name c s = record {
+  name = name;
+  days = c.days;
+  periods = c.periods;
+  courses = s.courses;
+  rooms = s.rooms;
+  curricula = s.curricula;
+  unavailabilities = s.unavailabilities;
+}
 
 -- an instance as it is written
 abbrev written_of : List (List ℕ) → Counts → Sections → List Curriculum → List Unavailability → Problem
-written_of name c s qs bs = record { name = name; days = c.days; periods = c.periods; courses = s.courses; rooms = s.rooms; curricula = qs; unavailabilities = bs }
+written_of name c s qs bs = record {
+  name = name;
+  days = c.days;
+  periods = c.periods;
+  courses = s.courses;
+  rooms = s.rooms;
+  curricula = qs;
+  unavailabilities = bs;
+}
 
 -- the instance read is the written one without its repeats
-kept_is : (read name : List (List ℕ)) (c : Counts) (s : Sections) (qs : List Curriculum) (bs : List Unavailability) → read ≡ name → s.curricula ≡ all_kept qs → s.unavailabilities ≡ unavailabilities_once bs
+kept_is : (read name : List (List ℕ)) (c : Counts) (s : Sections) (qs : List Curriculum) (bs : List Unavailability) → read ≡ name
+    → s.curricula ≡ all_kept qs → s.unavailabilities ≡ unavailabilities_once bs
     → problem_of read c s ≡ without_repeats (written_of name c s qs bs)
 kept_is read name c s qs bs name_is qs_is bs_is = rw (name_is, qs_is, bs_is) refl
 
@@ -133,9 +162,12 @@ is_spelled bytes p e =
     let s = sections_take (length bytes) header.0.0 header.0.1 sections.0 h.1.some_day h.1.periods.some sections.1 in
     let w : Problem = written_of n.name header.0.0 sections.0.0 s.curricula s.unavailabilities in
     let counts : header.0.0 ≡ counts_of w =
-    counts_are header.0.0 (length w.courses) (length w.rooms) (length w.curricula) (length w.unavailabilities) s.places.courses s.places.rooms s.groups.curricula s.groups.unavailabilities in
-    let name_word : Takes (tokens_of bytes) (fixed word.Name ∷ []) first.0 = word_takes (length bytes) word.Name (tokens_of bytes) first.0 first.1 in
-    let counted : Takes name.0.1 (count_pieces (counts_of w)) header.0.1 = subst (λ (c : Counts). Takes name.0.1 (count_pieces c) header.0.1) counts h.0 in
+    counts_are header.0.0 (length w.courses) (length w.rooms) (length w.curricula)
+    (length w.unavailabilities) s.places.courses s.places.rooms s.groups.curricula s.groups.unavailabilities in
+    let name_word : Takes (tokens_of bytes) (fixed word.Name ∷ []) first.0 = word_takes (length bytes) word.Name
+    (tokens_of bytes) first.0 first.1 in
+    let counted : Takes name.0.1 (count_pieces (counts_of w)) header.0.1 =
+    subst (λ (c : Counts). Takes name.0.1 (count_pieces c) header.0.1) counts h.0 in
     record {
       written = w;
       rest = sections.0.1;
@@ -143,7 +175,8 @@ is_spelled bytes p e =
       within =
           within_limits w n.other (subst IsHeader counts h.1) (subst (λ c. ArePlaces c w.courses w.rooms) counts s.places)
           (subst (λ c. AreGroups c w.courses w.curricula w.unavailabilities) counts s.groups);
-      is_kept = sym (problem_done _ p sections.2) ∙ kept_is name.0.0 n.name header.0.0 sections.0.0 s.curricula s.unavailabilities n.list s.curricula_kept s.unavailabilities_kept;
+      is_kept = sym (problem_done _ p sections.2)
+          ∙ kept_is name.0.0 n.name header.0.0 sections.0.0 s.curricula s.unavailabilities n.list s.curricula_kept s.unavailabilities_kept;
     }
 
 -- -- an instance that is spelled is read
@@ -159,10 +192,19 @@ is_read bytes p spelled =
     has_word (length bytes) word.Name (tokens_of bytes) (map Text w.name ++ (fixed word.Courses ∷ after_name)) spelled.rest
     (subst (λ (ps : List Piece). Begins ps (tokens_of bytes) spelled.rest) grouped spelled.begins) in
     let name = name_reads (length bytes) [] w.name first.mid after_name spelled.rest spelled.within.name first.left in
-    let header = header_reads (length bytes) name.mid (counts_of w) (sections_of w) spelled.rest (header_within w spelled.within) name.left in
+    let header = header_reads (length bytes) name.mid (counts_of w) (sections_of w) spelled.rest
+    (header_within w spelled.within) name.left in
     let sections =
-    sections_read (length bytes) (counts_of w) header.mid w.courses w.rooms w.curricula w.unavailabilities [] spelled.rest (places_within w spelled.within) (groups_within w spelled.within)
+    sections_read (length bytes) (counts_of w) header.mid w.courses w.rooms w.curricula w.unavailabilities [] spelled.rest
+    (places_within w spelled.within) (groups_within w spelled.within)
     (subst (λ (ps : List Piece). Begins ps header.mid spelled.rest) (sym (append-nil (sections_of w))) header.left) in
-    let read : Sections = record { courses = w.courses; rooms = w.rooms; curricula = all_kept w.curricula; unavailabilities = unavailabilities_once w.unavailabilities } in
-    bind_is _ first.mid _ _ first.is (bind_is _ (w.name, name.mid) _ _ name.is (bind_is _ (counts_of w, header.mid) _ _ header.is (bind_is _ (read, sections.mid) _ _ sections.is
+    let read : Sections = record {
+      courses = w.courses;
+      rooms = w.rooms;
+      curricula = all_kept w.curricula;
+      unavailabilities = unavailabilities_once w.unavailabilities;
+    } in
+    bind_is _ first.mid _ _ first.is
+    (bind_is _ (w.name, name.mid) _ _ name.is
+    (bind_is _ (counts_of w, header.mid) _ _ header.is (bind_is _ (read, sections.mid) _ _ sections.is
     (ap (λ (q : Problem). done q) (sym spelled.is_kept)))))

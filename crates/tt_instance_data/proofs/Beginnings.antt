@@ -21,7 +21,8 @@ Ascend [] = Unit {0}
 Ascend (t ∷ ts) = AreFrom (t.at + 1) ts × Ascend ts
 
 -- another byte in front
-from_step : (n : ℕ) (inside : Bool) (at b : ℕ) (bs : List ℕ) (v : Bool) → n ≤ at → is_separator b ≡ v → ((into : Bool) → AreFrom n (tokens_from into (at + 1) bs)) → AreFrom n (tokens_from inside at (b ∷ bs))
+from_step : (n : ℕ) (inside : Bool) (at b : ℕ) (bs : List ℕ) (v : Bool) → n ≤ at → is_separator b ≡ v
+    → ((into : Bool) → AreFrom n (tokens_from into (at + 1) bs)) → AreFrom n (tokens_from inside at (b ∷ bs))
 unfolding tokens_from
 from_step n inside at b bs true le e more = rw e (more false)
 from_step n true at b bs false le e more = rw e (more true)
@@ -37,7 +38,8 @@ are_from n inside at [] le = tt
 are_from n inside at (b ∷ bs) le = from_step n inside at b bs (is_separator b) le refl (λ into. are_from n into (at + 1) bs (omega arith))
 
 -- another byte in front
-ascend_step : (inside : Bool) (at b : ℕ) (bs : List ℕ) (v : Bool) → is_separator b ≡ v → ((into : Bool) → Ascend (tokens_from into (at + 1) bs)) → Ascend (tokens_from inside at (b ∷ bs))
+ascend_step : (inside : Bool) (at b : ℕ) (bs : List ℕ) (v : Bool) → is_separator b ≡ v
+    → ((into : Bool) → Ascend (tokens_from into (at + 1) bs)) → Ascend (tokens_from inside at (b ∷ bs))
 unfolding tokens_from
 ascend_step inside at b bs true e more = rw e (more false)
 ascend_step true at b bs false e more = rw e (more true)
@@ -64,7 +66,8 @@ up_to : ℕ → List Placed → List Placed
 up_to at ts = take_while (λ t. nat_le t.at at) ts
 
 -- if the first tokens have the same text and the other tokens are shared, all are shared
-share_first : (at : ℕ) (t : Placed) (ts us : List Placed) (texts : List (List ℕ)) → texts_of us ≡ t.text ∷ texts → ((vs : List Placed) → texts_of vs ≡ texts → Shared at ts vs) → Shared at (t ∷ ts) us
+share_first : (at : ℕ) (t : Placed) (ts us : List Placed) (texts : List (List ℕ)) → texts_of us ≡ t.text ∷ texts
+    → ((vs : List Placed) → texts_of vs ≡ texts → Shared at ts vs) → Shared at (t ∷ ts) us
 share_first at t ts [] texts same more = absurd cc
 share_first at t ts (u ∷ us) texts same more =
     let first : u.text ≡ t.text = cc in
@@ -72,11 +75,13 @@ share_first at t ts (u ∷ us) texts same more =
     subst (λ (x : List ℕ). Shared at (t ∷ ts) (record { text = x; at = u.at } ∷ us)) (sym first) (Next u.at (more us rest))
 
 -- two cases: the first token begins at or before the offset, or after it
-share_step : (at : ℕ) (t : Placed) (ts us : List Placed) (more : List (List ℕ)) (v : Bool) → nat_le t.at at ≡ v → Ascend (t ∷ ts) → texts_of us ≡ texts_of (up_to at (t ∷ ts)) ++ more
+share_step : (at : ℕ) (t : Placed) (ts us : List Placed) (more : List (List ℕ)) (v : Bool) → nat_le t.at at ≡ v → Ascend (t ∷ ts)
+    → texts_of us ≡ texts_of (up_to at (t ∷ ts)) ++ more
     → ((vs : List Placed) → texts_of vs ≡ texts_of (up_to at ts) ++ more → Shared at ts vs) → Shared at (t ∷ ts) us
 unfolding up_to
 share_step at t ts us more true e asc same next =
-    share_first at t ts us (texts_of (up_to at ts) ++ more) (same ∙ ap (λ (xs : List Placed). texts_of xs ++ more) (while-yes (λ (x : Placed). nat_le x.at at) t ts e)) next
+    share_first at t ts us (texts_of (up_to at ts) ++ more)
+    (same ∙ ap (λ (xs : List Placed). texts_of xs ++ more) (while-yes (λ (x : Placed). nat_le x.at at) t ts e)) next
 share_step at t ts us more false e asc same next =
     let less : at < t.at = omega (arith, leb-false _ _ e) in
     Apart ((λ same. omega (arith, same, less)), none_before at (t.at + 1) ts (omega (arith, less)) asc.0)
@@ -98,7 +103,8 @@ pub any_later : (at : ℕ) (t : Placed) (ts : List Placed) → Any (λ x. x.at �
 any_later at t ts h = (suc h.0, h.1, omega (arith, h.2), h.3, h.4)
 
 -- a token in front of the others: it begins at the offset, or the claim for the others holds
-pub stands_step : (at : ℕ) (t : Placed) (ts : List Placed) → (t.at ≡ at) ⊎ (t.at ≢ at) → NoneAt at ts ⊎ Any (λ x. x.at ≡ at) ts → NoneAt at (t ∷ ts) ⊎ Any (λ x. x.at ≡ at) (t ∷ ts)
+pub stands_step : (at : ℕ) (t : Placed) (ts : List Placed) → (t.at ≡ at) ⊎ (t.at ≢ at) → NoneAt at ts ⊎ Any (λ x. x.at ≡ at) ts
+    → NoneAt at (t ∷ ts) ⊎ Any (λ x. x.at ≡ at) (t ∷ ts)
 stands_step at t ts (inl e) rest = inr (0, t, omega arith, refl, e)
 stands_step at t ts (inr n) (inl none) = inl (n, none)
 stands_step at t ts (inr n) (inr h) = inr (any_later at t ts h)
@@ -109,7 +115,8 @@ stands_or_none at [] = inl tt
 stands_or_none at (t ∷ ts) = stands_step at t ts (cases_eq t.at at) (stands_or_none at ts)
 
 -- a reader that fails, with a fault reported at the token at this offset
-module _ {F A : Type 0} (offset_of : F → Option ℕ) (at : ℕ) (f g : List Placed → Result A F) (alike : EndsAlike offset_of at (Unit {0}) f g) (ts : List Placed) (e : F) (failed : f ts ≡ Err e)
+module _ {F A : Type 0} (offset_of : F → Option ℕ) (at : ℕ) (f g : List Placed → Result A F)
+    (alike : EndsAlike offset_of at (Unit {0}) f g) (ts : List Placed) (e : F) (failed : f ts ≡ Err e)
     (is_reported : offset_of e ≡ Some at) where
   -- some token begins at the offset
   pub fault_at_token : Any (λ t. t.at ≡ at) ts
@@ -121,7 +128,9 @@ module _ {F A : Type 0} (offset_of : F → Option ℕ) (at : ℕ) (f g : List Pl
 
   -- over shared tokens the reader gives no value
   pub fault_of_all : (us : List Placed) → Shared at ts us → (x : A) → g us ≢ Ok x
-  fault_of_all us shared x read = by_fault (subst (λ (r : Result A F). Joins offset_of at (λ (y : A). Unit {0}) (λ _ _. Unit {0}) r (g us)) failed (alike.joins ts us shared))
+  fault_of_all us shared x read =
+      by_fault (subst (λ (r : Result A F). Joins offset_of at (λ (y : A). Unit {0}) (λ _ _. Unit {0}) r (g us)) failed
+      (alike.joins ts us shared))
     where
       by_fault : (offset_of e ≢ Some at) ⊎ ((y : A) → g us ≢ Ok y) → ⊥
       by_fault (inl elsewhere) = elsewhere is_reported

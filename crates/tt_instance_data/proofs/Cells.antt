@@ -35,7 +35,8 @@ pub each_slot : (p : Problem) → AllByRecursion (IsSlot p) (all_slots p)
 each_slot p =
     each_flat (IsSlot p) (λ d. map (slot d) (range_below p.periods)) (all_days p)
     (each_below (λ d. AllByRecursion (IsSlot p) (map (slot d) (range_below p.periods))) p.days (λ d h.
-    each_map (IsSlot p) (slot d) (range_below p.periods) (each_below (λ s. IsSlot p (slot d s)) p.periods (λ s k. record { day = h; period = k }))))
+    each_map (IsSlot p) (slot d) (range_below p.periods)
+    (each_below (λ s. IsSlot p (slot d s)) p.periods (λ s k. record { day = h; period = k }))))
 
 pub each_cell : (p : Problem) → AllByRecursion (InRange p) (all_cells p)
 each_cell p =
@@ -46,16 +47,19 @@ each_cell p =
     each_flat (InRange p) (in_room c) (all_rooms p)
     (each_below (λ r. AllByRecursion (InRange p) (in_room c r)) (length p.rooms) (λ r k.
     each_map (InRange p) (cell c r) (all_slots p)
-    (each_weaker (IsSlot p) (λ s. InRange p (cell c r s)) (λ s i. record { course = h; room = k; day = i.day; period = i.period }) (all_slots p) (each_slot p))))))
+    (each_weaker (IsSlot p) (λ s. InRange p (cell c r s)) (λ s i. record { course = h; room = k; day = i.day; period = i.period })
+    (all_slots p) (each_slot p))))))
 
 -- a test of all cells passes if each cell in range passes it
 pub all_cells_pass : (q : Problem) (t : Cell → Bool) → ((y : Cell) → InRange q y → t y ≡ true) → list_all t (all_cells q) ≡ true
 all_cells_pass q t h =
     cells_nested q t
-    ∙ all_below (λ c. list_all (λ r. list_all (λ d. list_all (λ s. t (cell c r (slot d s))) (range_below q.periods)) (all_days q)) (all_rooms q)) (length q.courses) (λ c hc.
+    ∙ all_below (λ c. list_all (λ r. list_all (λ d. list_all (λ s. t (cell c r (slot d s))) (range_below q.periods)) (all_days q))
+    (all_rooms q)) (length q.courses) (λ c hc.
     all_below (λ r. list_all (λ d. list_all (λ s. t (cell c r (slot d s))) (range_below q.periods)) (all_days q)) (length q.rooms) (λ r hr.
     all_below (λ d. list_all (λ s. t (cell c r (slot d s))) (range_below q.periods)) q.days (λ d hd.
-    all_below (λ s. t (cell c r (slot d s))) q.periods (λ s hs. h (cell c r (slot d s)) (record { course = hc; room = hr; day = hd; period = hs })))))
+    all_below (λ s. t (cell c r (slot d s))) q.periods
+    (λ s hs. h (cell c r (slot d s)) (record { course = hc; room = hr; day = hd; period = hs })))))
 
 -- -- each once
 
@@ -69,16 +73,19 @@ count_cells p x =
     let in_room = λ (c r : ℕ). map (cell c r) (all_slots p) in
     let of_course = λ (c : ℕ). flat_map (in_room c) (all_rooms p) in
     let room : (c r : ℕ) → sum_by f (in_room c r) ≤ cond ((x.course == c) && (x.room == r)) 1 0 = λ c r.
-    rw (sum_by-of_map f (cell c r) (all_slots p)) (once_at_most ((x.course == c) && (x.room == r)) (λ s. is_at s x) 1 (all_slots p) (count_slots p x)) in
+    rw (sum_by-of_map f (cell c r) (all_slots p)) (once_at_most ((x.course == c) && (x.room == r)) (λ s. is_at s x) 1 (all_slots p)
+    (count_slots p x)) in
     let course : (c : ℕ) → sum_by f (of_course c) ≤ cond (x.course == c) 1 0 = λ c.
     rw (sum_by-of_flat_map f (in_room c) (all_rooms p)) (omega (
       arith,
-      sum_by-le (λ r. sum_by f (in_room c r)) (λ r. cond ((x.course == c) && (x.room == r)) 1 0) (all_rooms p) (each (λ r. sum_by f (in_room c r) ≤ cond ((x.course == c) && (x.room == r)) 1 0) (room c) (all_rooms p)),
+      sum_by-le (λ r. sum_by f (in_room c r)) (λ r. cond ((x.course == c) && (x.room == r)) 1 0) (all_rooms p)
+          (each (λ r. sum_by f (in_room c r) ≤ cond ((x.course == c) && (x.room == r)) 1 0) (room c) (all_rooms p)),
       once_at_most (x.course == c) (λ r. x.room == r) 1 (all_rooms p) (count_below x.room (length p.rooms)),
     )) in
     omega (
       arith,
       sum_by-of_flat_map f of_course (all_courses p),
-      sum_by-le (λ c. sum_by f (of_course c)) (λ c. cond (x.course == c) 1 0) (all_courses p) (each (λ c. sum_by f (of_course c) ≤ cond (x.course == c) 1 0) course (all_courses p)),
+      sum_by-le (λ c. sum_by f (of_course c)) (λ c. cond (x.course == c) 1 0) (all_courses p)
+          (each (λ c. sum_by f (of_course c) ≤ cond (x.course == c) 1 0) course (all_courses p)),
       count_below x.course (length p.courses),
     )

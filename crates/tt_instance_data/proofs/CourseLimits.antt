@@ -24,7 +24,8 @@ each_few p within = λ c d h.
 pub few_students : (p : Problem) → IsInstance p → (c : ℕ) → c < length p.courses → students p c ≤ 1000000
 few_students p ok c h = (ok.within.each_course c no_course h).1
 
-up_to : (f : Course → ℕ) (xs : List Course) (d : Course) (i : ℕ) → i ≤ length xs → sum_by (λ k. f (get_or xs k d)) (range_below i) ≡ sum_by f (take i xs)
+up_to : (f : Course → ℕ) (xs : List Course) (d : Course) (i : ℕ) → i ≤ length xs → sum_by (λ k. f (get_or xs k d)) (range_below i)
+    ≡ sum_by f (take i xs)
 up_to f xs d zero h = refl
 up_to f xs d (suc i) h =
     let e : suc i ≡ i + 1 = omega arith in

@@ -23,15 +23,18 @@ curricula-turn : (p : Problem) (a b : ℕ) → one_curriculum p a b ≡ true →
 curricula-turn p a b e =
     let w = member_from_any (λ q. has_number q.members a && has_number q.members b) p.curricula e in
     let h = and_parts (has_number w.0.members a) (has_number w.0.members b) w.2 in
-    any_member (λ q. has_number q.members b && has_number q.members a) p.curricula w.0 w.1 (and_from (has_number w.0.members b) (has_number w.0.members a) h.1 h.0)
+    any_member (λ q. has_number q.members b && has_number q.members a) p.curricula w.0 w.1
+    (and_from (has_number w.0.members b) (has_number w.0.members a) h.1 h.0)
 
 pub conflict-turn : (p : Problem) (a b : ℕ) → conflict p a b ≡ true → conflict p b a ≡ true
 conflict-turn p a b e =
     let h = and_parts (not (a == b)) (one_teacher p a b || one_curriculum p a b) e in
-    let apart : not (b == a) ≡ true = not_from_false (b == a) (false_from_ne_true (b == a) (λ k. both_ways (a == b) (not-true (a == b) h.0) (eqb-turn b a k))) in
+    let apart : not (b == a) ≡ true =
+    not_from_false (b == a) (false_from_ne_true (b == a) (λ k. both_ways (a == b) (not-true (a == b) h.0) (eqb-turn b a k))) in
     and_from (not (b == a)) (one_teacher p b a || one_curriculum p b a) apart
     (elim (or_cases (one_teacher p a b) (one_curriculum p a b) h.1) [
-      | inl k ↦ or_left (one_teacher p b a) (one_curriculum p b a) (text-turn (slice_get (course_teachers p) a) (slice_get (course_teachers p) b) k)
+      | inl k ↦ or_left (one_teacher p b a) (one_curriculum p b a)
+          (text-turn (slice_get (course_teachers p) a) (slice_get (course_teachers p) b) k)
       | inr k ↦ or_right (one_teacher p b a) (one_curriculum p b a) (curricula-turn p a b k)
     ])
 

@@ -16,7 +16,8 @@ fellows p q a b ha hb = elim (cases_Bool (a == b)) [
     | inl h ↦ or_right (a == b) (conflict p a b)
         (and_from (not (a == b)) (one_teacher p a b || one_curriculum p a b) (not_from_false (a == b) d)
         (or_right (one_teacher p a b) (one_curriculum p a b)
-        (list_any_at (λ k. has_number k.members a && has_number k.members b) p.curricula q no_curriculum h (and_from (in_curriculum p q a) (in_curriculum p q b) ha hb))))
+        (list_any_at (λ k. has_number k.members a && has_number k.members b) p.curricula q no_curriculum h
+        (and_from (in_curriculum p q a) (in_curriculum p q b) ha hb))))
     | inr h ↦ absurd (both_ways (in_curriculum p q a) (ap (λ k. has_number k.members a) (get_or_past p.curricula q no_curriculum h)) ha)
   ]
 ]

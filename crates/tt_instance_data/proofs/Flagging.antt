@@ -36,7 +36,8 @@ module _ (words : List ℕ) (n i w : ℕ) (v : Bool)
   -- after a word is written, the flag of the number that was meant
   own : flag_in (set words (i / 64) w) i ≡ v
   own = ap (λ (x : ℕ). has_bit x (i % 64)) (get_or-set_same words (i / 64) w 0 (word_there words n i are lt))
-      ∙ bits (i % 64) (omega arith) ∙ ap (λ (b : Bool). cond b v (has_bit (get_or words (i / 64) 0) (i % 64))) (eq-eqb (i % 64) (i % 64) refl)
+      ∙ bits (i % 64) (omega arith) ∙ ap (λ (b : Bool). cond b v (has_bit (get_or words (i / 64) 0) (i % 64)))
+      (eq-eqb (i % 64) (i % 64) refl)
 
   -- and that of another number
   other : (k : ℕ) → k ≢ i → flag_in (set words (i / 64) w) k ≡ flag_in words k
@@ -56,7 +57,8 @@ module _ (words : List ℕ) (n i w : ℕ) (v : Bool)
   written = ext_get_or false (flags_in (set words (i / 64) w) n) (set (flags_in words n) i v)
       (flags_length (set words (i / 64) w) n ∙ sym (length-set (flags_in words n) i v ∙ flags_length words n)) each
     where
-      each : (k : ℕ) → k < length (flags_in (set words (i / 64) w) n) → get_or (flags_in (set words (i / 64) w) n) k false ≡ get_or (set (flags_in words n) i v) k false
+      each : (k : ℕ) → k < length (flags_in (set words (i / 64) w) n) → get_or (flags_in (set words (i / 64) w) n) k false ≡ get_or
+          (set (flags_in words n) i v) k false
       each k h =
           let in_n : k < n = omega (arith, h, flags_length (set words (i / 64) w) n) in
           flag_at (set words (i / 64) w) n k in_n ∙ elim (cases_eq k i) [
@@ -111,29 +113,43 @@ and_cond false true = refl
 and_cond false false = refl
 
 -- the bits of a word after one bit was set
-pub bit_set : (old word one new b : ℕ) → word ≡ old → ((r : ℕ) → r < 64 → has_bit one r ≡ (r == b)) → ((r : ℕ) → r < 64 → has_bit new r ≡ (has_bit word r || has_bit one r))
+pub bit_set : (old word one new b : ℕ) → word ≡ old → ((r : ℕ) → r < 64 → has_bit one r ≡ (r == b))
+    → ((r : ℕ) → r < 64 → has_bit new r ≡ (has_bit word r || has_bit one r))
     → (r : ℕ) → r < 64 → has_bit new r ≡ cond (eqb r b) true (has_bit old r)
 bit_set old word one new b is ones news r h =
-    news r h ∙ ap (λ (x : Bool). has_bit word r || x) (ones r h) ∙ or_cond (has_bit word r) (eqb r b) ∙ ap (λ (w : ℕ). cond (eqb r b) true (has_bit w r)) is
+    news r h ∙ ap (λ (x : Bool). has_bit word r || x) (ones r h) ∙ or_cond (has_bit word r) (eqb r b)
+    ∙ ap (λ (w : ℕ). cond (eqb r b) true (has_bit w r)) is
 
 -- the bits of a word after one bit was cleared
-pub bit_cleared : (old word one new b : ℕ) → word ≡ old → ((r : ℕ) → r < 64 → has_bit one r ≡ (r == b)) → ((r : ℕ) → r < 64 → has_bit new r ≡ (has_bit word r && not (has_bit one r)))
+pub bit_cleared : (old word one new b : ℕ) → word ≡ old → ((r : ℕ) → r < 64 → has_bit one r ≡ (r == b))
+    → ((r : ℕ) → r < 64 → has_bit new r ≡ (has_bit word r && not (has_bit one r)))
     → (r : ℕ) → r < 64 → has_bit new r ≡ cond (eqb r b) false (has_bit old r)
 bit_cleared old word one new b is ones news r h =
-    news r h ∙ ap (λ (x : Bool). has_bit word r && not x) (ones r h) ∙ and_cond (has_bit word r) (eqb r b) ∙ ap (λ (w : ℕ). cond (eqb r b) false (has_bit w r)) is
+    news r h ∙ ap (λ (x : Bool). has_bit word r && not x) (ones r h) ∙ and_cond (has_bit word r) (eqb r b)
+    ∙ ap (λ (w : ℕ). cond (eqb r b) false (has_bit w r)) is
 
 -- the word of a number, as it was read
-pub word_read : (words : List ℕ) (n k word : ℕ) → length words ≡ div_ceil n 64 → k < n → word ≡ get_or words (k / 64) word → word ≡ get_or words (k / 64) 0
+pub word_read : (words : List ℕ) (n k word : ℕ) → length words ≡ div_ceil n 64 → k < n → word ≡ get_or words (k / 64) word
+    → word ≡ get_or words (k / 64) 0
 word_read words n k word are lt is = is ∙ get_or_default_zero words (k / 64) word (word_there words n k are lt)
 
 -- the flag of a number whose word was read
-pub flag_read : (words : List ℕ) (n k word : ℕ) → length words ≡ div_ceil n 64 → k < n → word ≡ get_or words (k / 64) word → has_bit word (k % 64) ≡ get_or (flags_in words n) k false
+pub flag_read : (words : List ℕ) (n k word : ℕ) → length words ≡ div_ceil n 64 → k < n → word ≡ get_or words (k / 64) word
+    → has_bit word (k % 64) ≡ get_or (flags_in words n) k false
 flag_read words n k word are lt is =
     ap (λ (w : ℕ). has_bit w (k % 64)) (word_read words n k word are lt is) ∙ sym (flag_at words n k lt)
 
 -- two lists of flags have the same length if they look as long
-pub same_length : (words others : List ℕ) (n m : ℕ) (flags more : List Bool) → flags_in words n ≡ flags → flags_in others m ≡ more → length more ≡ length flags → m ≡ n
-same_length words others n m flags more are those same = omega (arith, same, ap length are, ap length those, flags_length words n, flags_length others m)
+pub same_length : (words others : List ℕ) (n m : ℕ) (flags more : List Bool) → flags_in words n ≡ flags → flags_in others m ≡ more
+    → length more ≡ length flags → m ≡ n
+same_length words others n m flags more are those same = omega (
+  arith,
+  same,
+  ap length are,
+  ap length those,
+  flags_length words n,
+  flags_length others m,
+)
 
 -- ---- flags that are set one number after the other
 
@@ -144,7 +160,8 @@ one_more false true = refl
 one_more false false = refl
 
 -- the flags of the numbers below i, and then that of i
-pub growing : (old new : List Bool) (wanted : ℕ → Bool) (i : ℕ) (v : Bool) → ((k : ℕ) → get_or new k false ≡ (get_or old k false || (v && (k == i)))) → v ≡ wanted i
+pub growing : (old new : List Bool) (wanted : ℕ → Bool) (i : ℕ) (v : Bool)
+    → ((k : ℕ) → get_or new k false ≡ (get_or old k false || (v && (k == i)))) → v ≡ wanted i
     → ((k : ℕ) → get_or old k false ≡ (ltb k i && wanted k)) → (k : ℕ) → get_or new k false ≡ (ltb k (i + 1) && wanted k)
 growing old new wanted i v news own before k =
     news k ∙ ap (λ (b : Bool). b || (v && (k == i))) (before k) ∙ elim (cases_lt k i) [
@@ -163,6 +180,7 @@ growing old new wanted i v news own before k =
     last false = refl
 
 -- flags that agree with a list of as many
-pub all_grown : (flags wanted : List Bool) (n : ℕ) → length flags ≡ n → length wanted ≡ n → ((k : ℕ) → get_or flags k false ≡ (ltb k n && get_or wanted k false)) → flags ≡ wanted
+pub all_grown : (flags wanted : List Bool) (n : ℕ) → length flags ≡ n → length wanted ≡ n
+    → ((k : ℕ) → get_or flags k false ≡ (ltb k n && get_or wanted k false)) → flags ≡ wanted
 all_grown flags wanted n long same each = ext_get_or false flags wanted (long ∙ sym same) (λ k h.
     each k ∙ rw (lt-ltb k n (omega (arith, h, long))) refl)

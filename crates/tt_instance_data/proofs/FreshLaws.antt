@@ -33,10 +33,12 @@ module _ {X : Type 0} (id : X → List ℕ) (d : X) (xs : List X) where
     pub index_is : (i : ℕ) → i < length xs → index_of_name (map id xs) (id (get_or xs i d)) ≡ Some i
     index_is i l =
         let long : length (map id xs) ≡ length xs = length-map xs id in
-        let here : is_text (id (get_or xs i d)) (get_or (map id xs) i []) ≡ true = is_text_of (get_or (map id xs) i []) (id (get_or xs i d)) (id_is i l) in
+        let here : is_text (id (get_or xs i d)) (get_or (map id xs) i []) ≡ true = is_text_of (get_or (map id xs) i [])
+        (id (get_or xs i d)) (id_is i l) in
         let before : (k : ℕ) → k < i → is_text (id (get_or xs i d)) (get_or (map id xs) k []) ≡ false =
         λ k below. ap (is_text (id (get_or xs i d))) (id_is k (omega (arith, below, l))) ∙ other_before k i below l in
-        let first : position_or_len (is_text (id (get_or xs i d))) (map id xs) ≡ i = position_or_len_is (is_text (id (get_or xs i d))) (map id xs) i [] (omega arith) before (λ _. here) in
+        let first : position_or_len (is_text (id (get_or xs i d))) (map id xs) ≡ i = position_or_len_is (is_text (id (get_or xs i d)))
+        (map id xs) i [] (omega arith) before (λ _. here) in
         let within : ltb i (length (map id xs)) ≡ true = lt-ltb _ _ (omega arith) in
         rw (first, within) refl
 
@@ -46,14 +48,20 @@ module _ {X : Type 0} (id : X → List ℕ) (d : X) (xs : List X) where
         let Other : X → Type 0 = λ x. is_text (id (get_or xs i d)) (id x) ≡ false in
         let long : length (take i xs) ≡ i = length-take-le i xs (omega (arith, l)) in
         let each : (k : ℕ) → k < length (take i xs) → Other (get_or (take i xs) k d) =
-        λ k within. let below : k < i = omega (arith, within, long) in subst Other (sym (get_or-take i xs k d below)) (other_before k i below l) in
-        list_any_none (is_text (id (get_or xs i d))) (map id (take i xs)) (All-map (λ name. is_text (id (get_or xs i d)) name ≡ false) id (take i xs) (All-from_get_or Other (take i xs) d each))
+        λ k within. let below : k < i = omega (arith, within, long) in subst Other (sym (get_or-take i xs k d below))
+        (other_before k i below l) in
+        list_any_none (is_text (id (get_or xs i d))) (map id (take i xs))
+        (All-map (λ name. is_text (id (get_or xs i d)) name ≡ false) id (take i xs) (All-from_get_or Other (take i xs) d each))
 
 -- if each name is new, no two are the same
-pub apart_from_new : {X : Type 0} (id : X → List ℕ) (P : List X → X → Type 0) → ((before : List X) (x : X) → P before x → has_name (map id before) (id x) ≡ false)
+pub apart_from_new : {X : Type 0} (id : X → List ℕ) (P : List X → X → Type 0)
+    → ((before : List X) (x : X) → P before x → has_name (map id before) (id x) ≡ false)
     → (xs : List X) → EachAfter P [] xs → AllPairs (λ x y. id x ≢ id y) xs
 apart_from_new id P new xs each = λ i j d below l same.
-    let none : list_any (is_text (id (get_or xs j d))) (map id (take j xs)) ≡ false = new (take j xs) (get_or xs j d) (EachAfter-at P [] xs j d each l) in
+    let none : list_any (is_text (id (get_or xs j d))) (map id (take j xs)) ≡ false =
+    new (take j xs) (get_or xs j d) (EachAfter-at P [] xs j d each l) in
     let within : i < length (take j xs) = omega (arith, below, length-take-le j xs (omega (arith, l))) in
-    let at : get_or (map id (take j xs)) i [] ≡ id (get_or xs j d) = get_or-map id (take j xs) i d [] within ∙ ap id (get_or-take j xs i d below) ∙ same in
-    both_ways _ none (list_any_at (is_text (id (get_or xs j d))) (map id (take j xs)) i [] (omega (arith, within, length-map (take j xs) id)) (is_text_of (get_or (map id (take j xs)) i []) (id (get_or xs j d)) at))
+    let at : get_or (map id (take j xs)) i [] ≡ id (get_or xs j d) = get_or-map id (take j xs) i d [] within
+    ∙ ap id (get_or-take j xs i d below) ∙ same in
+    both_ways _ none (list_any_at (is_text (id (get_or xs j d))) (map id (take j xs)) i []
+    (omega (arith, within, length-map (take j xs) id)) (is_text_of (get_or (map id (take j xs)) i []) (id (get_or xs j d)) at))

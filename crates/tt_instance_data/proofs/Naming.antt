@@ -22,13 +22,15 @@ any_behind name [] = refl
 any_behind name (k ∷ ks) = rw (any_behind name ks) refl
 
 -- the first reference that has this name behind it
-first_behind : (name : List ℕ) (ks : List (Bor (List ℕ))) → position_or_len (is_behind name) ks ≡ position_or_len (is_text name) (map (λ k. k.now) ks)
+first_behind : (name : List ℕ) (ks : List (Bor (List ℕ))) → position_or_len (is_behind name) ks ≡ position_or_len (is_text name)
+    (map (λ k. k.now) ks)
 first_behind name [] = refl
 first_behind name (k ∷ ks) = rw (first_behind name ks) refl
 
 -- the number of a name
 pub position_behind : (name : List ℕ) (ks : List (Bor (List ℕ))) → position (is_behind name) ks ≡ index_of_name (map (λ k. k.now) ks) name
-position_behind name ks = let same : length (map (λ (k : Bor (List ℕ)). k.now) ks) ≡ length ks = simp length-map in rw (first_behind name ks, same) refl
+position_behind name ks = let same : length (map (λ (k : Bor (List ℕ)). k.now) ks) ≡ length ks = simp length-map in
+    rw (first_behind name ks, same) refl
 
 -- the names after a reference is inserted, for both cases: its name was present or not
 names_put : (name : Bor (List ℕ)) (ks : List (Bor (List ℕ))) (v : Bool) → list_any (is_behind name.now) ks ≡ v
@@ -37,8 +39,10 @@ names_put name ks true e = refl
 names_put name ks false e = map_push (λ (k : Bor (List ℕ)). k.now) ks name
 
 -- the names after a reference is inserted
-pub names_with : (name : Bor (List ℕ)) (ks : List (Bor (List ℕ))) → map (λ k. k.now) (insert_key (λ x y. pointwise nat_eq x.now y.now) ks name) ≡ with_name (map (λ k. k.now) ks) name.now
-names_with name ks = names_put name ks (list_any (is_behind name.now) ks) refl ∙ ap (λ (v : Bool). cond v (map (λ k. k.now) ks) (map (λ k. k.now) ks ++ name.now ∷ [])) (any_behind name.now ks)
+pub names_with : (name : Bor (List ℕ)) (ks : List (Bor (List ℕ)))
+    → map (λ k. k.now) (insert_key (λ x y. pointwise nat_eq x.now y.now) ks name) ≡ with_name (map (λ k. k.now) ks) name.now
+names_with name ks = names_put name ks (list_any (is_behind name.now) ks) refl
+    ∙ ap (λ (v : Bool). cond v (map (λ k. k.now) ks) (map (λ k. k.now) ks ++ name.now ∷ [])) (any_behind name.now ks)
 
 -- the length in both cases: the name was present or not
 longer : (v : Bool) (names : List (List ℕ)) (name : List ℕ) → length (cond v names (names ++ name ∷ [])) ≤ length names + 1
@@ -54,27 +58,32 @@ same_place : (k l : ℕ) → cond (eqb k l) (l + 0) k ≡ k
 same_place k l = grind (arith, nat_tests)
 
 -- the first place of a name stays the same if the name is added at the end
-first_push : (name : List ℕ) (names : List (List ℕ)) → position_or_len (is_text name) (names ++ name ∷ []) ≡ position_or_len (is_text name) names
+first_push : (name : List ℕ) (names : List (List ℕ)) → position_or_len (is_text name) (names ++ name ∷ []) ≡ position_or_len
+    (is_text name) names
 first_push name names =
     let own : is_text name name ≡ true = nat_list_eq_equiv.refl name in
     position_or_len_push (is_text name) names name ∙ rw own (same_place (position_or_len (is_text name) names) (length names))
 
 -- the first place of an inserted name, for both cases: it was present or not
-first_with : (v : Bool) (name : List ℕ) (names : List (List ℕ)) → position_or_len (is_text name) (cond v names (names ++ name ∷ [])) ≡ position_or_len (is_text name) names
+first_with : (v : Bool) (name : List ℕ) (names : List (List ℕ)) → position_or_len (is_text name) (cond v names (names ++ name ∷ []))
+    ≡ position_or_len (is_text name) names
 first_with true name names = refl
 first_with false name names = first_push name names
 
 -- a first place within the list is the number of the name
-pub index_is : (names : List (List ℕ)) (name : List ℕ) (i : ℕ) → i < length names → position_or_len (is_text name) names ≡ i → index_of_name names name ≡ Some i
+pub index_is : (names : List (List ℕ)) (name : List ℕ) (i : ℕ) → i < length names → position_or_len (is_text name) names ≡ i
+    → index_of_name names name ≡ Some i
 index_is names name i lt is = rw (is, lt-ltb i (length names) lt) refl
 
 -- the number that a set of names gives to a name that it inserts
-pub number_behind : (name : Bor (List ℕ)) (ks new : List (Bor (List ℕ))) (i : ℕ) → map (λ k. k.now) new ≡ with_name (map (λ k. k.now) ks) name.now → i < length new
+pub number_behind : (name : Bor (List ℕ)) (ks new : List (Bor (List ℕ))) (i : ℕ) → map (λ k. k.now) new ≡ with_name
+    (map (λ k. k.now) ks) name.now → i < length new
     → i ≡ position_or_len (is_behind name.now) ks → index_of_name (map (λ k. k.now) new) name.now ≡ Some i
 number_behind name ks new i are lt is =
     let old : List (List ℕ) = map (λ k. k.now) ks in
     index_is (map (λ k. k.now) new) name.now i (omega (arith, length-map new (λ (k : Bor (List ℕ)). k.now)))
-    (ap (position_or_len (is_text name.now)) are ∙ first_with (has_name old name.now) name.now old ∙ sym (first_behind name.now ks) ∙ sym is)
+    (ap (position_or_len (is_text name.now)) are ∙ first_with (has_name old name.now) name.now old ∙ sym (first_behind name.now ks)
+    ∙ sym is)
 
 -- the first place after another name is inserted, for both cases: that name was present or not
 first_stays : (v : Bool) (names : List (List ℕ)) (name other : List ℕ) (i : ℕ) → i < length names → position_or_len (is_text name) names ≡ i
@@ -85,13 +94,15 @@ first_stays false names name other i lt is =
     (omega (arith, length-append names (other ∷ [])), position_or_len_push (is_text name) names other ∙ rw no is)
 
 -- the number of a name is below the length, and it is the first place of the name
-index_parts : (names : List (List ℕ)) (name : List ℕ) (i : ℕ) → index_of_name names name ≡ Some i → (i < length names) × (position_or_len (is_text name) names ≡ i)
+index_parts : (names : List (List ℕ)) (name : List ℕ) (i : ℕ) → index_of_name names name ≡ Some i → (i < length names)
+    × (position_or_len (is_text name) names ≡ i)
 index_parts names name i is =
     let h = cond_some (ltb (position_or_len (is_text name) names) (length names)) (position_or_len (is_text name) names) i is in
     (subst (λ (k : ℕ). k < length names) h.1 (ltb-true _ _ h.0), h.1)
 
 -- names preserve their numbers if another name is inserted
-pub index_of_name-with_name : (names : List (List ℕ)) (name other : List ℕ) (i : ℕ) → index_of_name names name ≡ Some i → index_of_name (with_name names other) name ≡ Some i
+pub index_of_name-with_name : (names : List (List ℕ)) (name other : List ℕ) (i : ℕ) → index_of_name names name ≡ Some i
+    → index_of_name (with_name names other) name ≡ Some i
 index_of_name-with_name names name other i is =
     let h = index_parts names name i is in
     let k = first_stays (has_name names other) names name other i h.0 h.1 in

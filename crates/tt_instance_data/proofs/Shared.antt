@@ -1,4 +1,5 @@
--- A reader that takes tokens from left to right, compared with itself over other tokens: if it fails at a token that both share, it fails over both.
+-- A reader that takes tokens from left to right, compared with itself over other tokens: if it fails at a token that both share, it
+-- fails over both.
 use Rattle.std.proofs.Common.{◌≡◌, ◌≢◌, ◌⊎◌, inl, inr, ℕ, Bool, true, false, cond, List, [], ◌∷◌, Option, Some, None, Result, Ok, Err, refl, sym, subst}
 use Rattle.tt_text.specs.Tokens.{Placed}
 use Rattle.tt_text.specs.Reading.{◌>>=◌, token_or}
@@ -65,7 +66,8 @@ module _ {F : Type 0} (offset_of : F → Option ℕ) (at : ℕ) where
 
   -- -- one step and then the next
 
-  bind_stays : {A B : Type 0} (P : A → Type 0) (R : B → Type 0) (r : Result A F) (h : A → Result B F) → Stays P r → ((x : A) → P x → Stays R (h x)) → Stays R (r >>= h)
+  bind_stays : {A B : Type 0} (P : A → Type 0) (R : B → Type 0) (r : Result A F) (h : A → Result B F) → Stays P r
+      → ((x : A) → P x → Stays R (h x)) → Stays R (r >>= h)
   bind_stays P R (Ok x) h s more = more x s
   bind_stays P R (Err e) h s more = s
 
@@ -77,7 +79,8 @@ module _ {F : Type 0} (offset_of : F → Option ℕ) (at : ℕ) where
   fails_on s k none z e = let b = bind_ok s k z e in none b.0 b.1
 
   module _ {A B : Type 0} (P : A → Type 0) (Q : A → A → Type 0) (R : B → Type 0) (S : B → B → Type 0) (h k : A → Result B F) where
-    bind_joins : (r s : Result A F) → Joins P Q r s → ((x : A) → P x → Stays R (h x)) → ((x y : A) → Q x y → Joins R S (h x) (k y)) → Joins R S (r >>= h) (s >>= k)
+    bind_joins : (r s : Result A F) → Joins P Q r s → ((x : A) → P x → Stays R (h x)) → ((x y : A) → Q x y → Joins R S (h x) (k y))
+        → Joins R S (r >>= h) (s >>= k)
     bind_joins (Ok x) s (inl p) stays joins = stays_joins R S (h x) (s >>= k) (stays x p)
     bind_joins (Ok x) s (inr q) stays joins = subst (λ (o : Result A F). Joins R S (h x) (o >>= k)) (sym q.1) (joins x q.0 q.2)
     bind_joins (Err e) s (inl p) stays joins = inl p
@@ -110,23 +113,29 @@ module _ {F : Type 0} {offset_of : F → Option ℕ} {at : ℕ} {condition : Typ
   on_condition a = record { stays = λ c ts none. a.stays tt ts none; joins = a.joins }
 
   -- reading a value, and then the rest
-  pub then_reads : {X : Type 0} {f g : List Placed → Result (X × List Placed) F} (h k : X × List Placed → Result B F) → ReadsAlike offset_of at condition f g
-      → ((x : X) → Alike offset_of at R S (Unit {0}) (λ ts. h (x, ts)) (λ us. k (x, us))) → Alike offset_of at R S condition (λ ts. f ts >>= h) (λ us. g us >>= k)
+  pub then_reads : {X : Type 0} {f g : List Placed → Result (X × List Placed) F} (h k : X × List Placed → Result B F)
+      → ReadsAlike offset_of at condition f g
+      → ((x : X) → Alike offset_of at R S (Unit {0}) (λ ts. h (x, ts)) (λ us. k (x, us))) → Alike offset_of at R S condition
+      (λ ts. f ts >>= h) (λ us. g us >>= k)
   then_reads {X} {f} {g} h k first more =
       let stays = λ (x : X × List Placed) (none : NoneAt at x.1). (more x.0).stays tt x.1 none in
-      let joins = λ (x y : X × List Placed) (q : (x.0 ≡ y.0) × Shared at x.1 y.1). subst (λ (v : X). Joins offset_of at R S (h x) (k (v, y.1))) q.0 ((more x.0).joins x.1 y.1 q.1) in
+      let joins = λ (x y : X × List Placed) (q : (x.0 ≡ y.0) × Shared at x.1 y.1). subst
+      (λ (v : X). Joins offset_of at R S (h x) (k (v, y.1))) q.0 ((more x.0).joins x.1 y.1 q.1) in
       record {
         stays = λ c ts none. bind_stays offset_of at (NoneLeft offset_of at) R (f ts) h (first.stays c ts none) stays;
-        joins = λ ts us shared. bind_joins offset_of at (NoneLeft offset_of at) (SharedLeft offset_of at) R S h k (f ts) (g us) (first.joins ts us shared) stays joins;
+        joins = λ ts us shared. bind_joins offset_of at (NoneLeft offset_of at) (SharedLeft offset_of at) R S h k (f ts) (g us)
+            (first.joins ts us shared) stays joins;
       }
 
   -- passing over tokens, and then the rest
-  pub then_skips : {f g : List Placed → Result (List Placed) F} (h k : List Placed → Result B F) → SkipsAlike offset_of at condition f g → Alike offset_of at R S (Unit {0}) h k
+  pub then_skips : {f g : List Placed → Result (List Placed) F} (h k : List Placed → Result B F) → SkipsAlike offset_of at condition f g
+      → Alike offset_of at R S (Unit {0}) h k
       → Alike offset_of at R S condition (λ ts. f ts >>= h) (λ us. g us >>= k)
   then_skips {f} {g} h k first more =
       record {
         stays = λ c ts none. bind_stays offset_of at (NoneAt at) R (f ts) h (first.stays c ts none) (λ x p. more.stays tt x p);
-        joins = λ ts us shared. bind_joins offset_of at (NoneAt at) (Shared at) R S h k (f ts) (g us) (first.joins ts us shared) (λ x p. more.stays tt x p) (λ x y q. more.joins x y q);
+        joins = λ ts us shared. bind_joins offset_of at (NoneAt at) (Shared at) R S h k (f ts) (g us) (first.joins ts us shared)
+            (λ x p. more.stays tt x p) (λ x y q. more.joins x y q);
       }
 
   -- a fault reported at the token taken before, or at no token
@@ -134,20 +143,26 @@ module _ {F : Type 0} {offset_of : F → Option ℕ} {at : ℕ} {condition : Typ
   err_reads e d elsewhere = record { stays = λ c ts none. elsewhere c; joins = λ ts us shared. inr (λ y is. cc) }
 
   -- a test of the token taken before
-  pub if_reads : (b : Bool) {f g h k : List Placed → Result B F} → Alike offset_of at R S condition f g → Alike offset_of at R S condition h k
+  pub if_reads : (b : Bool) {f g h k : List Placed → Result B F} → Alike offset_of at R S condition f g
+      → Alike offset_of at R S condition h k
       → Alike offset_of at R S condition (λ ts. cond b (f ts) (h ts)) (λ us. cond b (g us) (k us))
   if_reads true first second = first
   if_reads false first second = second
 
   -- a verdict on the token taken before, and then the rest
-  pub then_verdict : {J : Type 0} (r s : Result J F) (h k : J → List Placed → Result B F) → SameVerdict offset_of at condition r s → ((v : J) → Alike offset_of at R S condition (h v) (k v))
+  pub then_verdict : {J : Type 0} (r s : Result J F) (h k : J → List Placed → Result B F) → SameVerdict offset_of at condition r s
+      → ((v : J) → Alike offset_of at R S condition (h v) (k v))
       → Alike offset_of at R S condition (λ ts. r >>= λ v. h v ts) (λ us. s >>= λ v. k v us)
-  then_verdict (Ok v) s h k same more = record { stays = λ c ts none. (more v).stays c ts none; joins = λ ts us shared. rw same ((more v).joins ts us shared) }
-  then_verdict (Err e) s h k same more = record { stays = λ c ts none. same.0 c; joins = λ ts us shared. inr (fails_on offset_of at s (λ v. k v us) same.1) }
+  then_verdict (Ok v) s h k same more =
+      record { stays = λ c ts none. (more v).stays c ts none; joins = λ ts us shared. rw same ((more v).joins ts us shared) }
+  then_verdict (Err e) s h k same more =
+      record { stays = λ c ts none. same.0 c; joins = λ ts us shared. inr (fails_on offset_of at s (λ v. k v us) same.1) }
 
 -- reading a token, and then the rest
-module _ {F : Type 0} (offset_of : F → Option ℕ) (at : ℕ) {B : Type 0} (R : B → Type 0) (S : B → B → Type 0) (none other : F) (h k : Placed × List Placed → Result B F) (ended : offset_of none ≡ None)
-    (more : (t : Placed) (n : ℕ) → Alike offset_of at R S (t.at ≢ at) (λ ts. h (t, ts)) (λ us. k (record { text = t.text; at = n }, us))) where
+module _ {F : Type 0} (offset_of : F → Option ℕ) (at : ℕ) {B : Type 0} (R : B → Type 0) (S : B → B → Type 0) (none other : F)
+    (h k : Placed × List Placed → Result B F) (ended : offset_of none ≡ None)
+    (more : (t : Placed) (n : ℕ) → Alike offset_of at R S (t.at ≢ at) (λ ts. h (t, ts))
+    (λ us. k (record { text = t.text; at = n }, us))) where
   token_stays : (ts : List Placed) → NoneAt at ts → Stays offset_of at R (token_or none ts >>= h)
   unfolding token_or
   token_stays [] p = λ e. cc
@@ -158,8 +173,10 @@ module _ {F : Type 0} (offset_of : F → Option ℕ) (at : ℕ) {B : Type 0} (R 
   token_joins ts us (Apart p) = stays_joins offset_of at R S (token_or none ts >>= h) (token_or other us >>= k) (token_stays ts p)
   token_joins ts us (Next {t} {ts = rest} {us = others} n shared) = (more t n).joins rest others shared
 
-pub then_token : {F : Type 0} {offset_of : F → Option ℕ} {at : ℕ} {condition : Type 0} {B : Type 0} {R : B → Type 0} {S : B → B → Type 0} (none other : F) (h k : Placed × List Placed → Result B F)
-    → offset_of none ≡ None → ((t : Placed) (n : ℕ) → Alike offset_of at R S (t.at ≢ at) (λ ts. h (t, ts)) (λ us. k (record { text = t.text; at = n }, us)))
+pub then_token : {F : Type 0} {offset_of : F → Option ℕ} {at : ℕ} {condition : Type 0} {B : Type 0} {R : B → Type 0}
+    {S : B → B → Type 0} (none other : F) (h k : Placed × List Placed → Result B F)
+    → offset_of none ≡ None
+    → ((t : Placed) (n : ℕ) → Alike offset_of at R S (t.at ≢ at) (λ ts. h (t, ts)) (λ us. k (record { text = t.text; at = n }, us)))
     → Alike offset_of at R S condition (λ ts. token_or none ts >>= h) (λ us. token_or other us >>= k)
 then_token {offset_of} {at} {R} {S} none other h k ended more = record {
   stays = λ c ts p. token_stays offset_of at R S none other h k ended more ts p;

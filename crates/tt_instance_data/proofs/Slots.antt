@@ -25,7 +25,8 @@ first_days periods days = flat_map (λ d. map (slot d) (range_below periods)) (r
 one_day_more : (periods days : ℕ) → first_days periods (suc days) ≡ first_days periods days ++ map (slot days) (range_below periods)
 one_day_more periods days =
     let day : ℕ → List Slot = λ d. map (slot d) (range_below periods) in
-    ap (λ n. flat_map day (range_below n)) (sym (add-one days)) ∙ ap (flat_map day) (range_below_more days) ∙ flat_map-append day (range_below days) (days ∷ [])
+    ap (λ n. flat_map day (range_below n)) (sym (add-one days)) ∙ ap (flat_map day) (range_below_more days)
+    ∙ flat_map-append day (range_below days) (days ∷ [])
     ∙ ap (λ l. flat_map day (range_below days) ++ l) (append-nil (day days))
 
 length-first_days : (periods days : ℕ) → length (first_days periods days) ≡ days * periods
@@ -34,7 +35,8 @@ length-first_days periods (suc days) =
     ap length (one_day_more periods days) ∙ length-append (first_days periods days) (map (slot days) (range_below periods))
     ∙ omega (arith, length-first_days periods days, length-map-range_with_len (slot days) 0 periods)
 
-get_or-first_days : (periods days d s : ℕ) (x : Slot) → d < days → s < periods → get_or (first_days periods days) (d * periods + s) x ≡ slot d s
+get_or-first_days : (periods days d s : ℕ) (x : Slot) → d < days → s < periods → get_or (first_days periods days) (d * periods + s) x
+    ≡ slot d s
 get_or-first_days periods zero d s x h k = absurd (omega arith)
 get_or-first_days periods (suc days) d s x h k =
     let before = first_days periods days in
@@ -62,14 +64,16 @@ day_below : (q : Problem) (i : ℕ) → 0 < q.periods → i < q.days * q.periods
 day_below q i some h = (div-lt_iff_lt-mul some).1 h
 
 -- the day and the period of a place
-get_or-all_slots : (q : Problem) (i : ℕ) (x : Slot) → 0 < q.periods → i < q.days * q.periods → get_or (all_slots q) i x ≡ slot (i / q.periods) (i % q.periods)
+get_or-all_slots : (q : Problem) (i : ℕ) (x : Slot) → 0 < q.periods → i < q.days * q.periods → get_or (all_slots q) i x ≡ slot
+    (i / q.periods) (i % q.periods)
 get_or-all_slots q i x some h =
     let period : i % q.periods < q.periods = omega arith in
     ap (λ k. get_or (all_slots q) k x) (sym (div-add-mod' i q.periods))
     ∙ get_or-first_days q.periods q.days (i / q.periods) (i % q.periods) x (day_below q i some h) period
 
 -- the period of a place, with a number equal to the problem's periods per day
-pub slot_of_place : (q : Problem) (periods i : ℕ) (x : Slot) → periods ≡ q.periods → 0 < periods → i < length (all_slots q) → slot (i / periods) (i % periods) ≡ get_or (all_slots q) i x
+pub slot_of_place : (q : Problem) (periods i : ℕ) (x : Slot) → periods ≡ q.periods → 0 < periods → i < length (all_slots q)
+    → slot (i / periods) (i % periods) ≡ get_or (all_slots q) i x
 slot_of_place q periods i x e some h =
     ap (λ n. slot (i / n) (i % n)) e ∙ sym (get_or-all_slots q i x (rw (← e) some) (omega (arith, length-all_slots q)))
 
@@ -79,30 +83,41 @@ day_of_place q periods i e some h =
     omega (arith, ap (λ n. i / n) e)
 
 -- a test of all cells, one room and one course at a time
-pub cells_in_rooms : (q : Problem) (t : Cell → Bool) → list_all t (all_cells q) ≡ list_all (λ c. list_all (λ r. list_all (λ s. t (cell c r s)) (all_slots q)) (all_rooms q)) (all_courses q)
+pub cells_in_rooms : (q : Problem) (t : Cell → Bool) → list_all t (all_cells q) ≡ list_all
+    (λ c. list_all (λ r. list_all (λ s. t (cell c r s)) (all_slots q)) (all_rooms q)) (all_courses q)
 cells_in_rooms q t =
-    let in_room : (c r : ℕ) → list_all t (map (cell c r) (all_slots q)) ≡ list_all (λ s. t (cell c r s)) (all_slots q) = λ c r. list_all-map t (cell c r) (all_slots q) in
-    let of_course : (c : ℕ) → list_all t (flat_map (λ r. map (cell c r) (all_slots q)) (all_rooms q)) ≡ list_all (λ r. list_all (λ s. t (cell c r s)) (all_slots q)) (all_rooms q) = λ c.
+    let in_room : (c r : ℕ) → list_all t (map (cell c r) (all_slots q)) ≡ list_all (λ s. t (cell c r s)) (all_slots q) =
+    λ c r. list_all-map t (cell c r) (all_slots q) in
+    let of_course : (c : ℕ) → list_all t (flat_map (λ r. map (cell c r) (all_slots q)) (all_rooms q)) ≡ list_all
+    (λ r. list_all (λ s. t (cell c r s)) (all_slots q)) (all_rooms q) = λ c.
     list_all-of_flat_map t (λ r. map (cell c r) (all_slots q)) (all_rooms q)
-    ∙ list_all-same (λ r. list_all t (map (cell c r) (all_slots q))) (λ r. list_all (λ s. t (cell c r s)) (all_slots q)) (all_rooms q) (in_room c) in
+    ∙ list_all-same (λ r. list_all t (map (cell c r) (all_slots q))) (λ r. list_all (λ s. t (cell c r s)) (all_slots q)) (all_rooms q)
+    (in_room c) in
     list_all-of_flat_map t (λ c. flat_map (λ r. map (cell c r) (all_slots q)) (all_rooms q)) (all_courses q)
-    ∙ list_all-same (λ c. list_all t (flat_map (λ r. map (cell c r) (all_slots q)) (all_rooms q))) (λ c. list_all (λ r. list_all (λ s. t (cell c r s)) (all_slots q)) (all_rooms q)) (all_courses q) of_course
+    ∙ list_all-same (λ c. list_all t (flat_map (λ r. map (cell c r) (all_slots q)) (all_rooms q)))
+    (λ c. list_all (λ r. list_all (λ s. t (cell c r s)) (all_slots q)) (all_rooms q)) (all_courses q) of_course
 
 -- -- another period
 
 -- a sum with the term of the next period
-pub slots_sum_more : (p q : Problem) (f : Slot → ℕ) (i total next : ℕ) (s : Slot) → q ≡ p → i < length (all_slots q) → s ≡ get_or (all_slots q) i s → total ≡ sum_by f (take i (all_slots p)) → next ≡ total + f s → next ≡ sum_by f (take (i + 1) (all_slots p))
+pub slots_sum_more : (p q : Problem) (f : Slot → ℕ) (i total next : ℕ) (s : Slot) → q ≡ p → i < length (all_slots q)
+    → s ≡ get_or (all_slots q) i s → total ≡ sum_by f (take i (all_slots p)) → next ≡ total + f s
+    → next ≡ sum_by f (take (i + 1) (all_slots p))
 slots_sum_more p q f i total next s same h is e more =
     let there : i < length (all_slots p) = subst (λ z. i < length (all_slots z)) same h in
     let here : s ≡ get_or (all_slots p) i s = is ∙ ap (λ z. get_or (all_slots z) i s) same in
     omega (arith, e, more, sum_by_more f (all_slots p) i s there, ap f here)
 
 -- a count with a next period that passes
-pub slots_count_yes : (p q : Problem) (t : Slot → Bool) (i total next : ℕ) (s : Slot) → q ≡ p → i < length (all_slots q) → s ≡ get_or (all_slots q) i s → total ≡ count_by t (take i (all_slots p)) → true ≡ t s → next ≡ total + 1 → next ≡ count_by t (take (i + 1) (all_slots p))
+pub slots_count_yes : (p q : Problem) (t : Slot → Bool) (i total next : ℕ) (s : Slot) → q ≡ p → i < length (all_slots q)
+    → s ≡ get_or (all_slots q) i s → total ≡ count_by t (take i (all_slots p)) → true ≡ t s → next ≡ total + 1
+    → next ≡ count_by t (take (i + 1) (all_slots p))
 slots_count_yes p q t i total next s same h is e pass more =
     slots_sum_more p q (λ z. cond (t z) 1 0) i total next s same h is e (more ∙ ap (λ b. total + cond b 1 0) pass)
 
 -- a count with a next period that fails
-pub slots_count_no : (p q : Problem) (t : Slot → Bool) (i total next : ℕ) (s : Slot) → q ≡ p → i < length (all_slots q) → s ≡ get_or (all_slots q) i s → total ≡ count_by t (take i (all_slots p)) → false ≡ t s → next ≡ total → next ≡ count_by t (take (i + 1) (all_slots p))
+pub slots_count_no : (p q : Problem) (t : Slot → Bool) (i total next : ℕ) (s : Slot) → q ≡ p → i < length (all_slots q)
+    → s ≡ get_or (all_slots q) i s → total ≡ count_by t (take i (all_slots p)) → false ≡ t s → next ≡ total
+    → next ≡ count_by t (take (i + 1) (all_slots p))
 slots_count_no p q t i total next s same h is e fail stays =
     slots_sum_more p q (λ z. cond (t z) 1 0) i total next s same h is e (omega (arith, stays, ap (λ b. total + cond b 1 0) fail))

@@ -21,7 +21,8 @@ use Rattle.tt_instance_links.specs.Inner.Links.{curricula_of, conflicts_of}
 -- the curricula are those that the course is in
 pub has-curricula_of : (p : Problem) (c q : ℕ) → q < length p.curricula → has_number (curricula_of p c) q ≡ in_curriculum p q c
 has-curricula_of p c q h =
-    any-filter_same (λ m. m == q) (λ k. in_curriculum p k c) (in_curriculum p q c) (λ k e. ap (λ m. in_curriculum p m c) (eqb-true k q e)) (range_below (length p.curricula))
+    any-filter_same (λ m. m == q) (λ k. in_curriculum p k c) (in_curriculum p q c)
+    (λ k e. ap (λ m. in_curriculum p m c) (eqb-true k q e)) (range_below (length p.curricula))
     ∙ ap (λ b. in_curriculum p q c && b) (any_below (λ m. m == q) (length p.curricula) q h (eq-eqb q q refl))
     ∙ and-true (in_curriculum p q c)
 
@@ -29,13 +30,16 @@ has-curricula_of p c q h =
 pub curricula_below : (p : Problem) (c : ℕ) → All (λ q. q < length p.curricula) (curricula_of p c)
 curricula_below p c =
     All-filter (λ q. in_curriculum p q c) (λ q. q < length p.curricula) (range_below (length p.curricula))
-    (All-from_recursion (λ q. q < length p.curricula) (range_below (length p.curricula)) (each_below (λ q. q < length p.curricula) (length p.curricula) (λ q h. h)))
+    (All-from_recursion (λ q. q < length p.curricula) (range_below (length p.curricula))
+    (each_below (λ q. q < length p.curricula) (length p.curricula) (λ q h. h)))
 
 -- the courses are those that conflict with the course
 pub conflicts-has : (p : Problem) (k c : ℕ) → c < length p.courses → has_number (conflicts_of p k) c ≡ conflict p k c
-conflicts-has p k c hc = list_any-of_filter (λ m. m == c) (λ i. conflict p i k) (all_courses p) ∙ same_truth (list_any (λ i. conflict p i k && (i == c)) (all_courses p)) (conflict p k c)
+conflicts-has p k c hc = list_any-of_filter (λ m. m == c) (λ i. conflict p i k) (all_courses p)
+    ∙ same_truth (list_any (λ i. conflict p i k && (i == c)) (all_courses p)) (conflict p k c)
     (λ e.
     let m = member_from_any (λ i. conflict p i k && (i == c)) (all_courses p) e in
     let a = and_parts (conflict p m.0 k) (m.0 == c) m.2 in
     conflict-turn p c k (ap (λ i. conflict p i k) (sym (eqb-true m.0 c a.1)) ∙ a.0))
-    (λ e. any_below (λ i. conflict p i k && (i == c)) (length p.courses) c hc (and_from (conflict p c k) (c == c) (conflict-turn p k c e) (eq-eqb c c refl)))
+    (λ e. any_below (λ i. conflict p i k && (i == c)) (length p.courses) c hc
+    (and_from (conflict p c k) (c == c) (conflict-turn p k c e) (eq-eqb c c refl)))

@@ -53,20 +53,24 @@ abbrev section_lines : {X : Type 0} → Word → (X → List Piece) → List X �
 section_lines w line xs = section w ++ map line xs
 
 -- the pieces of a section
-section_is : {X : Type 0} (w : Word) (line : X → List Piece) (xs : List X) → all_pieces (section_lines w line xs) ≡ fixed w ∷ flat_map line xs
+section_is : {X : Type 0} (w : Word) (line : X → List Piece) (xs : List X)
+    → all_pieces (section_lines w line xs) ≡ fixed w ∷ flat_map line xs
 section_is w line xs = ap (λ (ps : List Piece). fixed w ∷ ps) (all_pieces-map line xs)
 
 -- the pieces of a file in its parts
-all_parts : (header courses rooms curricula unavailabilities last : List (List Piece)) → all_pieces (header ++ courses ++ rooms ++ curricula ++ unavailabilities ++ last)
+all_parts : (header courses rooms curricula unavailabilities last : List (List Piece))
+    → all_pieces (header ++ courses ++ rooms ++ curricula ++ unavailabilities ++ last)
     ≡ all_pieces header ++ all_pieces courses ++ all_pieces rooms ++ all_pieces curricula ++ all_pieces unavailabilities ++ all_pieces last
 all_parts header courses rooms curricula unavailabilities last = simp all_pieces-append
 
 -- files whose parts are equal are equal
-same_parts : (header a1 a2 b1 b2 c1 c2 d1 d2 last : List Piece) → a1 ≡ a2 → b1 ≡ b2 → c1 ≡ c2 → d1 ≡ d2 → header ++ a1 ++ b1 ++ c1 ++ d1 ++ last ≡ header ++ a2 ++ b2 ++ c2 ++ d2 ++ last
+same_parts : (header a1 a2 b1 b2 c1 c2 d1 d2 last : List Piece) → a1 ≡ a2 → b1 ≡ b2 → c1 ≡ c2 → d1 ≡ d2
+    → header ++ a1 ++ b1 ++ c1 ++ d1 ++ last ≡ header ++ a2 ++ b2 ++ c2 ++ d2 ++ last
 same_parts header a1 a2 b1 b2 c1 c2 d1 d2 last a b c d = rw (a, b, c, d) refl
 
 -- parts that can be written
-parts_writable : (header courses rooms curricula unavailabilities last : List (List Piece)) → LinesWritable header → LinesWritable courses → LinesWritable rooms → LinesWritable curricula → LinesWritable unavailabilities → LinesWritable last
+parts_writable : (header courses rooms curricula unavailabilities last : List (List Piece)) → LinesWritable header
+    → LinesWritable courses → LinesWritable rooms → LinesWritable curricula → LinesWritable unavailabilities → LinesWritable last
     → LinesWritable (header ++ courses ++ rooms ++ curricula ++ unavailabilities ++ last)
 parts_writable header courses rooms curricula unavailabilities last h c r q b e =
     let to_courses = LinesWritable-append header courses h c in
@@ -101,7 +105,8 @@ module _ (p : Problem) (ok : IsInstance p) where
 
   -- the rooms can be written
   rooms_writable : LinesWritable (map room_pieces p.rooms)
-  rooms_writable = LinesWritable-map room_pieces p.rooms (λ k d h. (ok.room_tokens k d h, (small (get_or p.rooms k d).capacity (ok.within.each_room k d h), tt)))
+  rooms_writable = LinesWritable-map room_pieces p.rooms
+      (λ k d h. (ok.room_tokens k d h, (small (get_or p.rooms k d).capacity (ok.within.each_room k d h), tt)))
 
   -- the name of a course can be written
   named_writable : (c : ℕ) → c < length p.courses → IsWritable (named p.courses c)
@@ -113,7 +118,8 @@ module _ (p : Problem) (ok : IsInstance p) where
       LinesWritable-map (curriculum_pieces p.courses) p.curricula (λ k d h.
       let is : IsCurriculum (length p.courses) (get_or p.curricula k d) = ok.within.each_curriculum k d h in
       let ms : List ℕ = (get_or p.curricula k d).members in
-      let names = AreWritable-map (named p.courses) ms (All-weaker (λ c. c < length p.courses) (λ c. IsWritable (named p.courses c)) named_writable ms is.1) in
+      let names = AreWritable-map (named p.courses) ms
+      (All-weaker (λ c. c < length p.courses) (λ c. IsWritable (named p.courses c)) named_writable ms is.1) in
       (ok.curriculum_tokens k d h, (small (length ms) (omega (arith, is.0)), names)))
 
   -- the unavailabilities can be written
@@ -121,35 +127,46 @@ module _ (p : Problem) (ok : IsInstance p) where
   unavailabilities_writable =
       LinesWritable-map (unavailability_pieces p.courses) p.unavailabilities (λ k d h.
       let b : Unavailability = get_or p.unavailabilities k d in
-      let is : IsUnavailability (length p.courses) p.days p.periods b = ok.within.each_unavailability k d h in
-      (named_writable b.course is.0, (small b.day (omega (arith, is.1, ok.within.days)), (small b.period (omega (arith, is.2, ok.within.periods)), tt))))
+      let is : IsUnavailability (length p.courses) p.days p.periods b = ok.within.each_unavailability k d h in (
+        named_writable b.course is.0,
+        (small b.day (omega (arith, is.1, ok.within.days)), (small b.period (omega (arith, is.2, ok.within.periods)), tt)),
+      ))
 
   -- an instance can be written
   writable : LinesWritable (instance_lines p)
   writable =
-      let courses = LinesWritable-append (section word.CoursesPart) (map course_pieces p.courses) (section_writable word.CoursesPart) courses_writable in
-      let rooms = LinesWritable-append (section word.RoomsPart) (map room_pieces p.rooms) (section_writable word.RoomsPart) rooms_writable in
-      let curricula = LinesWritable-append (section word.CurriculaPart) (map (curriculum_pieces p.courses) p.curricula) (section_writable word.CurriculaPart) curricula_writable in
-      let unavailabilities = LinesWritable-append (section word.UnavailabilityPart) (map (unavailability_pieces p.courses) p.unavailabilities) (section_writable word.UnavailabilityPart) unavailabilities_writable in
-      parts_writable (header_lines p) (section_lines word.CoursesPart course_pieces p.courses) (section_lines word.RoomsPart room_pieces p.rooms)
-      (section_lines word.CurriculaPart (curriculum_pieces p.courses) p.curricula) (section_lines word.UnavailabilityPart (unavailability_pieces p.courses) p.unavailabilities) (section word.End)
+      let courses = LinesWritable-append (section word.CoursesPart) (map course_pieces p.courses)
+      (section_writable word.CoursesPart) courses_writable in
+      let rooms = LinesWritable-append (section word.RoomsPart) (map room_pieces p.rooms)
+      (section_writable word.RoomsPart) rooms_writable in
+      let curricula = LinesWritable-append (section word.CurriculaPart) (map (curriculum_pieces p.courses) p.curricula)
+      (section_writable word.CurriculaPart) curricula_writable in
+      let unavailabilities = LinesWritable-append (section word.UnavailabilityPart)
+      (map (unavailability_pieces p.courses) p.unavailabilities) (section_writable word.UnavailabilityPart) unavailabilities_writable in
+      parts_writable (header_lines p) (section_lines word.CoursesPart course_pieces p.courses)
+      (section_lines word.RoomsPart room_pieces p.rooms)
+      (section_lines word.CurriculaPart (curriculum_pieces p.courses) p.curricula)
+      (section_lines word.UnavailabilityPart (unavailability_pieces p.courses) p.unavailabilities) (section word.End)
       header_writable courses rooms curricula unavailabilities (section_writable word.End)
 
 -- the lines of a file have its pieces
 lines_are : (p : Problem) → all_pieces (instance_lines p) ≡ pieces p
 lines_are p =
     all_parts (header_lines p) (section_lines word.CoursesPart course_pieces p.courses) (section_lines word.RoomsPart room_pieces p.rooms)
-    (section_lines word.CurriculaPart (curriculum_pieces p.courses) p.curricula) (section_lines word.UnavailabilityPart (unavailability_pieces p.courses) p.unavailabilities) (section word.End)
+    (section_lines word.CurriculaPart (curriculum_pieces p.courses) p.curricula)
+    (section_lines word.UnavailabilityPart (unavailability_pieces p.courses) p.unavailabilities) (section word.End)
     ∙ same_parts (all_pieces (header_lines p)) _ _ _ _ _ _ _ _ (fixed word.End ∷ [])
     (section_is word.CoursesPart course_pieces p.courses) (section_is word.RoomsPart room_pieces p.rooms)
-    (section_is word.CurriculaPart (curriculum_pieces p.courses) p.curricula) (section_is word.UnavailabilityPart (unavailability_pieces p.courses) p.unavailabilities)
+    (section_is word.CurriculaPart (curriculum_pieces p.courses) p.curricula)
+    (section_is word.UnavailabilityPart (unavailability_pieces p.courses) p.unavailabilities)
 
 -- the text written for an instance spells it
 pub written_again : (p : Problem) → IsInstance p → Spells (instance_text p) p
 written_again p ok = record {
   written = p;
   rest = [];
-  begins = subst (λ (ps : List Piece). Begins ps (tokens_of (instance_text p)) []) (lines_are p) (lines_begin (instance_lines p) 0 (writable p ok));
+  begins = subst (λ (ps : List Piece). Begins ps (tokens_of (instance_text p)) []) (lines_are p)
+      (lines_begin (instance_lines p) 0 (writable p ok));
   within = ok.within;
   is_kept = kept_stays p ok.members_once ok.unavailabilities_once;
 }

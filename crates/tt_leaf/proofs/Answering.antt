@@ -29,7 +29,8 @@ pub compact_fit : (p : Problem) (path : List Fact) → All (IsFitClaim p) (worth
 compact_fit p path =
     All-filter (λ k. nat_lt 0 (value_of p path k)) (IsFitClaim p) (map Compact (all_curricula p))
     (All-from_recursion (IsFitClaim p) (map Compact (all_curricula p))
-    (each_map (IsFitClaim p) Compact (all_curricula p) (each_below (λ k. IsFitClaim p (Compact k)) (length p.curricula) (λ q h. record { numbers = h; short = tt }))))
+    (each_map (IsFitClaim p) Compact (all_curricula p)
+    (each_below (λ k. IsFitClaim p (Compact k)) (length p.curricula) (λ q h. record { numbers = h; short = tt }))))
 
 -- the leaf of claims that fit
 pub fit_answer : (p : Problem) (claims : List Claim) → All (IsFitClaim p) claims → IsAnswer p (Cost claims)
@@ -40,7 +41,8 @@ module _ (p : Problem) (path : List Fact) (ok : IsInstance p) where
   price_short c u h e =
       let ns = least_excesses p path c in
       let all = All-from_recursion (λ m. m ≤ 1000000) ns (each_given (least_excess p path c) (λ m. m ≤ 1000000) (all_slots p) (λ s m k.
-      least_short 1000000 (excess p c) (λ r. is_live p path (cell c r s)) (all_rooms p) (λ r. let a = few_students p ok c h in omega arith) m k)) in
+      least_short 1000000 (excess p c) (λ r. is_live p path (cell c r s)) (all_rooms p) (λ r. let a = few_students p ok c h in
+      omega arith) m k)) in
       All-contains (λ m. m ≤ 1000000) ns u all (find_member (is_kth ns _) ns u e)
 
   pub best_answer : IsAnswer p (best_leaf p path)

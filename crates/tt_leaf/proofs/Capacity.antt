@@ -38,21 +38,25 @@ greatest_is_kth k x xs h e =
     let w = greatest x xs in
     let u = w.0 in
     let n = min k (length ns) in
-    let all : count_by (λ m. nat_le m u) ns ≡ length ns = count_all (λ m. nat_le m u) ns (each_weaker (λ m. m ≤ u) (λ m. nat_le m u ≡ true) (λ m l. le-leb m u l) ns w.2) in
+    let all : count_by (λ m. nat_le m u) ns ≡ length ns =
+    count_all (λ m. nat_le m u) ns (each_weaker (λ m. m ≤ u) (λ m. nat_le m u ≡ true) (λ m l. le-leb m u l) ns w.2) in
     let itself : 1 ≤ count_by (λ m. not (nat_lt m u)) ns =
-    count_if_any (λ m. not (nat_lt m u)) ns (any_member (λ m. not (nat_lt m u)) ns u w.1 (not_from_false (nat_lt u u) (le-ltb u u (omega arith)))) in
+    count_if_any (λ m. not (nat_lt m u)) ns
+    (any_member (λ m. not (nat_lt m u)) ns u w.1 (not_from_false (nat_lt u u) (le-ltb u u (omega arith)))) in
     let fewer : count_by (λ m. nat_lt m u) ns < n = omega (arith, count_both (λ m. nat_lt m u) ns) in
     let enough : n ≤ count_by (λ m. nat_le m u) ns = omega arith in
     both_ways (list_any (is_kth ns n) ns) (find_none (is_kth ns n) ns e)
     (any_member (is_kth ns n) ns u w.1
-    (and_from (nat_lt (count_by (λ m. nat_lt m u) ns) n) (nat_le n (count_by (λ m. nat_le m u) ns)) (lt-ltb (count_by (λ m. nat_lt m u) ns) n fewer) (le-leb n (count_by (λ m. nat_le m u) ns) enough)))
+    (and_from (nat_lt (count_by (λ m. nat_lt m u) ns) n) (nat_le n (count_by (λ m. nat_le m u) ns))
+    (lt-ltb (count_by (λ m. nat_lt m u) ns) n fewer) (le-leb n (count_by (λ m. nat_le m u) ns) enough)))
 
 module _ (p : Problem) (path : List Fact) (pins : IsPinnedDown p path) where
   abbrev t : List Cell
   t = live_cells p path
 
   -- the excess of an entry of the course is at most the least excess of its period
-  entry_costs : (c : ℕ) (s : Slot) (e : Cell) → Contains t e → (is_of c e && is_at s e) ≡ true → excess p e.course e.room ≤ or_zero (least_excess p path c s)
+  entry_costs : (c : ℕ) (s : Slot) (e : Cell) → Contains t e → (is_of c e && is_at s e) ≡ true → excess p e.course e.room ≤ or_zero
+      (least_excess p path c s)
   entry_costs c s e m h =
       let a = and_parts (is_of c e) (is_at s e) h in
       let course = eqb-true e.course c a.0 in
@@ -68,8 +72,10 @@ module _ (p : Problem) (path : List Fact) (pins : IsPinnedDown p path) where
       same_room r l =
           let x = cell e.course r (slot_of e) in
           let k = same_live p path pins x e (range_of p path e m) l (is_live_of p path e m) (at_itself e)
-          (or_left ((e.room == r) || (e.course == e.course)) (conflict p e.course e.course) (or_right (e.room == r) (e.course == e.course) (eq-eqb e.course e.course refl))) in
-          let c2 = and_parts (e.course == e.course) (r == e.room) (and_parts ((e.course == e.course) && (r == e.room)) (is_at (slot_of e) x) k).0 in
+          (or_left ((e.room == r) || (e.course == e.course)) (conflict p e.course e.course)
+          (or_right (e.room == r) (e.course == e.course) (eq-eqb e.course e.course refl))) in
+          let c2 = and_parts (e.course == e.course) (r == e.room)
+          (and_parts ((e.course == e.course) && (r == e.room)) (is_at (slot_of e) x) k).0 in
           let same = ap (excess p e.course) (eqb-true r e.room c2.1) in
           omega arith
 
@@ -78,7 +84,8 @@ module _ (p : Problem) (path : List Fact) (pins : IsPinnedDown p path) where
           at_least_value (excess p e.course e.room) (least_excess p path e.course (slot_of e))
           (is_some-least (excess p e.course) (λ r. is_live p path (cell e.course r (slot_of e))) (all_rooms p) ∙ live_of p path pins e m)
           (least_over (excess p e.course e.room) (excess p e.course) (λ r. is_live p path (cell e.course r (slot_of e))) (all_rooms p)
-          (each (λ r. is_live p path (cell e.course r (slot_of e)) ≡ true → excess p e.course e.room ≤ excess p e.course r) same_room (all_rooms p)))
+          (each (λ r. is_live p path (cell e.course r (slot_of e)) ≡ true → excess p e.course e.room ≤ excess p e.course r) same_room
+          (all_rooms p)))
 
   -- the seats that a course lacks are at most the sum of the least excesses of its periods
   part-le : (c : ℕ) → part p t (RoomCapacity c) ≤ sum_by (λ s. or_zero (least_excess p path c s)) (all_slots p)
@@ -87,12 +94,15 @@ module _ (p : Problem) (path : List Fact) (pins : IsPinnedDown p path) where
       let up = spread_up (λ e. cond (is_of c e) (cost_of e) 0) (λ s e. cond (is_of c e && is_at s e) (cost_of e) 0) t (all_slots p)
       (each_member (λ e. cond (is_of c e) (cost_of e) 0 ≤ sum_by (λ s. cond (is_of c e && is_at s e) (cost_of e) 0) (all_slots p)) t (λ e m.
       let r = range_of p path e m in
-      once_at_least (is_of c e) (λ s. is_at s e) (cost_of e) (all_slots p) (any_slot p (λ s. is_at s e) e.day e.period r.day r.period (at_itself e)))) in
-      let down = sum_by-le (λ s. sum_by (λ e. cond (is_of c e && is_at s e) (cost_of e) 0) t) (λ s. or_zero (least_excess p path c s)) (all_slots p)
+      once_at_least (is_of c e) (λ s. is_at s e) (cost_of e) (all_slots p)
+      (any_slot p (λ s. is_at s e) e.day e.period r.day r.period (at_itself e)))) in
+      let down = sum_by-le (λ s. sum_by (λ e. cond (is_of c e && is_at s e) (cost_of e) 0) t) (λ s. or_zero (least_excess p path c s))
+      (all_slots p)
       (each (λ s. sum_by (λ e. cond (is_of c e && is_at s e) (cost_of e) 0) t ≤ or_zero (least_excess p path c s)) (λ s.
       let off = or_zero (least_excess p path c s) in
       let most = sum_by-le (λ e. cond (is_of c e && is_at s e) (cost_of e) 0) (λ e. cond (is_of c e && is_at s e) off 0) t
-      (each_member (λ e. cond (is_of c e && is_at s e) (cost_of e) 0 ≤ cond (is_of c e && is_at s e) off 0) t (λ e m. cond-le_cond (is_of c e && is_at s e) (cost_of e) off (entry_costs c s e m))) in
+      (each_member (λ e. cond (is_of c e && is_at s e) (cost_of e) 0 ≤ cond (is_of c e && is_at s e) off 0) t
+      (λ e m. cond-le_cond (is_of c e && is_at s e) (cost_of e) off (entry_costs c s e m))) in
       let places = sum_by-at_places (λ e. is_of c e && is_at s e) off t in
       let k = mul-le-mul_right off (once_of p path pins c s) in
       omega arith) (all_slots p)) in
@@ -110,18 +120,24 @@ module _ (p : Problem) (path : List Fact) (pins : IsPinnedDown p path) where
     as_many = length-filter_map (least_excess p path c) (all_slots p) ∙ counted
 
     -- a price that covers each least excess
-    at_price_u : (u : ℕ) → price_of p path c ≡ Some u → sum_by (λ s. or_zero (least_excess p path c s)) (all_slots p) ≤ value_of p path (Capacity c u)
+    at_price_u : (u : ℕ) → price_of p path c ≡ Some u → sum_by (λ s. or_zero (least_excess p path c s)) (all_slots p) ≤ value_of p path
+        (Capacity c u)
     at_price_u u e =
         let ns = least_excesses p path c in
         let n = min (lectures p c) (length ns) in
-        let a = and_parts (nat_lt (count_by (λ m. nat_lt m u) ns) n) (nat_le n (count_by (λ m. nat_le m u) ns)) (find_passes (is_kth ns n) ns u e) in
+        let a = and_parts (nat_lt (count_by (λ m. nat_lt m u) ns) n) (nat_le n (count_by (λ m. nat_le m u) ns))
+        (find_passes (is_kth ns n) ns u e) in
         let enough = leb-true n (count_by (λ m. nat_le m u) ns) a.1 in
         let spread = count_by-filter_map (least_excess p path c) (λ m. nat_le m u) (all_slots p) in
         let some : Slot → ℕ = λ s. one_if (is_some (least_excess p path c s)) in
         let low : Slot → ℕ = λ s. count_in (λ m. nat_le m u) (least_excess p path c s) in
-        let tight = sum_by-tight low some (all_slots p) (each (λ s. low s ≤ some s) (λ s. no_more (least_excess p path c s)) (all_slots p)) (omega (arith, as_many, counted)) in
-        let covered = sum_by-le (λ s. or_zero (least_excess p path c s) + above_least u (least_excess p path c s)) (λ s. some s * u) (all_slots p)
-        (each_weaker (λ s. some s ≤ low s) (λ s. or_zero (least_excess p path c s) + above_least u (least_excess p path c s) ≤ some s * u) (λ s k. by_case (least_excess p path c s) k) (all_slots p) tight) in
+        let tight = sum_by-tight low some (all_slots p) (each (λ s. low s ≤ some s) (λ s. no_more (least_excess p path c s))
+        (all_slots p)) (omega (arith, as_many, counted)) in
+        let covered = sum_by-le (λ s. or_zero (least_excess p path c s) + above_least u (least_excess p path c s)) (λ s. some s * u)
+        (all_slots p)
+        (each_weaker (λ s. some s ≤ low s)
+        (λ s. or_zero (least_excess p path c s) + above_least u (least_excess p path c s) ≤ some s * u)
+        (λ s k. by_case (least_excess p path c s) k) (all_slots p) tight) in
         let parts = sum_by-plus (λ s. or_zero (least_excess p path c s)) (λ s. above_least u (least_excess p path c s)) (all_slots p) in
         let off = discounts_are p path c u in
         let times = sum_by-times some u (all_slots p) in
@@ -143,7 +159,8 @@ module _ (p : Problem) (path : List Fact) (pins : IsPinnedDown p path) where
     no_lectures e =
         let entries : entries_of t c ≡ 0 = (lectures_placed p path pins b none c h).0 ∙ e in
         let k = sum_by-le (λ x. cond (is_of c x) (excess p x.course x.room) 0) (λ x. 0) t
-        (each_member (λ x. cond (is_of c x) (excess p x.course x.room) 0 ≤ 0) t (λ x m. rw (none_passes (is_of c) t x entries m) zero-le)) in
+        (each_member (λ x. cond (is_of c x) (excess p x.course x.room) 0 ≤ 0) t
+        (λ x m. rw (none_passes (is_of c) t x entries m) zero-le)) in
         omega (arith, sum_by-nothing t)
 
     some_price : 0 < lectures p c → price_of p path c ≡ None → ⊥

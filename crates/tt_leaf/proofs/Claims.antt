@@ -59,10 +59,12 @@ one_apart a k [] h e = refl
 one_apart a k (y ∷ ys) h e = and_from (differ a y) (list_all (differ a) ys) (apart_kinds a y (omega (arith, e.0))) (one_apart a k ys h e.1)
 
 -- targets of earlier kinds, and targets of one later kind
-joined : (k : ℕ) (xs ys : List Target) → AllByRecursion (λ x. kind x < k) xs → AllByRecursion (λ y. kind y ≡ k) ys → each_two differ xs ≡ true → each_two differ ys ≡ true → each_two differ (xs ++ ys) ≡ true
+joined : (k : ℕ) (xs ys : List Target) → AllByRecursion (λ x. kind x < k) xs → AllByRecursion (λ y. kind y ≡ k) ys
+    → each_two differ xs ≡ true → each_two differ ys ≡ true → each_two differ (xs ++ ys) ≡ true
 joined k xs ys a e f g =
     each_two-append differ xs ys
-    ∙ and_from (each_two differ xs) (list_all (λ x. list_all (differ x) ys) xs && each_two differ ys) f (and_from (list_all (λ x. list_all (differ x) ys) xs) (each_two differ ys) (cross xs a) g)
+    ∙ and_from (each_two differ xs) (list_all (λ x. list_all (differ x) ys) xs && each_two differ ys) f
+    (and_from (list_all (λ x. list_all (differ x) ys) xs) (each_two differ ys) (cross xs a) g)
   where
     cross : (zs : List Target) → AllByRecursion (λ x. kind x < k) zs → list_all (λ x. list_all (differ x) ys) zs ≡ true
     cross [] b = refl
@@ -72,18 +74,23 @@ joined k xs ys a e f g =
 
 claimed-append : (xs ys : List Claim) → claimed (xs ++ ys) ≡ claimed xs ++ claimed ys
 claimed-append [] ys = refl
-claimed-append (x ∷ xs) ys = ap (λ l. targets_of x ++ l) (claimed-append xs ys) ∙ sym (append_assoc (targets_of x) (claimed xs) (claimed ys))
+claimed-append (x ∷ xs) ys = ap (λ l. targets_of x ++ l) (claimed-append xs ys)
+    ∙ sym (append_assoc (targets_of x) (claimed xs) (claimed ys))
 
-claimed-map : (claim : ℕ → Claim) (target : ℕ → Target) → ((n : ℕ) → targets_of (claim n) ≡ target n ∷ []) → (ns : List ℕ) → claimed (map claim ns) ≡ map target ns
+claimed-map : (claim : ℕ → Claim) (target : ℕ → Target) → ((n : ℕ) → targets_of (claim n) ≡ target n ∷ []) → (ns : List ℕ)
+    → claimed (map claim ns) ≡ map target ns
 claimed-map claim target h [] = refl
 claimed-map claim target h (n ∷ ns) = ap (λ l. l ++ claimed (map claim ns)) (h n) ∙ ap (λ l. target n ∷ l) (claimed-map claim target h ns)
 
-claimed-capacity : (p : Problem) (path : List Fact) (ns : List ℕ) → claimed (capacity_claims p path ns) ≡ map RoomCapacity (filter (λ c. is_some (price_of p path c)) ns)
+claimed-capacity : (p : Problem) (path : List Fact) (ns : List ℕ) → claimed (capacity_claims p path ns) ≡ map RoomCapacity
+    (filter (λ c. is_some (price_of p path c)) ns)
 claimed-capacity p path [] = refl
 claimed-capacity p path (c ∷ cs) =
     claimed-append (at_price c (price_of p path c)) (capacity_claims p path cs) ∙ by_price (price_of p path c) (claimed-capacity p path cs)
   where
-    by_price : (o : Option ℕ) → claimed (capacity_claims p path cs) ≡ map RoomCapacity (filter (λ k. is_some (price_of p path k)) cs) → claimed (at_price c o) ++ claimed (capacity_claims p path cs) ≡ map RoomCapacity (cond (is_some o) (c ∷ filter (λ k. is_some (price_of p path k)) cs) (filter (λ k. is_some (price_of p path k)) cs))
+    by_price : (o : Option ℕ) → claimed (capacity_claims p path cs) ≡ map RoomCapacity (filter (λ k. is_some (price_of p path k)) cs)
+        → claimed (at_price c o) ++ claimed (capacity_claims p path cs) ≡ map RoomCapacity
+        (cond (is_some o) (c ∷ filter (λ k. is_some (price_of p path k)) cs) (filter (λ k. is_some (price_of p path k)) cs))
     by_price None e = e
     by_price (Some u) e = ap (λ l. RoomCapacity c ∷ l) e
 
@@ -103,7 +110,8 @@ module _ (days : ℕ → Claim) (time : (c : ℕ) → targets_of (days c) ≡ Wo
       let c = map Compact (all_curricula p) in
       let d = map Stable (all_courses p) in
       sym (filter-append is_worth (a ++ b ++ c) d
-      ∙ ap (λ l. l ++ filter is_worth d) (filter-append is_worth (a ++ b) c ∙ ap (λ l. l ++ filter is_worth c) (filter-append is_worth a b)))
+      ∙ ap (λ l. l ++ filter is_worth d) (filter-append is_worth (a ++ b) c ∙ ap (λ l. l ++ filter is_worth c)
+      (filter-append is_worth a b)))
 
   all_once : claims_once (all_claims days p path) ≡ true
   all_once =
@@ -128,14 +136,17 @@ module _ (days : ℕ → Claim) (time : (c : ℕ) → targets_of (days c) ≡ Wo
       let below = λ (target : ℕ → Target) (k : ℕ) (ns : List ℕ) (e : (n : ℕ) → kind (target n) < k).
       each_map (λ y. kind y < k) target ns (each (λ n. kind (target n) < k) e ns) in
       let ab = joined 1 ta tb (below RoomCapacity 1 priced (λ n. omega arith)) (of_kind WorkingDays 1 (all_courses p) (λ n. refl))
-      (once RoomCapacity priced ∙ each_two-of_filter (λ x y. not (x == y)) (λ k. is_some (price_of p path k)) (all_courses p) (distinct_below (length p.courses)))
+      (once RoomCapacity priced ∙ each_two-of_filter (λ x y. not (x == y)) (λ k. is_some (price_of p path k)) (all_courses p)
+      (distinct_below (length p.courses)))
       (once WorkingDays (all_courses p) ∙ distinct_below (length p.courses)) in
       let abc = joined 2 (ta ++ tb) tc
-      (each_append (λ y. kind y < 2) ta tb (below RoomCapacity 2 priced (λ n. omega arith)) (below WorkingDays 2 (all_courses p) (λ n. omega arith)))
+      (each_append (λ y. kind y < 2) ta tb (below RoomCapacity 2 priced (λ n. omega arith))
+      (below WorkingDays 2 (all_courses p) (λ n. omega arith)))
       (of_kind Compactness 2 (all_curricula p) (λ n. refl)) ab (once Compactness (all_curricula p) ∙ distinct_below (length p.curricula)) in
       let abcd = joined 3 (ta ++ tb ++ tc) td
       (each_append (λ y. kind y < 3) (ta ++ tb) tc
-      (each_append (λ y. kind y < 3) ta tb (below RoomCapacity 3 priced (λ n. omega arith)) (below WorkingDays 3 (all_courses p) (λ n. omega arith)))
+      (each_append (λ y. kind y < 3) ta tb (below RoomCapacity 3 priced (λ n. omega arith))
+      (below WorkingDays 3 (all_courses p) (λ n. omega arith)))
       (below Compactness 3 (all_curricula p) (λ n. omega arith)))
       (of_kind Stability 3 (all_courses p) (λ n. refl)) abc (once Stability (all_courses p) ∙ distinct_below (length p.courses)) in
       ap (each_two differ) is ∙ abcd
@@ -154,7 +165,8 @@ module _ (days : ℕ → Claim) (time : (c : ℕ) → targets_of (days c) ≡ Wo
     fair_prices [] = refl
     fair_prices (c ∷ cs) =
         list_all-append (is_fair p path) (at_price c (price_of p path c)) (capacity_claims p path cs)
-        ∙ and_from (list_all (is_fair p path) (at_price c (price_of p path c))) (list_all (is_fair p path) (capacity_claims p path cs)) (by_price (price_of p path c)) (fair_prices cs)
+        ∙ and_from (list_all (is_fair p path) (at_price c (price_of p path c))) (list_all (is_fair p path) (capacity_claims p path cs))
+        (by_price (price_of p path c)) (fair_prices cs)
       where
         by_price : (o : Option ℕ) → list_all (is_fair p path) (at_price c o) ≡ true
         by_price None = refl
@@ -167,22 +179,27 @@ module _ (days : ℕ → Claim) (time : (c : ℕ) → targets_of (days c) ≡ Wo
         let b = map days (all_courses p) in
         let c = map Compact (all_curricula p) in
         let d = map Stable (all_courses p) in
-        let kinds = λ (claim : ℕ → Claim) (ns : List ℕ) (e : (n : ℕ) → is_fair p path (claim n) ≡ true). list_all-map test claim ns ∙ all_pass (λ n. test (claim n)) ns e in
+        let kinds = λ (claim : ℕ → Claim) (ns : List ℕ) (e : (n : ℕ) → is_fair p path (claim n) ≡ true). list_all-map test claim ns
+        ∙ all_pass (λ n. test (claim n)) ns e in
         ap (list_all test) worth_joined
         ∙ filter_all_pass test is_worth (all_claims days p path)
         (list_all-append test (a ++ b ++ c) d
         ∙ and_from (list_all test (a ++ b ++ c)) (list_all test d)
         (list_all-append test (a ++ b) c ∙ and_from (list_all test (a ++ b)) (list_all test c)
-        (list_all-append test a b ∙ and_from (list_all test a) (list_all test b) (fair_prices (all_courses p)) (kinds days (all_courses p) plain))
+        (list_all-append test a b ∙ and_from (list_all test a) (list_all test b) (fair_prices (all_courses p))
+        (kinds days (all_courses p) plain))
         (kinds Compact (all_curricula p) (λ n. refl)))
         (kinds Stable (all_courses p) (λ n. refl)))
 
   -- ---- each claim
 
   -- a property of the claims of each kind holds of the claims of positive value
-  pub each_claim : (P : Claim → Type 0) → ((c u : ℕ) → c < length p.courses → price_of p path c ≡ Some u → P (Capacity c u)) → ((c : ℕ) → c < length p.courses → P (days c)) → ((q : ℕ) → q < length p.curricula → P (Compact q)) → ((c : ℕ) → c < length p.courses → P (Stable c)) → All P (claims_with days p path)
+  pub each_claim : (P : Claim → Type 0) → ((c u : ℕ) → c < length p.courses → price_of p path c ≡ Some u → P (Capacity c u))
+      → ((c : ℕ) → c < length p.courses → P (days c)) → ((q : ℕ) → q < length p.curricula → P (Compact q))
+      → ((c : ℕ) → c < length p.courses → P (Stable c)) → All P (claims_with days p path)
   each_claim P of_capacity of_days of_compact of_stable =
-      let kept = λ (claims : List Claim) (a : AllByRecursion P claims). recursion_from_All P (worth p path claims) (All-filter is_worth P claims (All-from_recursion P claims a)) in
+      let kept = λ (claims : List Claim) (a : AllByRecursion P claims). recursion_from_All P (worth p path claims)
+      (All-filter is_worth P claims (All-from_recursion P claims a)) in
       let a = capacity_claims p path (all_courses p) in
       let b = map days (all_courses p) in
       let c = map Compact (all_curricula p) in
@@ -191,7 +208,9 @@ module _ (days : ℕ → Claim) (time : (c : ℕ) → targets_of (days c) ≡ Wo
       (each_append P (worth p path a ++ worth p path b ++ worth p path c) (worth p path d)
       (each_append P (worth p path a ++ worth p path b) (worth p path c)
       (each_append P (worth p path a) (worth p path b)
-      (kept a (each_flat P (λ k. at_price k (price_of p path k)) (all_courses p) (each_below (λ k. AllByRecursion P (at_price k (price_of p path k))) (length p.courses) (λ k h. by_price k h (price_of p path k) refl))))
+      (kept a (each_flat P (λ k. at_price k (price_of p path k)) (all_courses p)
+      (each_below (λ k. AllByRecursion P (at_price k (price_of p path k))) (length p.courses)
+      (λ k h. by_price k h (price_of p path k) refl))))
       (kept b (each_map P days (all_courses p) (each_below (λ k. P (days k)) (length p.courses) of_days))))
       (kept c (each_map P Compact (all_curricula p) (each_below (λ k. P (Compact k)) (length p.curricula) of_compact))))
       (kept d (each_map P Stable (all_courses p) (each_below (λ k. P (Stable k)) (length p.courses) of_stable))))
@@ -213,7 +232,9 @@ module _ (days : ℕ → Claim) (time : (c : ℕ) → targets_of (days c) ≡ Wo
       sum_by-of_filter (value_of p path) is_worth claims
       ∙ sum_by-same (λ k. cond (is_worth k) (value_of p path k) 0) (value_of p path) claims (λ k. or_nothing (value_of p path k))
 
-  pub total-claims : total_of p path (claims_with days p path) ≡ sum_by (λ c. sum_by (value_of p path) (at_price c (price_of p path c))) (all_courses p) + sum_by (λ c. value_of p path (days c)) (all_courses p) + sum_by (λ q. value_of p path (Compact q)) (all_curricula p) + sum_by (λ c. value_of p path (Stable c)) (all_courses p)
+  pub total-claims : total_of p path (claims_with days p path) ≡ sum_by (λ c. sum_by (value_of p path) (at_price c (price_of p path c)))
+      (all_courses p) + sum_by (λ c. value_of p path (days c)) (all_courses p) + sum_by (λ q. value_of p path (Compact q))
+      (all_curricula p) + sum_by (λ c. value_of p path (Stable c)) (all_courses p)
   total-claims =
       let f = value_of p path in
       let a = capacity_claims p path (all_courses p) in

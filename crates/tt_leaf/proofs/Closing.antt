@@ -44,11 +44,13 @@ module _ (p : Problem) (path : List Fact) (pins : IsPinnedDown p path) where
 
   -- ---- Days
 
-  taught_on : (c : ℕ) → c < length p.courses → (d : ℕ) → d < p.days → live_day p path c d ≡ true → list_any (λ e. is_of c e && is_on d e) t ≡ true
+  taught_on : (c : ℕ) → c < length p.courses → (d : ℕ) → d < p.days → live_day p path c d ≡ true
+      → list_any (λ e. is_of c e && is_on d e) t ≡ true
   taught_on c h d k e =
       let w = member_from_any (λ s. live_period p path c (slot d s)) (range_below p.periods) e in
       let v = live_at p path pins c h (slot d w.0) (record { day = k; period = below_member p.periods w.0 w.1 }) w.2 in
-      any_live p path (λ x. is_of c x && is_on d x) (cell c v.0 (slot d w.0)) v.1 v.2 (and_from (c == c) (d == d) (eq-eqb c c refl) (eq-eqb d d refl))
+      any_live p path (λ x. is_of c x && is_on d x) (cell c v.0 (slot d w.0)) v.1 v.2
+      (and_from (c == c) (d == d) (eq-eqb c c refl) (eq-eqb d d refl))
 
   days_worth : (c : ℕ) → c < length p.courses → days_cost p t c ≤ value_of p path (Days c)
   days_worth c h =
@@ -69,7 +71,8 @@ module _ (p : Problem) (path : List Fact) (pins : IsPinnedDown p path) where
       let x = w.0 in
       let a = and_parts (is_of c x) (is_in r x) w.2 in
       subst (λ i. pinned_room p path c i ≡ true) (eqb-true x.room r a.1)
-      (subst (λ i. pinned_room p path i x.room ≡ true) (eqb-true x.course c a.0) (pinned_room_at p path pins x (range_of p path x w.1) (is_live_of p path x w.1)))))
+      (subst (λ i. pinned_room p path i x.room ≡ true) (eqb-true x.course c a.0)
+      (pinned_room_at p path pins x (range_of p path x w.1) (is_live_of p path x w.1)))))
       (all_rooms p)) in
       omega arith
 
@@ -120,10 +123,13 @@ module _ (p : Problem) (path : List Fact) (pins : IsPinnedDown p path) where
         let up = spread_up (λ e. one_if (good e)) (λ s e. one_if (good e && is_at s e)) t (all_slots p)
         (each_member (λ e. one_if (good e) ≤ sum_by (λ s. one_if (good e && is_at s e)) (all_slots p)) t (λ e m.
         let r = range_of p path e m in
-        once_at_least (good e) (λ s. is_at s e) 1 (all_slots p) (any_slot p (λ s. is_at s e) e.day e.period r.day r.period (at_itself e)))) in
-        let most = sum_by-le (λ s. count_by (λ e. good e && is_at s e) t) (λ s. one_if (pinned p path (Curriculum q) s && is_alone p path q s)) (all_slots p)
+        once_at_least (good e) (λ s. is_at s e) 1 (all_slots p)
+        (any_slot p (λ s. is_at s e) e.day e.period r.day r.period (at_itself e)))) in
+        let most = sum_by-le (λ s. count_by (λ e. good e && is_at s e) t)
+        (λ s. one_if (pinned p path (Curriculum q) s && is_alone p path q s)) (all_slots p)
         (each (λ s. count_by (λ e. good e && is_at s e) t ≤ one_if (pinned p path (Curriculum q) s && is_alone p path q s)) (λ s.
-        counted_once (count_by (λ e. good e && is_at s e) t) (pinned p path (Curriculum q) s && is_alone p path q s) (few_good s) (λ h. alone_where s (any_if_count (λ e. good e && is_at s e) t h))) (all_slots p)) in
+        counted_once (count_by (λ e. good e && is_at s e) t) (pinned p path (Curriculum q) s && is_alone p path q s) (few_good s)
+        (λ h. alone_where s (any_if_count (λ e. good e && is_at s e) t h))) (all_slots p)) in
         omega arith
 
   -- ---- all kinds
@@ -132,7 +138,8 @@ module _ (p : Problem) (path : List Fact) (pins : IsPinnedDown p path) where
   capacity_parts =
       spread_up (λ e. excess p e.course e.room) (λ i e. cond (is_of i e) (excess p e.course e.room) 0) t (all_courses p)
       (each_member (λ e. excess p e.course e.room ≤ sum_by (λ i. cond (is_of i e) (excess p e.course e.room) 0) (all_courses p)) t (λ e m.
-      once_at_least true (λ i. is_of i e) (excess p e.course e.room) (all_courses p) (any_below (λ i. is_of i e) (length p.courses) e.course (range_of p path e m).course (eq-eqb e.course e.course refl))))
+      once_at_least true (λ i. is_of i e) (excess p e.course e.room) (all_courses p)
+      (any_below (λ i. is_of i e) (length p.courses) e.course (range_of p path e m).course (eq-eqb e.course e.course refl))))
 
   module _ (ok : IsInstance p) (b : Bound) (none : IsOpen p path b) where
     -- the value of the best claims is at least the cost of the live cells
@@ -143,14 +150,20 @@ module _ (p : Problem) (path : List Fact) (pins : IsPinnedDown p path) where
           total-claims Days (λ c. refl) p path,
           capacity_parts,
           sum_by-le (λ c. part p t (RoomCapacity c)) (λ c. sum_by (value_of p path) (at_price c (price_of p path c))) (all_courses p)
-              (each_below (λ c. part p t (RoomCapacity c) ≤ sum_by (value_of p path) (at_price c (price_of p path c))) (length p.courses) (λ c h. capacity_worth p path pins b none c h)),
-          sum_by-le (days_cost p t) (λ c. value_of p path (Days c)) (all_courses p) (each_below (λ c. days_cost p t c ≤ value_of p path (Days c)) (length p.courses) days_worth),
-          sum_by-le (compactness_cost p t) (λ q. value_of p path (Compact q)) (all_curricula p) (each_below (λ q. compactness_cost p t q ≤ value_of p path (Compact q)) (length p.curricula) (λ q h. compact_worth q (members_below p q ok h))),
-          sum_by-le (stability_cost p t) (λ c. value_of p path (Stable c)) (all_courses p) (each (λ c. stability_cost p t c ≤ value_of p path (Stable c)) stable_worth (all_courses p)),
+              (each_below (λ c. part p t (RoomCapacity c) ≤ sum_by (value_of p path) (at_price c (price_of p path c)))
+              (length p.courses) (λ c h. capacity_worth p path pins b none c h)),
+          sum_by-le (days_cost p t) (λ c. value_of p path (Days c)) (all_courses p)
+              (each_below (λ c. days_cost p t c ≤ value_of p path (Days c)) (length p.courses) days_worth),
+          sum_by-le (compactness_cost p t) (λ q. value_of p path (Compact q)) (all_curricula p)
+              (each_below (λ q. compactness_cost p t q ≤ value_of p path (Compact q)) (length p.curricula)
+              (λ q h. compact_worth q (members_below p q ok h))),
+          sum_by-le (stability_cost p t) (λ c. value_of p path (Stable c)) (all_courses p)
+              (each (λ c. stability_cost p t c ≤ value_of p path (Stable c)) stable_worth (all_courses p)),
         )
 
   -- if each feasible timetable on the path respects a bound, a leaf reaches it
-  pub pinned_closes : IsInstance p → (b : Bound) → ((u : List Cell) → IsFeasible p u → Fits p u path → Respects b (cost p u)) → IsOpen p path b → ⊥
+  pub pinned_closes : IsInstance p → (b : Bound) → ((u : List Cell) → IsFeasible p u → Fits p u path → Respects b (cost p u))
+      → IsOpen p path b → ⊥
   pinned_closes ok Nothing holds none = holds t (is_feasible p path pins Nothing none) (fits p path pins Nothing none)
   pinned_closes ok (AtLeast n) holds none =
       let below : n ≤ cost p t = holds t (is_feasible p path pins (AtLeast n) none) (fits p path pins (AtLeast n) none) in

@@ -42,12 +42,14 @@ module _ (p : Problem) (path : List Fact) (pins : IsPinnedDown p path) where
 
   -- -- the periods and rooms that a live cell pins
 
-  pub pinned_at : (who : Who) (x : Cell) → InRange p x → is_live p path x ≡ true → is_pinned_by p who (Course x.course) ≡ true → pinned p path who (slot_of x) ≡ true
+  pub pinned_at : (who : Who) (x : Cell) → InRange p x → is_live p path x ≡ true → is_pinned_by p who (Course x.course) ≡ true
+      → pinned p path who (slot_of x) ≡ true
   pinned_at who x r l e =
       let w = own_fact path x (pins x r l) in
       let f = w.0 in
       let test : Pattern → Bool = λ g. f.holds && is_pinned_by p who g.who && gives g.day x.day && gives g.period x.period in
-      any_member (λ k. k.holds && is_pinned_by p who k.pattern.who && gives k.pattern.day x.day && gives k.pattern.period x.period) path f w.1
+      any_member (λ k. k.holds && is_pinned_by p who k.pattern.who && gives k.pattern.day x.day && gives k.pattern.period x.period) path
+      f w.1
       (subst (λ g. test g ≡ true) (sym w.3)
       (and_from (f.holds && is_pinned_by p who (Course x.course) && (x.day == x.day)) (x.period == x.period)
       (and_from (f.holds && is_pinned_by p who (Course x.course)) (x.day == x.day)
@@ -66,12 +68,14 @@ module _ (p : Problem) (path : List Fact) (pins : IsPinnedDown p path) where
   -- ---- live periods are the periods of the live cells
 
   -- the live cell of a live period
-  pub live_at : (c : ℕ) → c < length p.courses → (s : Slot) → IsSlot p s → live_period p path c s ≡ true → (r : ℕ) × InRange p (cell c r s) × (is_live p path (cell c r s) ≡ true)
+  pub live_at : (c : ℕ) → c < length p.courses → (s : Slot) → IsSlot p s → live_period p path c s ≡ true
+      → (r : ℕ) × InRange p (cell c r s) × (is_live p path (cell c r s) ≡ true)
   live_at c h s i e =
       let w = member_from_any (λ r. is_live p path (cell c r s)) (all_rooms p) e in
       (w.0, record { course = h; room = below_member (length p.rooms) w.0 w.1; day = i.day; period = i.period }, w.2)
 
-  pub entry_at : (c : ℕ) → c < length p.courses → (s : Slot) → IsSlot p s → live_period p path c s ≡ true → list_any (λ e. is_of c e && is_at s e) t ≡ true
+  pub entry_at : (c : ℕ) → c < length p.courses → (s : Slot) → IsSlot p s → live_period p path c s ≡ true
+      → list_any (λ e. is_of c e && is_at s e) t ≡ true
   entry_at c h s i e =
       let w = live_at c h s i e in
       any_live p path (λ x. is_of c x && is_at s x) (cell c w.0 s) w.1 w.2
@@ -79,7 +83,8 @@ module _ (p : Problem) (path : List Fact) (pins : IsPinnedDown p path) where
 
   pub live_of : (x : Cell) → Contains t x → live_period p path x.course (slot_of x) ≡ true
   live_of x m =
-      any_below (λ r. is_live p path (cell x.course r (slot_of x))) (length p.rooms) x.room (range_of p path x m).room (is_live_of p path x m)
+      any_below (λ r. is_live p path (cell x.course r (slot_of x))) (length p.rooms) x.room (range_of p path x m).room
+      (is_live_of p path x m)
 
   pub live_entry_at : (c : ℕ) (s : Slot) → list_any (λ e. is_of c e && is_at s e) t ≡ true → live_period p path c s ≡ true
   live_entry_at c s e =
@@ -94,10 +99,12 @@ module _ (p : Problem) (path : List Fact) (pins : IsPinnedDown p path) where
       let up = spread_up (λ e. one_if (is_of c e)) (λ s e. one_if (is_of c e && is_at s e)) t (all_slots p)
       (each_member (λ e. one_if (is_of c e) ≤ sum_by (λ s. one_if (is_of c e && is_at s e)) (all_slots p)) t (λ e m.
       let r = range_of p path e m in
-      once_at_least (is_of c e) (λ s. is_at s e) 1 (all_slots p) (any_slot p (λ s. is_at s e) e.day e.period r.day r.period (at_itself e)))) in
+      once_at_least (is_of c e) (λ s. is_at s e) 1 (all_slots p)
+      (any_slot p (λ s. is_at s e) e.day e.period r.day r.period (at_itself e)))) in
       let most = sum_by-le (λ s. count_by (λ e. is_of c e && is_at s e) t) (λ s. one_if (live_period p path c s)) (all_slots p)
       (each (λ s. count_by (λ e. is_of c e && is_at s e) t ≤ one_if (live_period p path c s)) (λ s.
-      counted_once (count_by (λ e. is_of c e && is_at s e) t) (live_period p path c s) (once_of p path pins c s) (λ k. live_entry_at c s (any_if_count (λ e. is_of c e && is_at s e) t k))) (all_slots p)) in
+      counted_once (count_by (λ e. is_of c e && is_at s e) t) (live_period p path c s) (once_of p path pins c s)
+      (λ k. live_entry_at c s (any_if_count (λ e. is_of c e && is_at s e) t k))) (all_slots p)) in
       omega arith
 
   pub live-le_periods : (c : ℕ) → c < length p.courses → count_by (live_period p path c) (all_slots p) ≤ periods_of p t c
@@ -118,13 +125,15 @@ module _ (p : Problem) (path : List Fact) (pins : IsPinnedDown p path) where
     few_pinned : (c : ℕ) → c < length p.courses → pinned_periods p path (Course c) ≤ lectures p c
     few_pinned c h =
         ltb-false (lectures p c) (pinned_periods p path (Course c))
-        (false_from_ne_true (nat_lt (lectures p c) (pinned_periods p path (Course c))) (λ e. none.many c h (ltb-true (lectures p c) (pinned_periods p path (Course c)) e)))
+        (false_from_ne_true (nat_lt (lectures p c) (pinned_periods p path (Course c)))
+        (λ e. none.many c h (ltb-true (lectures p c) (pinned_periods p path (Course c)) e)))
 
     enough_live : (c : ℕ) → c < length p.courses → lectures p c ≤ count_by (live_period p path c) (all_slots p)
     enough_live c h =
         let more = nat_lt (open_periods p path (c ∷ [])) (all_lectures p (c ∷ [])) in
         let k = ltb-false (open_periods p path (c ∷ [])) (all_lectures p (c ∷ []))
-        (false_from_ne_true more (λ e. none.clique c h (omega arith, refl, ltb-true (open_periods p path (c ∷ [])) (all_lectures p (c ∷ [])) e))) in
+        (false_from_ne_true more
+        (λ e. none.clique c h (omega arith, refl, ltb-true (open_periods p path (c ∷ [])) (all_lectures p (c ∷ [])) e))) in
         omega (arith, k, sum_by-cons (lectures p) c [], same)
       where
         or_nothing : (x : Bool) → (x || false) ≡ x
@@ -132,10 +141,12 @@ module _ (p : Problem) (path : List Fact) (pins : IsPinnedDown p path) where
         or_nothing false = refl
 
         same : open_periods p path (c ∷ []) ≡ count_by (live_period p path c) (all_slots p)
-        same = sum_by-same (λ s. one_if (live_period p path c s || false)) (λ s. one_if (live_period p path c s)) (all_slots p) (λ s. ap one_if (or_nothing (live_period p path c s)))
+        same = sum_by-same (λ s. one_if (live_period p path c s || false)) (λ s. one_if (live_period p path c s)) (all_slots p)
+            (λ s. ap one_if (or_nothing (live_period p path c s)))
 
     -- each course has all its lectures, and as many live periods
-    pub lectures_placed : (c : ℕ) → c < length p.courses → (entries_of t c ≡ lectures p c) × (count_by (live_period p path c) (all_slots p) ≡ lectures p c)
+    pub lectures_placed : (c : ℕ) → c < length p.courses → (entries_of t c ≡ lectures p c)
+        × (count_by (live_period p path c) (all_slots p) ≡ lectures p c)
     lectures_placed c h =
         let a = entries-le c in
         let k = live-le_periods c h in
@@ -163,14 +174,16 @@ module _ (p : Problem) (path : List Fact) (pins : IsPinnedDown p path) where
         let a = and_parts ((x.day == y.day) && (x.period == y.period)) (conflict p x.course y.course) e in
         let k = same_live p path pins x y (range_of p path y my) (is_live_of p path x mx) (is_live_of p path y my) a.0
         (or_right ((y.room == x.room) || (y.course == x.course)) (conflict p y.course x.course) (conflict-turn p x.course y.course a.1)) in
-        let c = and_parts (x.course == y.course) (x.room == y.room) (and_parts ((x.course == y.course) && (x.room == y.room)) (is_at (slot_of y) x) k).0 in
+        let c = and_parts (x.course == y.course) (x.room == y.room)
+        (and_parts ((x.course == y.course) && (x.room == y.room)) (is_at (slot_of y) x) k).0 in
         let d = and_parts (not (x.course == y.course)) (one_teacher p x.course y.course || one_curriculum p x.course y.course) a.1 in
         both_ways (x.course == y.course) (not-true (x.course == y.course) d.0) c.0)
 
     no_occupancy : occupancy_count p t ≡ 0
     no_occupancy =
         sum_by-same (λ r. sum_by (λ s. entries_in t r s - 1) (all_slots p)) (λ r. 0) (all_rooms p) (λ r.
-        sum_by-same (λ s. entries_in t r s - 1) (λ s. 0) (all_slots p) (λ s. omega (arith, once_in p path pins r s)) ∙ sum_by-nothing (all_slots p))
+        sum_by-same (λ s. entries_in t r s - 1) (λ s. 0) (all_slots p) (λ s. omega (arith, once_in p path pins r s))
+        ∙ sum_by-nothing (all_slots p))
         ∙ sum_by-nothing (all_rooms p)
 
     pub is_feasible : IsFeasible p t
@@ -197,7 +210,8 @@ module _ (p : Problem) (path : List Fact) (pins : IsPinnedDown p path) where
         let w = member_from_any (matches p f.pattern) t k in
         live_not_barred p path w.0 (is_live_of p path w.0 w.1)
         (or_right (unavailable p w.0.course w.0.day w.0.period) (list_any (λ g. not g.holds && matches p g.pattern w.0) path)
-        (any_member (λ g. not g.holds && matches p g.pattern w.0) path f m (and_from (not f.holds) (matches p f.pattern w.0) (not_from_false f.holds e) w.2))))
+        (any_member (λ g. not g.holds && matches p g.pattern w.0) path f m
+        (and_from (not f.holds) (matches p f.pattern w.0) (not_from_false f.holds e) w.2))))
 
     pub fits : Fits p t path
     fits = All-from_recursion (Holds p t) path (each_member (Holds p t) path (λ f m. elim (cases_Bool f.holds) [

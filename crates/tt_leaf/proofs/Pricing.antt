@@ -15,13 +15,15 @@ module _ {X : Type 0} (number : X → ℕ) where
   abbrev differ : X → X → Bool
   differ a b = not (number a == number b)
 
-  once_more : (xs : List X) (x : X) → AllByRecursion (λ k. number k < number x) xs → each_two differ xs ≡ true → each_two differ (xs ++ x ∷ []) ≡ true
+  once_more : (xs : List X) (x : X) → AllByRecursion (λ k. number k < number x) xs → each_two differ xs ≡ true
+      → each_two differ (xs ++ x ∷ []) ≡ true
   once_more [] x a e = refl
   once_more (k ∷ xs) x a e =
       let h = and_parts (list_all (differ k) xs) (each_two differ xs) e in
       let apart = not_from_false (number k == number x) (ne_eqb (number k) (number x) (λ q. let l = a.0 in omega arith)) in
       and_from (list_all (differ k) (xs ++ x ∷ [])) (each_two differ (xs ++ x ∷ []))
-      (list_all-append (differ k) xs (x ∷ []) ∙ and_from (list_all (differ k) xs) (differ k x && true) h.0 (and_from (differ k x) true apart refl))
+      (list_all-append (differ k) xs (x ∷ []) ∙ and_from (list_all (differ k) xs) (differ k x && true) h.0
+      (and_from (differ k x) true apart refl))
       (once_more xs x a.1 h.1)
 
 -- no price for the next number
@@ -34,7 +36,9 @@ prices_more prices i u a = record {
   within =
       subst (AreBelow (i + 1)) (sym (map-append (λ (k : ℕ × ℕ). k.0) prices ((i, u) ∷ [])))
       (All-push (λ n. n < i + 1) (map (λ (k : ℕ × ℕ). k.0) prices) i (λ k d h. omega (arith, a.within k d h)) (omega arith));
-  once = once_more (λ (k : ℕ × ℕ). k.0) prices (i, u) (each_of_map (λ n. n < i) (λ (k : ℕ × ℕ). k.0) prices (recursion_from_All (λ n. n < i) (map (λ (k : ℕ × ℕ). k.0) prices) a.within)) a.once;
+  once = once_more (λ (k : ℕ × ℕ). k.0) prices (i, u)
+      (each_of_map (λ n. n < i) (λ (k : ℕ × ℕ). k.0) prices
+      (recursion_from_All (λ n. n < i) (map (λ (k : ℕ × ℕ). k.0) prices) a.within)) a.once;
 }
 
 -- a list without the next number

@@ -19,7 +19,8 @@ use Rattle.tt_leaf.specs.Best.{is_kth, least_excesses, price_of, at_price, capac
 use Rattle.tt_leaf.specs.Inner.Seated.{is_nothing, is_seated, seated_periods}
 
 -- a period that passes and the earlier periods that pass are among all that pass
-pub passes_among : (p q : Problem) (t : Slot → Bool) (i total : ℕ) (s : Slot) → q ≡ p → i < length (all_slots q) → s ≡ get_or (all_slots q) i s → total ≡ count_by t (take i (all_slots p)) → true ≡ t s → total + 1 ≤ count_by t (all_slots p)
+pub passes_among : (p q : Problem) (t : Slot → Bool) (i total : ℕ) (s : Slot) → q ≡ p → i < length (all_slots q)
+    → s ≡ get_or (all_slots q) i s → total ≡ count_by t (take i (all_slots p)) → true ≡ t s → total + 1 ≤ count_by t (all_slots p)
 passes_among p q t i total s same h is e pass =
     let k = slots_count_yes p q t i total (total + 1) s same h is e pass refl in
     omega (arith, k, sum_by-take-le (λ z. cond (t z) 1 0) (all_slots p) (i + 1))
@@ -33,7 +34,8 @@ module _ (p : Problem) (path : List Fact) (c : ℕ) where
   seated-le u h =
       let seated : Slot → ℕ = λ s. cond (is_seated p path c s) 1 0 in
       let below : Slot → ℕ = λ s. count_in (λ m. nat_lt m u) (least_excess p path c s) in
-      let k = sum_by-le seated below (all_slots p) (each (λ s. seated s ≤ below s) (λ s. seated_below u h (least_excess p path c s)) (all_slots p)) in
+      let k = sum_by-le seated below (all_slots p) (each (λ s. seated s ≤ below s) (λ s. seated_below u h (least_excess p path c s))
+      (all_slots p)) in
       omega (arith, k, count_by-filter_map (least_excess p path c) (λ m. nat_lt m u) (all_slots p))
 
   price_nothing : lectures p c ≤ seated_periods p path c → (u : ℕ) → price_of p path c ≡ Some u → u ≡ 0
@@ -41,7 +43,8 @@ module _ (p : Problem) (path : List Fact) (c : ℕ) where
     | inl l ↦
         let ns = least_excesses p path c in
         let k = min (lectures p c) (length ns) in
-        let a = and_parts (nat_lt (count_by (λ m. nat_lt m u) ns) k) (nat_le k (count_by (λ m. nat_le m u) ns)) (find_passes (is_kth ns k) ns u e) in
+        let a = and_parts (nat_lt (count_by (λ m. nat_lt m u) ns) k) (nat_le k (count_by (λ m. nat_le m u) ns))
+        (find_passes (is_kth ns k) ns u e) in
         let at_most = ltb-true (count_by (λ m. nat_lt m u) ns) k a.0 in
         absurd (omega (arith, at_most, seated-le u l))
     | inr l ↦ omega arith

@@ -17,11 +17,13 @@ module _ (p : Problem) (path : List Fact) where
   is_worth claim = nat_lt 0 (value_of p path claim)
 
   -- another claim of a kind
-  pub worth_more : (claim : ℕ → Claim) (i : ℕ) → worth p path (map claim (range_below (i + 1))) ≡ worth p path (map claim (range_below i)) ++ worth p path (claim i ∷ [])
+  pub worth_more : (claim : ℕ → Claim) (i : ℕ) → worth p path (map claim (range_below (i + 1))) ≡ worth p path
+      (map claim (range_below i)) ++ worth p path (claim i ∷ [])
   worth_more claim i = kept_one_more is_worth claim i
 
   -- the claims on another course
-  pub capacity_more : (i : ℕ) → worth p path (capacity_claims p path (range_below (i + 1))) ≡ worth p path (capacity_claims p path (range_below i)) ++ worth p path (capacity_claims p path (i ∷ []))
+  pub capacity_more : (i : ℕ) → worth p path (capacity_claims p path (range_below (i + 1))) ≡ worth p path
+      (capacity_claims p path (range_below i)) ++ worth p path (capacity_claims p path (i ∷ []))
   capacity_more i =
       ap (λ l. filter is_worth (capacity_claims p path l)) (range_below_more i)
       ∙ ap (filter is_worth) (flat_map-append (λ c. at_price c (price_of p path c)) (range_below i) (i ∷ []))

@@ -16,10 +16,13 @@ module _ (n : ℕ) (t : ℕ → Bool) where
   here r = nat_lt r n && t r
 
   -- the count over the blocks before one, plus the count of that block by the word of its numbers that pass
-  pub block_next : (b w total more : ℕ) → ((k : ℕ) → k < 64 → has_bit w k ≡ here (b * 64 + k)) → total ≡ count_by here (range_below (b * 64)) → more ≡ count_by (has_bit w) bits → total + more ≡ count_by here (range_below ((b + 1) * 64))
+  pub block_next : (b w total more : ℕ) → ((k : ℕ) → k < 64 → has_bit w k ≡ here (b * 64 + k))
+      → total ≡ count_by here (range_below (b * 64)) → more ≡ count_by (has_bit w) bits
+      → total + more ≡ count_by here (range_below ((b + 1) * 64))
   block_next b w total more set e is =
       let q : (b + 1) * 64 ≡ b * 64 + 64 = omega arith in
-      let split : count_by here (range_below (b * 64 + 64)) ≡ count_by here (range_below (b * 64)) + count_by (λ k. here (b * 64 + k)) (range_below 64) = sum_further (λ r. cond (here r) 1 0) (b * 64) 64 in
+      let split : count_by here (range_below (b * 64 + 64)) ≡ count_by here (range_below (b * 64)) + count_by (λ k. here (b * 64 + k))
+      (range_below 64) = sum_further (λ r. cond (here r) 1 0) (b * 64) 64 in
       omega (arith, e, is, split, count-bits (has_bit w) (λ k. here (b * 64 + k)) set, ap (λ m. count_by here (range_below m)) q)
 
   pub blocks_whole : (m total : ℕ) → total ≡ count_by here (range_below m) → n ≤ m → total ≡ count_by t (range_below n)
@@ -28,16 +31,21 @@ module _ (n : ℕ) (t : ℕ → Bool) where
 -- if one of the first elements passes, one of all does
 any_of_first : {X : Type 0} (p : X → Bool) (xs : List X) (i : ℕ) → list_any p (take i xs) ≡ true → list_any p xs ≡ true
 any_of_first p xs i h =
-    sym (ap (list_any p) (take-append-drop i xs)) ∙ list_any-append p (take i xs) (drop i xs) ∙ or_left (list_any p (take i xs)) (list_any p (drop i xs)) h
+    sym (ap (list_any p) (take-append-drop i xs)) ∙ list_any-append p (take i xs) (drop i xs) ∙ or_left (list_any p (take i xs))
+    (list_any p (drop i xs)) h
 
 -- a block whose set is full stays full if more elements are asked
-pub block_full : {X : Type 0} (n b w all : ℕ) (t : ℕ → X → Bool) (xs : List X) (i : ℕ) → w ≡ all → ((k : ℕ) → k < 64 → has_bit all k ≡ nat_lt k (n - b * 64)) → ((k : ℕ) → k < 64 → has_bit w k ≡ (nat_lt (b * 64 + k) n && list_any (t (b * 64 + k)) (take i xs))) → (k : ℕ) → k < 64 → has_bit w k ≡ (nat_lt (b * 64 + k) n && list_any (t (b * 64 + k)) xs)
+pub block_full : {X : Type 0} (n b w all : ℕ) (t : ℕ → X → Bool) (xs : List X) (i : ℕ) → w ≡ all
+    → ((k : ℕ) → k < 64 → has_bit all k ≡ nat_lt k (n - b * 64))
+    → ((k : ℕ) → k < 64 → has_bit w k ≡ (nat_lt (b * 64 + k) n && list_any (t (b * 64 + k)) (take i xs))) → (k : ℕ) → k < 64
+    → has_bit w k ≡ (nat_lt (b * 64 + k) n && list_any (t (b * 64 + k)) xs)
 block_full n b w all t xs i e full set k h = elim (cases_lt (b * 64 + k) n) [
   | inl l ↦
       let inside : k < n - b * 64 = omega arith in
       let there : has_bit w k ≡ true = ap (λ v. has_bit v k) e ∙ full k h ∙ lt-ltb k (n - b * 64) inside in
       let passes = and_parts (nat_lt (b * 64 + k) n) (list_any (t (b * 64 + k)) (take i xs)) (sym (set k h) ∙ there) in
-      there ∙ sym (and_from (nat_lt (b * 64 + k) n) (list_any (t (b * 64 + k)) xs) (lt-ltb (b * 64 + k) n l) (any_of_first (t (b * 64 + k)) xs i passes.1))
+      there ∙ sym (and_from (nat_lt (b * 64 + k) n) (list_any (t (b * 64 + k)) xs) (lt-ltb (b * 64 + k) n l)
+      (any_of_first (t (b * 64 + k)) xs i passes.1))
   | inr l ↦
       let none = le-ltb (b * 64 + k) n l in
       set k h ∙ ap (λ x. x && list_any (t (b * 64 + k)) (take i xs)) none ∙ sym (ap (λ x. x && list_any (t (b * 64 + k)) xs) none)

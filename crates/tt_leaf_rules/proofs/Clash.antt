@@ -22,16 +22,20 @@ module _ (p : Problem) (t : List Cell) (ok : IsFeasible p t) where
       let c = and_parts (not (same_cell x y)) (x.day == y.day) b.0 in
       let differ = not-true (same_cell x y) c.0 in
       let r = in_range p t ok x hx in
-      let itself : is_at (slot_of x) x ≡ true = and_from (x.day == x.day) (x.period == x.period) (eq-eqb x.day x.day refl) (eq-eqb x.period x.period refl) in
-      let together : is_at (slot_of x) y ≡ true = and_from (y.day == x.day) (y.period == x.period) (eqb-turn x.day y.day c.1) (eqb-turn x.period y.period b.1) in
+      let itself : is_at (slot_of x) x ≡ true = and_from (x.day == x.day) (x.period == x.period) (eq-eqb x.day x.day refl)
+      (eq-eqb x.period x.period refl) in
+      let together : is_at (slot_of x) y ≡ true = and_from (y.day == x.day) (y.period == x.period) (eqb-turn x.day y.day c.1)
+      (eqb-turn x.period y.period b.1) in
       elim (or_cases ((x.room == y.room) || (x.course == y.course)) (conflict p x.course y.course) a.1) [
         | inl k ↦ elim (or_cases (x.room == y.room) (x.course == y.course) k) [
           | inl m ↦ only_one same_cell (λ z. is_in x.room z && is_at (slot_of x) z) t x y (same_cell-itself x) (one_in p t ok x r) hx hy
               (and_from (is_in x.room x) (is_at (slot_of x) x) (eq-eqb x.room x.room refl) itself)
               (and_from (is_in x.room y) (is_at (slot_of x) y) (eqb-turn x.room y.room m) together) differ
-          | inr m ↦ only_one same_cell (λ z. is_of x.course z && is_at (slot_of x) z) t x y (same_cell-itself x) (once_at p t ok x.course x r) hx hy
+          | inr m ↦ only_one same_cell (λ z. is_of x.course z && is_at (slot_of x) z) t x y (same_cell-itself x)
+              (once_at p t ok x.course x r) hx hy
               (and_from (is_of x.course x) (is_at (slot_of x) x) (eq-eqb x.course x.course refl) itself)
               (and_from (is_of x.course y) (is_at (slot_of x) y) (eqb-turn x.course y.course m) together) differ
         ]
-        | inr k ↦ no_collision p t ok x y hx hy (and_from ((x.day == y.day) && (x.period == y.period)) (conflict p x.course y.course) (and_from (x.day == y.day) (x.period == y.period) c.1 b.1) k)
+        | inr k ↦ no_collision p t ok x y hx hy (and_from ((x.day == y.day) && (x.period == y.period)) (conflict p x.course y.course)
+            (and_from (x.day == y.day) (x.period == y.period) c.1 b.1) k)
       ]

@@ -58,13 +58,15 @@ module _ (p : Problem) (t : List Cell) (ok : IsFeasible p t) (path : List Fact) 
       let r = in_range p t ok e h in
       once_at_least (is_of c e) (λ s. is_at s e) 1 (all_slots p) (any_slot p (λ s. is_at s e) e.day e.period r.day r.period (at_itself e))))
 
-  entry_at : (c : ℕ) (s : Slot) → 1 ≤ count_by (λ e. is_of c e && is_at s e) t → (x : Cell) × Contains t x × (x.course ≡ c) × (slot_of x ≡ s)
+  entry_at : (c : ℕ) (s : Slot) → 1 ≤ count_by (λ e. is_of c e && is_at s e) t → (x : Cell) × Contains t x × (x.course ≡ c)
+      × (slot_of x ≡ s)
   entry_at c s h =
       let w = member_from_any (λ e. is_of c e && is_at s e) t (any_if_count (λ e. is_of c e && is_at s e) t h) in
       let a = and_parts (is_of c w.0) (is_at s w.0) w.2 in
       (w.0, w.1, eqb-true w.0.course c a.0, is_at-slot s w.0 a.1)
 
-  never_both : (a b : ℕ) (s : Slot) → conflict p a b ≡ true → 1 ≤ count_by (λ e. is_of a e && is_at s e) t → 1 ≤ count_by (λ e. is_of b e && is_at s e) t → ⊥
+  never_both : (a b : ℕ) (s : Slot) → conflict p a b ≡ true → 1 ≤ count_by (λ e. is_of a e && is_at s e) t
+      → 1 ≤ count_by (λ e. is_of b e && is_at s e) t → ⊥
   never_both a b s r ha hb =
       let v = entry_at a s ha in
       let w = entry_at b s hb in
@@ -73,13 +75,15 @@ module _ (p : Problem) (t : List Cell) (ok : IsFeasible p t) (path : List Fact) 
       let same = v.3 ∙ sym w.3 in
       no_collision p t ok x y v.1 w.1
       (and_from ((x.day == y.day) && (x.period == y.period)) (conflict p x.course y.course)
-      (and_from (x.day == y.day) (x.period == y.period) (eq-eqb x.day y.day (ap (λ z. z.day) same)) (eq-eqb x.period y.period (ap (λ z. z.period) same)))
+      (and_from (x.day == y.day) (x.period == y.period) (eq-eqb x.day y.day (ap (λ z. z.day) same))
+      (eq-eqb x.period y.period (ap (λ z. z.period) same)))
       (subst (λ c. conflict p c y.course ≡ true) (sym v.2) (subst (λ c. conflict p a c ≡ true) (sym w.2) r)))
 
   live_at : (c : ℕ) (s : Slot) → 1 ≤ count_by (λ e. is_of c e && is_at s e) t → live_period p path c s ≡ true
   live_at c s h =
       let w = entry_at c s h in
-      subst (λ z. live_period p path c z ≡ true) w.3 (subst (λ a. live_period p path a (slot_of w.0) ≡ true) w.2 (live_period_of p t ok path fits w.0 w.1))
+      subst (λ z. live_period p path c z ≡ true) w.3
+      (subst (λ a. live_period p path a (slot_of w.0) ≡ true) w.2 (live_period_of p t ok path fits w.0 w.1))
 
   pub clique_sound : (cs : List ℕ) → each_two (conflict p) cs ≡ true → open_periods p path cs < all_lectures p cs → ⊥
   clique_sound cs k h =
@@ -101,16 +105,21 @@ module _ (p : Problem) (t : List Cell) (ok : IsFeasible p t) (path : List Fact) 
       spread_up (λ e. one_if (is_of c e)) (λ r e. one_if (is_of c e && is_in r e)) t (all_rooms p)
       (each_member (λ e. one_if (is_of c e) ≤ sum_by (λ r. one_if (is_of c e && is_in r e)) (all_rooms p)) t (λ e h.
       let r = in_range p t ok e h in
-      once_at_least (is_of c e) (λ i. is_in i e) 1 (all_rooms p) (any_below (λ i. is_in i e) (length p.rooms) e.room r.room (eq-eqb e.room e.room refl))))
+      once_at_least (is_of c e) (λ i. is_in i e) 1 (all_rooms p)
+      (any_below (λ i. is_in i e) (length p.rooms) e.room r.room (eq-eqb e.room e.room refl))))
 
-  room_slots_up : (c r : ℕ) → count_by (λ e. is_of c e && is_in r e) t ≤ sum_by (λ s. count_by (λ e. is_of c e && is_in r e && is_at s e) t) (all_slots p)
+  room_slots_up : (c r : ℕ) → count_by (λ e. is_of c e && is_in r e) t ≤ sum_by
+      (λ s. count_by (λ e. is_of c e && is_in r e && is_at s e) t) (all_slots p)
   room_slots_up c r =
       spread_up (λ e. one_if (is_of c e && is_in r e)) (λ s e. one_if (is_of c e && is_in r e && is_at s e)) t (all_slots p)
-      (each_member (λ e. one_if (is_of c e && is_in r e) ≤ sum_by (λ s. one_if (is_of c e && is_in r e && is_at s e)) (all_slots p)) t (λ e h.
+      (each_member (λ e. one_if (is_of c e && is_in r e) ≤ sum_by (λ s. one_if (is_of c e && is_in r e && is_at s e)) (all_slots p)) t
+      (λ e h.
       let i = in_range p t ok e h in
-      once_at_least (is_of c e && is_in r e) (λ s. is_at s e) 1 (all_slots p) (any_slot p (λ s. is_at s e) e.day e.period i.day i.period (at_itself e))))
+      once_at_least (is_of c e && is_in r e) (λ s. is_at s e) 1 (all_slots p)
+      (any_slot p (λ s. is_at s e) e.day e.period i.day i.period (at_itself e))))
 
-  entry_in : (c r : ℕ) (s : Slot) → 1 ≤ count_by (λ e. is_of c e && is_in r e && is_at s e) t → (x : Cell) × Contains t x × (x.course ≡ c) × (x.room ≡ r) × (slot_of x ≡ s)
+  entry_in : (c r : ℕ) (s : Slot) → 1 ≤ count_by (λ e. is_of c e && is_in r e && is_at s e) t → (x : Cell) × Contains t x
+      × (x.course ≡ c) × (x.room ≡ r) × (slot_of x ≡ s)
   entry_in c r s h =
       let test = λ (e : Cell). is_of c e && is_in r e && is_at s e in
       let w = member_from_any test t (any_if_count test t h) in
@@ -134,7 +143,8 @@ module _ (p : Problem) (t : List Cell) (ok : IsFeasible p t) (path : List Fact) 
       let b = and_parts (is_of c e) (is_in r e) a.0 in
       and_from (is_in r e) (is_at s e) b.1 a.1)) t)
 
-  never_two : (r : ℕ) (s : Slot) → entries_in t r s ≤ 1 → (a b : ℕ) → not (a == b) ≡ true → 1 ≤ count_by (λ e. is_of a e && is_in r e && is_at s e) t → 1 ≤ count_by (λ e. is_of b e && is_in r e && is_at s e) t → ⊥
+  never_two : (r : ℕ) (s : Slot) → entries_in t r s ≤ 1 → (a b : ℕ) → not (a == b) ≡ true
+      → 1 ≤ count_by (λ e. is_of a e && is_in r e && is_at s e) t → 1 ≤ count_by (λ e. is_of b e && is_in r e && is_at s e) t → ⊥
   never_two r s one a b d ha hb =
       let v = entry_in a r s ha in
       let w = entry_in b r s hb in
@@ -147,13 +157,17 @@ module _ (p : Problem) (t : List Cell) (ok : IsFeasible p t) (path : List Fact) 
       (subst (λ c. (c == y.course) ≡ false) (sym v.2) (subst (λ c. (a == c) ≡ false) (sym w.2) (not-true (a == b) d)))
 
   -- distinct courses have at most as many entries in a room as there are periods with a live cell of one of them
-  pub in_room_at_most : (cs : List ℕ) → are_distinct cs ≡ true → (r : ℕ) → AllByRecursion (λ s. entries_in t r s ≤ 1) (all_slots p) → sum_by (λ c. count_by (λ e. is_of c e && is_in r e) t) cs ≤ count_by (λ s. list_any (λ c. is_live p path (cell c r s)) cs) (all_slots p)
+  pub in_room_at_most : (cs : List ℕ) → are_distinct cs ≡ true → (r : ℕ) → AllByRecursion (λ s. entries_in t r s ≤ 1) (all_slots p)
+      → sum_by (λ c. count_by (λ e. is_of c e && is_in r e) t) cs ≤ count_by (λ s. list_any (λ c. is_live p path (cell c r s)) cs)
+      (all_slots p)
   in_room_at_most cs k r one =
       let n : Slot → ℕ → ℕ = λ s c. count_by (λ e. is_of c e && is_in r e && is_at s e) t in
-      let up = spread_up (λ c. count_by (λ e. is_of c e && is_in r e) t) n cs (all_slots p) (each (λ c. count_by (λ e. is_of c e && is_in r e) t ≤ sum_by (λ s. n s c) (all_slots p)) (λ c. room_slots_up c r) cs) in
+      let up = spread_up (λ c. count_by (λ e. is_of c e && is_in r e) t) n cs (all_slots p)
+      (each (λ c. count_by (λ e. is_of c e && is_in r e) t ≤ sum_by (λ s. n s c) (all_slots p)) (λ c. room_slots_up c r) cs) in
       let there = sum_by-le (λ s. sum_by (n s) cs) (λ s. one_if (list_any (λ c. is_live p path (cell c r s)) cs)) (all_slots p)
       (each_weaker (λ s. entries_in t r s ≤ 1) (λ s. sum_by (n s) cs ≤ one_if (list_any (λ c. is_live p path (cell c r s)) cs))
-      (λ s e. one_at_most (λ a b. not (a == b)) (n s) (λ c. is_live p path (cell c r s)) cs k (never_two r s e) (λ c. omega (arith, room_bound c r s)) (λ c. live_in c r s))
+      (λ s e. one_at_most (λ a b. not (a == b)) (n s) (λ c. is_live p path (cell c r s)) cs k (never_two r s e)
+      (λ c. omega (arith, room_bound c r s)) (λ c. live_in c r s))
       (all_slots p) one) in
       omega arith
 
@@ -162,7 +176,9 @@ module _ (p : Problem) (t : List Cell) (ok : IsFeasible p t) (path : List Fact) 
       let there : ℕ → ℕ → ℕ = λ r c. count_by (λ e. is_of c e && is_in r e) t in
       let free : ℕ → ℕ = λ r. count_by (λ s. list_any (λ c. is_live p path (cell c r s)) cs) (all_slots p) in
       let met = sum_by-same (lectures p) (entries_of t) cs (λ c. sym (lectures_met p t ok c)) in
-      let up = spread_up (entries_of t) there cs (all_rooms p) (each (λ c. entries_of t c ≤ sum_by (λ r. there r c) (all_rooms p)) rooms_up cs) in
+      let up = spread_up (entries_of t) there cs (all_rooms p)
+      (each (λ c. entries_of t c ≤ sum_by (λ r. there r c) (all_rooms p)) rooms_up cs) in
       let most = sum_by-le (λ r. sum_by (there r) cs) free (all_rooms p)
-      (each_weaker (λ r. AllByRecursion (λ s. entries_in t r s ≤ 1) (all_slots p)) (λ r. sum_by (there r) cs ≤ free r) (λ r one. in_room_at_most cs k r one) (all_rooms p) (one_in_room p t ok)) in
+      (each_weaker (λ r. AllByRecursion (λ s. entries_in t r s ≤ 1) (all_slots p)) (λ r. sum_by (there r) cs ≤ free r)
+      (λ r one. in_room_at_most cs k r one) (all_rooms p) (one_in_room p t ok)) in
       omega arith

@@ -31,5 +31,6 @@ module _ {X : Type 0} (same : X → X → Bool) (is : (x y : X) → same x y ≡
   each_two_differ [] h = refl
   each_two_differ (x ∷ xs) h =
       and_from (list_all (λ y. not (same x y)) xs) (each_two (λ a b. not (same a b)) xs)
-      (list_all-from_AllPass (λ y. not (same x y)) xs (λ k d within. found_different x _ (h zero (suc k) d (omega arith) (omega (arith, within)))))
+      (list_all-from_AllPass (λ y. not (same x y)) xs
+      (λ k d within. found_different x _ (h zero (suc k) d (omega arith) (omega (arith, within)))))
       (each_two_differ xs (λ i j d before within. h (suc i) (suc j) d (omega (arith, before)) (omega (arith, within))))

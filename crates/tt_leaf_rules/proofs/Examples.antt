@@ -92,7 +92,8 @@ no_period_for_b = refl
 
 -- one period, two courses, a room with enough seats for each course and a room without
 abbrev prices : Problem
-prices = week 1 1 (course (codes "x") (codes "t1") 1 1 10 ∷ course (codes "y") (codes "t2") 1 1 10 ∷ []) (room (codes "A") 10 ∷ room (codes "B") 5 ∷ []) []
+prices = week 1 1 (course (codes "x") (codes "t1") 1 1 10 ∷ course (codes "y") (codes "t2") 1 1 10 ∷ [])
+    (room (codes "A") 10 ∷ room (codes "B") 5 ∷ []) []
 
 covered : fault_of prices [] (AtLeast 5) (Cost (Prices ((0, 5) ∷ (1, 5) ∷ []) ((0, 5) ∷ []) ∷ [])) ≡ None
 covered = refl

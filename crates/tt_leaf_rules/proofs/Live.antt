@@ -66,15 +66,19 @@ module _ (p : Problem) (t : List Cell) (ok : IsFeasible p t) (path : List Fact) 
   live_entry x h = not_from_false (is_dead p path x) (false_from_ne_true (is_dead p path x) (not_dead x h))
 
   pub live_period_of : (x : Cell) → Contains t x → live_period p path x.course (slot_of x) ≡ true
-  live_period_of x h = any_below (λ r. is_live p path (cell x.course r (slot_of x))) (length p.rooms) x.room (in_range p t ok x h).room (live_entry x h)
+  live_period_of x h = any_below (λ r. is_live p path (cell x.course r (slot_of x))) (length p.rooms) x.room (in_range p t ok x h).room
+      (live_entry x h)
 
   pub live_day_of : (x : Cell) → Contains t x → live_day p path x.course x.day ≡ true
-  live_day_of x h = any_below (λ s. live_period p path x.course (slot x.day s)) p.periods x.period (in_range p t ok x h).period (live_period_of x h)
+  live_day_of x h = any_below (λ s. live_period p path x.course (slot x.day s)) p.periods x.period (in_range p t ok x h).period
+      (live_period_of x h)
 
   -- each pinned period has an entry
-  pub pinned_entry : (who : Who) (s : Slot) → pinned p path who s ≡ true → (x : Cell) × Contains t x × (is_who p who x.course ≡ true) × (is_at s x ≡ true)
+  pub pinned_entry : (who : Who) (s : Slot) → pinned p path who s ≡ true → (x : Cell) × Contains t x × (is_who p who x.course ≡ true)
+      × (is_at s x ≡ true)
   pinned_entry who s e =
-      let test = λ (f : Fact). f.holds && is_pinned_by p who f.pattern.who && gives f.pattern.day s.day && gives f.pattern.period s.period in
+      let test = λ (f : Fact). f.holds && is_pinned_by p who f.pattern.who && gives f.pattern.day s.day
+      && gives f.pattern.period s.period in
       let w = member_from_any test path e in
       let f = w.0 in
       let a = and_parts (f.holds && is_pinned_by p who f.pattern.who && gives f.pattern.day s.day) (gives f.pattern.period s.period) w.2 in
@@ -101,5 +105,9 @@ module _ (p : Problem) (t : List Cell) (ok : IsFeasible p t) (path : List Fact) 
       let a = and_parts f.holds (is_pinned_by p (Course c) f.pattern.who) b.0 in
       let m = matched f w.1 a.0 in
       let x = m.0 in
-      let g = Matches-from p f.pattern x m.2 in
-      (x, m.1, speaks-is_who p (Course c) f.pattern.who x.course a.1 g.who, eq-eqb x.room r (gives-agrees f.pattern.room r x.room b.1 g.room))
+      let g = Matches-from p f.pattern x m.2 in (
+        x,
+        m.1,
+        speaks-is_who p (Course c) f.pattern.who x.course a.1 g.who,
+        eq-eqb x.room r (gives-agrees f.pattern.room r x.room b.1 g.room),
+      )

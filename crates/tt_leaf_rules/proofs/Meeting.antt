@@ -19,20 +19,25 @@ use Rattle.tt_leaf_data.specs.declared.leaf.Claim.{Claim}
 use Rattle.tt_leaf_data.specs.declared.leaf.Claim.TheVariants.{Capacity, Days, Compact, Stable, Prices, Stacked}
 
 -- if nothing is marked, numbers that differ are new
-pub new_at_first : (marks : List Bool) (ns : List ℕ) → ((k : ℕ) → marked marks k ≡ false) → each_two (λ a b. not (a == b)) ns ≡ are_new marks ns
+pub new_at_first : (marks : List Bool) (ns : List ℕ) → ((k : ℕ) → marked marks k ≡ false)
+    → each_two (λ a b. not (a == b)) ns ≡ are_new marks ns
 new_at_first marks ns none =
     ap (λ b. b && each_two (λ a b. not (a == b)) ns) (sym (all_pass (λ n. not (marked marks n)) ns (λ n. ap not (none n))))
 
 -- a test of the numbers left after a number has been met
-unmarked_more : (marks more : List Bool) (n : ℕ) (ns : List ℕ) → ((k : ℕ) → marked more k ≡ (marked marks k || (n == k))) → list_all (λ k. not (marked more k)) ns ≡ (list_all (λ k. not (marked marks k)) ns && list_all (λ k. not (n == k)) ns)
+unmarked_more : (marks more : List Bool) (n : ℕ) (ns : List ℕ) → ((k : ℕ) → marked more k ≡ (marked marks k || (n == k)))
+    → list_all (λ k. not (marked more k)) ns ≡ (list_all (λ k. not (marked marks k)) ns && list_all (λ k. not (n == k)) ns)
 unmarked_more marks more n ns added =
-    list_all-same (λ k. not (marked more k)) (λ k. not (marked marks k) && not (n == k)) ns (λ k. ap not (added k) ∙ neither (marked marks k) (n == k))
+    list_all-same (λ k. not (marked more k)) (λ k. not (marked marks k) && not (n == k)) ns
+    (λ k. ap not (added k) ∙ neither (marked marks k) (n == k))
     ∙ list_all-both (λ k. not (marked marks k)) (λ k. not (n == k)) ns
 
 -- one number met
-pub new_then : (marks more : List Bool) (n : ℕ) (behind : List ℕ) → ((k : ℕ) → marked more k ≡ (marked marks k || (n == k))) → are_new marks (n ∷ behind) ≡ (not (marked marks n) && are_new more behind)
+pub new_then : (marks more : List Bool) (n : ℕ) (behind : List ℕ) → ((k : ℕ) → marked more k ≡ (marked marks k || (n == k)))
+    → are_new marks (n ∷ behind) ≡ (not (marked marks n) && are_new more behind)
 new_then marks more n behind added =
-    turned (not (marked marks n)) (list_all (λ k. not (marked marks k)) behind) (list_all (λ k. not (n == k)) behind) (each_two (λ a b. not (a == b)) behind)
+    turned (not (marked marks n)) (list_all (λ k. not (marked marks k)) behind) (list_all (λ k. not (n == k)) behind)
+    (each_two (λ a b. not (a == b)) behind)
     ∙ ap (λ b. not (marked marks n) && (b && each_two (λ a b. not (a == b)) behind)) (sym (unmarked_more marks more n behind added))
   where
     turned : (a b c d : Bool) → ((a && b) && (c && d)) ≡ (a && ((b && c) && d))
@@ -79,7 +84,8 @@ places_all [] = refl
 places_all (c ∷ cs) = map-append place (targets_of c) (claimed cs) ∙ ap (λ l. places_of c ++ l) (places_all cs)
 
 -- if nothing is marked, the targets are new exactly if no target is claimed twice
-pub claims_at_first : (marks : List Bool) (claims : List Claim) → ((k : ℕ) → marked marks k ≡ false) → claims_once claims ≡ are_new marks (flat_map places_of claims)
+pub claims_at_first : (marks : List Bool) (claims : List Claim) → ((k : ℕ) → marked marks k ≡ false)
+    → claims_once claims ≡ are_new marks (flat_map places_of claims)
 claims_at_first marks claims none =
     each_two-same (λ a b. not (same_target a b)) (λ a b. not (place a == place b)) (claimed claims) (λ a b. ap not (sym (same_place a b)))
     ∙ sym (each_two-of_map (λ a b. not (a == b)) place (claimed claims))
@@ -89,7 +95,8 @@ claims_at_first marks claims none =
 -- ---- a loop that meets the numbers of a list in turn
 
 -- none of the numbers at the front had been met before
-pub met_goes_on : (all new : Bool) (marks more : List Bool) (rest front behind : List ℕ) → all ≡ are_new marks rest → rest ≡ front ++ behind → are_new marks (front ++ behind) ≡ (new && are_new more behind) → new ≡ true → all ≡ are_new more behind
+pub met_goes_on : (all new : Bool) (marks more : List Bool) (rest front behind : List ℕ) → all ≡ are_new marks rest
+    → rest ≡ front ++ behind → are_new marks (front ++ behind) ≡ (new && are_new more behind) → new ≡ true → all ≡ are_new more behind
 met_goes_on all new marks more rest front behind same are met e = same ∙ ap (are_new marks) are ∙ met ∙ ap (λ b. b && are_new more behind) e
 
 -- ---- which numbers have marks
@@ -104,7 +111,8 @@ priced_places [] rooms = refl
 priced_places (k ∷ ks) rooms = ap (λ l. 4 * k.0 ∷ l) (priced_places ks rooms)
 
 module _ (p : Problem) (few_courses : length p.courses ≤ 2048) (few_curricula : length p.curricula ≤ 8192) where
-  priced_placed : (courses rooms : List (ℕ × ℕ)) → AllByRecursion (λ c. c < length p.courses) (map (λ k. k.0) courses) → AllByRecursion (λ n. n < 32768) (places_of (Prices courses rooms))
+  priced_placed : (courses rooms : List (ℕ × ℕ)) → AllByRecursion (λ c. c < length p.courses) (map (λ k. k.0) courses)
+      → AllByRecursion (λ n. n < 32768) (places_of (Prices courses rooms))
   priced_placed [] rooms a = tt
   priced_placed (k ∷ ks) rooms a = (omega (arith, a.0, few_courses), priced_placed ks rooms a.1)
 
@@ -113,12 +121,14 @@ module _ (p : Problem) (few_courses : length p.courses ≤ 2048) (few_curricula 
   placed_by_recursion (Days c) h = (omega (arith, h, few_courses), tt)
   placed_by_recursion (Compact q) h = (omega (arith, h, few_curricula), tt)
   placed_by_recursion (Stable c) h = (omega (arith, h, few_courses), tt)
-  placed_by_recursion (Prices courses rooms) h = priced_placed courses rooms (recursion_from_All (λ c. c < length p.courses) (map (λ k. k.0) courses) h.0.within)
+  placed_by_recursion (Prices courses rooms) h =
+      priced_placed courses rooms (recursion_from_All (λ c. c < length p.courses) (map (λ k. k.0) courses) h.0.within)
   placed_by_recursion (Stacked c) h = (omega (arith, h, few_courses), tt)
 
   -- the targets of an instance's claims have marks
   pub each_placed : (claims : List Claim) → All (IsClaimOf p) claims → All IsPlaced claims
-  each_placed claims h = All-weaker (IsClaimOf p) IsPlaced (λ claim is. All-from_recursion (λ n. n < 32768) (places_of claim) (placed_by_recursion claim is)) claims h
+  each_placed claims h = All-weaker (IsClaimOf p) IsPlaced (λ claim is. All-from_recursion (λ n. n < 32768) (places_of claim)
+      (placed_by_recursion claim is)) claims h
 
 -- the courses of an instance have marks
 pub courses_placed : (n : ℕ) (courses : List ℕ) → n ≤ 2048 → AreBelow n courses → AreBelow 2048 courses

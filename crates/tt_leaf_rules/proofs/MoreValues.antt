@@ -48,13 +48,16 @@ module _ (p : Problem) (t : List Cell) (ok : IsFeasible p t) (path : List Fact) 
       let k = cond-le (pinned p path (Course c) s) (list_any (λ e. here e && is_at s e) t) (λ h.
       let w = pinned_entry p t ok path fits (Course c) s h in
       any_member (λ e. here e && is_at s e) t w.0 w.1
-      (and_from (here w.0) (is_at s w.0) (and_from (is_of c w.0) (pinned p path (Course c) (slot_of w.0)) w.2 (subst (λ z. pinned p path (Course c) z ≡ true) (sym (is_at-slot s w.0 w.3)) h)) w.3)) in
+      (and_from (here w.0) (is_at s w.0) (and_from (is_of c w.0) (pinned p path (Course c) (slot_of w.0)) w.2
+      (subst (λ z. pinned p path (Course c) z ≡ true) (sym (is_at-slot s w.0 w.3)) h)) w.3)) in
       omega arith) (all_slots p)) in
       let b = spread_down (λ e. one_if (here e)) (λ s e. one_if (here e && is_at s e)) t (all_slots p)
-      (each (λ e. sum_by (λ s. one_if (here e && is_at s e)) (all_slots p) ≤ one_if (here e)) (λ e. once_at_most (here e) (λ s. is_at s e) 1 (all_slots p) (count_slots p e)) t) in
+      (each (λ e. sum_by (λ s. one_if (here e && is_at s e)) (all_slots p) ≤ one_if (here e))
+      (λ e. once_at_most (here e) (λ s. is_at s e) 1 (all_slots p) (count_slots p e)) t) in
       omega arith
 
-  day_cases : (c d : ℕ) → list_any (λ e. is_of c e && is_on d e) t ≡ true → (pinned_day p path c d || list_any (λ e. is_of c e && not (pinned p path (Course c) (slot_of e)) && is_on d e) t) ≡ true
+  day_cases : (c d : ℕ) → list_any (λ e. is_of c e && is_on d e) t ≡ true
+      → (pinned_day p path c d || list_any (λ e. is_of c e && not (pinned p path (Course c) (slot_of e)) && is_on d e) t) ≡ true
   day_cases c d h =
       let w = member_from_any (λ e. is_of c e && is_on d e) t h in
       let e = w.0 in
@@ -63,14 +66,16 @@ module _ (p : Problem) (t : List Cell) (ok : IsFeasible p t) (path : List Fact) 
       let here = pinned p path (Course c) (slot_of e) in
       elim (cases_Bool here) [
         | inl k ↦ or_left (pinned_day p path c d) others
-            (subst (λ i. pinned_day p path c i ≡ true) (eqb-true e.day d a.1) (any_below (λ s. pinned p path (Course c) (slot e.day s)) p.periods e.period (in_range p t ok e w.1).period k))
+            (subst (λ i. pinned_day p path c i ≡ true) (eqb-true e.day d a.1)
+            (any_below (λ s. pinned p path (Course c) (slot e.day s)) p.periods e.period (in_range p t ok e w.1).period k))
         | inr k ↦ or_right (pinned_day p path c d) others
             (any_member (λ e. is_of c e && not (pinned p path (Course c) (slot_of e)) && is_on d e) t e w.1
             (and_from (is_of c e && not here) (is_on d e) (and_from (is_of c e) (not here) a.0 (not_from_false here k)) a.1))
       ]
 
   -- a day with an entry is pinned, or has an entry in a period that isn't pinned
-  days_split : (c : ℕ) → days_of p t c ≤ count_by (pinned_day p path c) (all_days p) + count_by (λ e. is_of c e && not (pinned p path (Course c) (slot_of e))) t
+  days_split : (c : ℕ) → days_of p t c ≤ count_by (pinned_day p path c) (all_days p) + count_by
+      (λ e. is_of c e && not (pinned p path (Course c) (slot_of e))) t
   days_split c =
       let free : Cell → Bool = λ e. is_of c e && not (pinned p path (Course c) (slot_of e)) in
       let on_day : ℕ → Bool = λ d. list_any (λ e. is_of c e && is_on d e) t in
@@ -82,7 +87,8 @@ module _ (p : Problem) (t : List Cell) (ok : IsFeasible p t) (path : List Fact) 
       omega arith) (all_days p)) in
       let plus = sum_by-plus (λ d. one_if (pinned_day p path c d)) (λ d. count_by (λ e. free e && is_on d e) t) (all_days p) in
       let b = spread_down (λ e. one_if (free e)) (λ d e. one_if (free e && is_on d e)) t (all_days p)
-      (each (λ e. sum_by (λ d. one_if (free e && is_on d e)) (all_days p) ≤ one_if (free e)) (λ e. once_at_most (free e) (λ d. is_on d e) 1 (all_days p) (count_below e.day p.days)) t) in
+      (each (λ e. sum_by (λ d. one_if (free e && is_on d e)) (all_days p) ≤ one_if (free e))
+      (λ e. once_at_most (free e) (λ d. is_on d e) 1 (all_days p) (count_below e.day p.days)) t) in
       omega arith
 
   pub stacked_sound : (c : ℕ) → value_of p path (Stacked c) ≤ days_cost p t c
@@ -112,29 +118,46 @@ module _ (p : Problem) (t : List Cell) (ok : IsFeasible p t) (path : List Fact) 
   fee_spread false rooms r = zero-le
 
   -- for an entry of a listed course, the excess and the price of its room cover the course's price
-  covers : (courses rooms : List (ℕ × ℕ)) → are_covered p path courses rooms ≡ true → (k : ℕ × ℕ) → Contains courses k → (e : Cell) → Contains t e → is_of k.0 e ≡ true → k.1 ≤ excess p e.course e.room + price_in rooms e.room
+  covers : (courses rooms : List (ℕ × ℕ)) → are_covered p path courses rooms ≡ true → (k : ℕ × ℕ) → Contains courses k → (e : Cell)
+      → Contains t e → is_of k.0 e ≡ true → k.1 ≤ excess p e.course e.room + price_in rooms e.room
   covers courses rooms a k m e h o =
       let i = in_range p t ok e h in
       let test : ℕ → Slot → Bool = λ r s. not (is_live p path (cell k.0 r s)) || nat_le k.1 (excess p k.0 r + price_in rooms r) in
-      let of_course = at_member (λ z. list_all (λ r. list_all (λ s. not (is_live p path (cell z.0 r s)) || nat_le z.1 (excess p z.0 r + price_in rooms r)) (all_slots p)) (all_rooms p) ≡ true) courses k (each_from_list_all (λ z. list_all (λ r. list_all (λ s. not (is_live p path (cell z.0 r s)) || nat_le z.1 (excess p z.0 r + price_in rooms r)) (all_slots p)) (all_rooms p)) courses a) m in
-      let in_room = each_below_at (λ r. list_all (test r) (all_slots p) ≡ true) (length p.rooms) e.room (each_from_list_all (λ r. list_all (test r) (all_slots p)) (all_rooms p) of_course) i.room in
-      let here = each_slot_at p (λ s. test e.room s ≡ true) e.day e.period (each_from_list_all (test e.room) (all_slots p) in_room) i.day i.period in
+      let of_course =
+      at_member (λ z. list_all
+      (λ r. list_all (λ s. not (is_live p path (cell z.0 r s)) || nat_le z.1 (excess p z.0 r + price_in rooms r)) (all_slots p))
+      (all_rooms p) ≡ true) courses k
+      (each_from_list_all
+      (λ z. list_all
+      (λ r. list_all
+      (λ s. not (is_live p path (cell z.0 r s)) || nat_le z.1 (excess p z.0 r + price_in rooms r))
+      (all_slots p)) (all_rooms p)) courses a) m in
+      let in_room = each_below_at (λ r. list_all (test r) (all_slots p) ≡ true) (length p.rooms) e.room
+      (each_from_list_all (λ r. list_all (test r) (all_slots p)) (all_rooms p) of_course) i.room in
+      let here = each_slot_at p (λ s. test e.room s ≡ true) e.day e.period (each_from_list_all (test e.room) (all_slots p) in_room)
+      i.day i.period in
       let same = eqb-true e.course k.0 o in
       let live = subst (λ c. is_live p path (cell c e.room (slot_of e)) ≡ true) same (live_entry p t ok path fits e h) in
       elim (or_cases (not (is_live p path (cell k.0 e.room (slot_of e)))) (nat_le k.1 (excess p k.0 e.room + price_in rooms e.room)) here) [
-        | inl n ↦ absurd (both_ways (is_live p path (cell k.0 e.room (slot_of e))) (not-true (is_live p path (cell k.0 e.room (slot_of e))) n) live)
-        | inr l ↦ subst (λ c. k.1 ≤ excess p c e.room + price_in rooms e.room) (sym same) (leb-true k.1 (excess p k.0 e.room + price_in rooms e.room) l)
+        | inl n ↦ absurd
+            (both_ways (is_live p path (cell k.0 e.room (slot_of e))) (not-true (is_live p path (cell k.0 e.room (slot_of e))) n) live)
+        | inr l ↦ subst (λ c. k.1 ≤ excess p c e.room + price_in rooms e.room) (sym same)
+            (leb-true k.1 (excess p k.0 e.room + price_in rooms e.room) l)
       ]
 
-  pub priced_sound : (courses rooms : List (ℕ × ℕ)) → each_two (λ a b. not (same_target a b)) (targets_of (Prices courses rooms)) ≡ true → are_covered p path courses rooms ≡ true → value_of p path (Prices courses rooms) ≤ sum_by (part p t) (targets_of (Prices courses rooms))
+  pub priced_sound : (courses rooms : List (ℕ × ℕ)) → each_two (λ a b. not (same_target a b)) (targets_of (Prices courses rooms)) ≡ true
+      → are_covered p path courses rooms ≡ true → value_of p path (Prices courses rooms) ≤ sum_by (part p t)
+      (targets_of (Prices courses rooms))
   priced_sound courses rooms apart fair =
       let cost_of : Cell → ℕ = λ e. excess p e.course e.room in
       let fee : Cell → ℕ = λ e. price_in rooms e.room in
       let ids = map (λ (k : ℕ × ℕ). k.0) courses in
-      let distinct : are_distinct ids ≡ true = each_two-of_map (λ a b. not (a == b)) (λ (k : ℕ × ℕ). k.0) courses ∙ sym (each_two-of_map (λ a b. not (same_target a b)) (λ (k : ℕ × ℕ). RoomCapacity k.0) courses) ∙ apart in
+      let distinct : are_distinct ids ≡ true = each_two-of_map (λ a b. not (a == b)) (λ (k : ℕ × ℕ). k.0) courses
+      ∙ sym (each_two-of_map (λ a b. not (same_target a b)) (λ (k : ℕ × ℕ). RoomCapacity k.0) courses) ∙ apart in
       let parts = sum_by-of_map (part p t) (λ (k : ℕ × ℕ). RoomCapacity k.0) courses in
       -- each course's lectures at its price are covered by the excess and the fees of its entries
-      let covered = sum_by-le (λ k. lectures p k.0 * k.1) (λ k. part p t (RoomCapacity k.0) + sum_by (λ e. cond (is_of k.0 e) (fee e) 0) t) courses
+      let covered = sum_by-le (λ k. lectures p k.0 * k.1)
+      (λ k. part p t (RoomCapacity k.0) + sum_by (λ e. cond (is_of k.0 e) (fee e) 0) t) courses
       (each_member (λ k. lectures p k.0 * k.1 ≤ part p t (RoomCapacity k.0) + sum_by (λ e. cond (is_of k.0 e) (fee e) 0) t) courses (λ k m.
       let priced = sum_by-at_places (is_of k.0) k.1 t in
       let met = ap (λ n. n * k.1) (lectures_met p t ok k.0) in
@@ -145,21 +168,27 @@ module _ (p : Problem) (t : List Cell) (ok : IsFeasible p t) (path : List Fact) 
       omega arith)) in
       let plus = sum_by-plus (λ k. part p t (RoomCapacity k.0)) (λ (k : ℕ × ℕ). sum_by (λ e. cond (is_of k.0 e) (fee e) 0) t) courses in
       -- the fees of a course are spread over the listed rooms
-      let fees = spread_up (λ (k : ℕ × ℕ). sum_by (λ e. cond (is_of k.0 e) (fee e) 0) t) (λ (j : ℕ × ℕ) (k : ℕ × ℕ). count_by (λ e. is_of k.0 e && is_in j.0 e) t * j.1) courses rooms
-      (each (λ k. sum_by (λ e. cond (is_of k.0 e) (fee e) 0) t ≤ sum_by (λ j. count_by (λ e. is_of k.0 e && is_in j.0 e) t * j.1) rooms) (λ k.
+      let fees = spread_up (λ (k : ℕ × ℕ). sum_by (λ e. cond (is_of k.0 e) (fee e) 0) t)
+      (λ (j : ℕ × ℕ) (k : ℕ × ℕ). count_by (λ e. is_of k.0 e && is_in j.0 e) t * j.1) courses rooms
+      (each (λ k. sum_by (λ e. cond (is_of k.0 e) (fee e) 0) t ≤ sum_by (λ j. count_by (λ e. is_of k.0 e && is_in j.0 e) t * j.1) rooms)
+      (λ k.
       let up = spread_up (λ e. cond (is_of k.0 e) (fee e) 0) (λ (j : ℕ × ℕ) e. cond (is_of k.0 e && is_in j.0 e) j.1 0) t rooms
-      (each (λ e. cond (is_of k.0 e) (fee e) 0 ≤ sum_by (λ (j : ℕ × ℕ). cond (is_of k.0 e && is_in j.0 e) j.1 0) rooms) (λ e. fee_spread (is_of k.0 e) rooms e.room) t) in
-      let counted = sum_by-same (λ (j : ℕ × ℕ). sum_by (λ e. cond (is_of k.0 e && is_in j.0 e) j.1 0) t) (λ (j : ℕ × ℕ). count_by (λ e. is_of k.0 e && is_in j.0 e) t * j.1) rooms
+      (each (λ e. cond (is_of k.0 e) (fee e) 0 ≤ sum_by (λ (j : ℕ × ℕ). cond (is_of k.0 e && is_in j.0 e) j.1 0) rooms)
+      (λ e. fee_spread (is_of k.0 e) rooms e.room) t) in
+      let counted = sum_by-same (λ (j : ℕ × ℕ). sum_by (λ e. cond (is_of k.0 e && is_in j.0 e) j.1 0) t)
+      (λ (j : ℕ × ℕ). count_by (λ e. is_of k.0 e && is_in j.0 e) t * j.1) rooms
       (λ j. sum_by-at_places (λ e. is_of k.0 e && is_in j.0 e) j.1 t) in
       omega arith) courses) in
       -- a listed room is paid at most once a period
-      let paid = sum_by-le (λ j. sum_by (λ k. count_by (λ e. is_of k.0 e && is_in j.0 e) t * j.1) courses) (λ j. j.1 * open_in p path courses j.0) rooms
+      let paid = sum_by-le (λ j. sum_by (λ k. count_by (λ e. is_of k.0 e && is_in j.0 e) t * j.1) courses)
+      (λ j. j.1 * open_in p path courses j.0) rooms
       (each (λ j. sum_by (λ k. count_by (λ e. is_of k.0 e && is_in j.0 e) t * j.1) courses ≤ j.1 * open_in p path courses j.0) (λ j.
       let there : ℕ → ℕ = λ c. count_by (λ e. is_of c e && is_in j.0 e) t in
       let times = sum_by-times (λ (k : ℕ × ℕ). there k.0) j.1 courses in
       let mapped = sum_by-of_map there (λ (k : ℕ × ℕ). k.0) courses in
       let most = in_room_at_most p t ok path fits ids distinct j.0 (one_in_each p t ok j.0) in
-      let same = sum_by-same (λ s. one_if (list_any (λ c. is_live p path (cell c j.0 s)) ids)) (λ s. one_if (list_any (λ (k : ℕ × ℕ). is_live p path (cell k.0 j.0 s)) courses)) (all_slots p)
+      let same = sum_by-same (λ s. one_if (list_any (λ c. is_live p path (cell c j.0 s)) ids))
+      (λ s. one_if (list_any (λ (k : ℕ × ℕ). is_live p path (cell k.0 j.0 s)) courses)) (all_slots p)
       (λ s. ap one_if (list_any-of_map (λ c. is_live p path (cell c j.0 s)) (λ (k : ℕ × ℕ). k.0) courses)) in
       let bound : sum_by (λ (k : ℕ × ℕ). there k.0) courses ≤ open_in p path courses j.0 = omega arith in
       let k = times-le (sum_by (λ (k : ℕ × ℕ). there k.0) courses) (open_in p path courses j.0) j.1 bound in

@@ -75,7 +75,8 @@ module _ (p : Problem) (path : List Fact) where
       let h = demand_none (has_fact path g true) NotOnPath (demand (all_dead p path g) StillAlive None) e in
       (yes_there path g h.0, (demand_none (all_dead p path g) StillAlive None h.1).0)
   right_of b (Many c) e =
-      ltb-true (lectures p c) (pinned_periods p path (Course c)) (demand_none (nat_lt (lectures p c) (pinned_periods p path (Course c))) NotTooMany None e).0
+      ltb-true (lectures p c) (pinned_periods p path (Course c))
+      (demand_none (nat_lt (lectures p c) (pinned_periods p path (Course c))) NotTooMany None e).0
   right_of b (Clique cs) e =
       let more = nat_lt (open_periods p path cs) (all_lectures p cs) in
       let h = demand_none (is_clique p cs) NotAClique (demand more EnoughRoom None) e in
@@ -95,26 +96,32 @@ module _ (p : Problem) (path : List Fact) where
 
   pub faultless : (b : Bound) (leaf : Leaf) → IsRight p path b leaf → fault_of p path b leaf ≡ None
   faultless b (Empty g) h =
-      demand_from (has_fact path g true) NotOnPath (demand (all_dead p path g) StillAlive None) (yes_on_path path (record { pattern = g; holds = true }) h.0 refl)
+      demand_from (has_fact path g true) NotOnPath (demand (all_dead p path g) StillAlive None)
+      (yes_on_path path (record { pattern = g; holds = true }) h.0 refl)
       (demand_from (all_dead p path g) StillAlive None h.1 refl)
   faultless b (Many c) h =
-      demand_from (nat_lt (lectures p c) (pinned_periods p path (Course c))) NotTooMany None (lt-ltb (lectures p c) (pinned_periods p path (Course c)) h) refl
+      demand_from (nat_lt (lectures p c) (pinned_periods p path (Course c))) NotTooMany None
+      (lt-ltb (lectures p c) (pinned_periods p path (Course c)) h) refl
   faultless b (Clique cs) h =
       let more = nat_lt (open_periods p path cs) (all_lectures p cs) in
-      demand_from (is_clique p cs) NotAClique (demand more EnoughRoom None) (and_from (has_member cs) (each_two (conflict p) cs) (member_found cs h.0) h.1)
+      demand_from (is_clique p cs) NotAClique (demand more EnoughRoom None)
+      (and_from (has_member cs) (each_two (conflict p) cs) (member_found cs h.0) h.1)
       (demand_from more EnoughRoom None (lt-ltb (open_periods p path cs) (all_lectures p cs) h.2) refl)
   faultless b (Slots cs) h =
       let more = nat_lt (open_rooms p path cs) (all_lectures p cs) in
-      demand_from (are_distinct cs) ClaimedTwice (demand more EnoughRoom None) (courses_distinct cs h.0) (demand_from more EnoughRoom None (lt-ltb (open_rooms p path cs) (all_lectures p cs) h.1) refl)
+      demand_from (are_distinct cs) ClaimedTwice (demand more EnoughRoom None) (courses_distinct cs h.0)
+      (demand_from more EnoughRoom None (lt-ltb (open_rooms p path cs) (all_lectures p cs) h.1) refl)
   faultless Nothing (Cost claims) h = absurd h
   faultless (AtLeast b) (Cost claims) h =
       let dear = nat_le b (total_of p path claims) in
       let fair = list_all (is_fair p path) claims in
       demand_from (claims_once claims) ClaimedTwice (demand fair BadPrice (demand dear TooCheap None)) (targets_once claims h.0)
-      (demand_from fair BadPrice (demand dear TooCheap None) h.1 (demand_from dear TooCheap None (le-leb b (total_of p path claims) h.2) refl))
+      (demand_from fair BadPrice (demand dear TooCheap None) h.1
+      (demand_from dear TooCheap None (le-leb b (total_of p path claims) h.2) refl))
 
   -- the result says whether the leaf is right
-  pub answer_right : (b : Bound) (leaf : Leaf) (found : Option RuleFault) → found ≡ fault_of p path b leaf → IsTrue (is_ok (outcome found)) ↔ IsRight p path b leaf
+  pub answer_right : (b : Bound) (leaf : Leaf) (found : Option RuleFault) → found ≡ fault_of p path b leaf
+      → IsTrue (is_ok (outcome found)) ↔ IsRight p path b leaf
   answer_right b leaf found e = (λ h. right_of b leaf (sym e ∙ none found h), λ right. rw (e ∙ faultless b leaf right) refl)
     where
       none : (o : Option RuleFault) → IsTrue (is_ok (outcome o)) → o ≡ None

@@ -28,7 +28,8 @@ use Rattle.tt_leaf_rules.proofs.Totals.{all_targets, same_target-true, same_targ
 pub distinct-le : (n : ℕ) (ns : List ℕ) → each_two (λ a b. not (a == b)) ns ≡ true → AreBelow n ns → length ns ≤ n
 distinct-le n ns apart below =
     let one : ℕ → ℕ = λ k. cond (nat_lt k n) 1 0 in
-    let each_one = each_weaker (λ k. k < n) (λ k. 1 ≤ one k) (λ k h. omega (arith, cond-true {A = ℕ} (nat_lt k n) 1 0 (lt-ltb k n h))) ns (recursion_from_All (λ k. k < n) ns below) in
+    let each_one = each_weaker (λ k. k < n) (λ k. 1 ≤ one k) (λ k h. omega (arith, cond-true {A = ℕ} (nat_lt k n) 1 0 (lt-ltb k n h)))
+    ns (recursion_from_All (λ k. k < n) ns below) in
     let there : (k : ℕ) → (one k ≡ 0) ⊎ (list_any (λ m. k == m) (range_below n) ≡ true) = λ k. elim (cases_lt k n) [
       | inl h ↦ inr (any_below (λ m. k == m) n k h (eq-eqb k k refl))
       | inr h ↦ inl (cond-false {A = ℕ} (nat_lt k n) 1 0 (le-ltb k n h))
@@ -80,7 +81,8 @@ abbrev IsThere : Problem → Target → Type 0
 IsThere p t = list_any (same_target t) (all_targets p) ≡ true
 
 module _ (p : Problem) where
-  priced_there : (courses : List (ℕ × ℕ)) → AllByRecursion (λ c. c < length p.courses) (map (λ k. k.0) courses) → AllByRecursion (IsThere p) (map (λ k. RoomCapacity k.0) courses)
+  priced_there : (courses : List (ℕ × ℕ)) → AllByRecursion (λ c. c < length p.courses) (map (λ k. k.0) courses)
+      → AllByRecursion (IsThere p) (map (λ k. RoomCapacity k.0) courses)
   priced_there [] a = tt
   priced_there (k ∷ ks) a = (capacity_there p k.0 a.0, priced_there ks a.1)
 
@@ -89,7 +91,8 @@ module _ (p : Problem) where
   targets_there (Days c) h = (days_there p c h, tt)
   targets_there (Compact q) h = (compactness_there p q h, tt)
   targets_there (Stable c) h = (stability_there p c h, tt)
-  targets_there (Prices courses rooms) h = priced_there courses (recursion_from_All (λ c. c < length p.courses) (map (λ (k : ℕ × ℕ). k.0) courses) h.0.within)
+  targets_there (Prices courses rooms) h =
+      priced_there courses (recursion_from_All (λ c. c < length p.courses) (map (λ (k : ℕ × ℕ). k.0) courses) h.0.within)
   targets_there (Stacked c) h = (days_there p c h, tt)
 
   claimed_there : (claims : List Claim) → AllByRecursion (IsClaimOf p) claims → AllByRecursion (IsThere p) (claimed claims)
@@ -97,14 +100,17 @@ module _ (p : Problem) where
   claimed_there (c ∷ cs) a = each_append (IsThere p) (targets_of c) (claimed cs) (targets_there c a.0) (claimed_there cs a.1)
 
   -- claims of distinct targets together have at most as many targets as there are
-  pub claimed-le : (claims : List Claim) → All (IsClaimOf p) claims → claims_once claims ≡ true → length (claimed claims) ≤ 3 * length p.courses + length p.curricula
+  pub claimed-le : (claims : List Claim) → All (IsClaimOf p) claims → claims_once claims ≡ true
+      → length (claimed claims) ≤ 3 * length p.courses + length p.curricula
   claimed-le claims h apart =
       let there : Target → Bool = λ t. list_any (same_target t) (all_targets p) in
       let one : Target → ℕ = λ t. cond (there t) 1 0 in
-      let each_one = each_weaker (IsThere p) (λ t. 1 ≤ one t) (λ t e. omega (arith, cond-true {A = ℕ} (there t) 1 0 e)) (claimed claims) (claimed_there claims (recursion_from_All (IsClaimOf p) claims h)) in
+      let each_one = each_weaker (IsThere p) (λ t. 1 ≤ one t) (λ t e. omega (arith, cond-true {A = ℕ} (there t) 1 0 e)) (claimed claims)
+      (claimed_there claims (recursion_from_All (IsClaimOf p) claims h)) in
       let found : (t : Target) → (one t ≡ 0) ⊎ (there t ≡ true) = λ t. elim (cases_Bool (there t)) [
         | inl e ↦ inr e
         | inr e ↦ inl (cond-false {A = ℕ} (there t) 1 0 e)
       ] in
-      let spread = distinct_sum same_target same_target-true same_target-itself one (claimed claims) (all_targets p) apart (λ y m. found y) in
+      let spread = distinct_sum same_target same_target-true same_target-itself one (claimed claims) (all_targets p) apart
+      (λ y m. found y) in
       omega (arith, length-le_sum one (claimed claims) each_one, spread, count_by-le-length there (all_targets p), length-all_targets p)

@@ -32,11 +32,13 @@ use Rattle.tt_instance_data.proofs.Cells.{is_at-slot, at_itself}
 -- ---- discounts
 
 -- a price is covered by any number of the list that passes, plus the greatest discount of the numbers that pass
-price_covered : (u : ℕ) (f : ℕ → ℕ) (q : ℕ → Bool) (xs : List ℕ) (x : ℕ) → Contains xs x → q x ≡ true → u ≤ f x + greatest (map (λ y. u - f y) (filter q xs))
+price_covered : (u : ℕ) (f : ℕ → ℕ) (q : ℕ → Bool) (xs : List ℕ) (x : ℕ) → Contains xs x → q x ≡ true
+    → u ≤ f x + greatest (map (λ y. u - f y) (filter q xs))
 price_covered u f q [] x h e = absurd (omega (arith, h.1))
 price_covered u f q (z ∷ xs) x h e = by_test (q z) refl (λ m. price_covered u f q xs x m e)
   where
-    by_test : (b : Bool) → q z ≡ b → (Contains xs x → u ≤ f x + greatest (map (λ y. u - f y) (filter q xs))) → u ≤ f x + greatest (map (λ y. u - f y) (cond (q z) (z ∷ filter q xs) (filter q xs)))
+    by_test : (b : Bool) → q z ≡ b → (Contains xs x → u ≤ f x + greatest (map (λ y. u - f y) (filter q xs)))
+        → u ≤ f x + greatest (map (λ y. u - f y) (cond (q z) (z ∷ filter q xs) (filter q xs)))
     by_test true b later = rw b (elim (member_cases z xs x h) [
       | inl ex ↦ subst (λ y. u ≤ f y + max (u - f z) (greatest (map (λ y. u - f y) (filter q xs)))) ex (omega arith)
       | inr m ↦ omega (arith, later m)
@@ -69,7 +71,8 @@ module _ (p : Problem) (t : List Cell) (ok : IsFeasible p t) (path : List Fact) 
       let one : ℕ → ℕ = λ d. one_if (list_any (λ e. is_of c e && is_on d e) t) in
       let many : ℕ → ℕ = λ d. count_by (λ e. is_of c e && is_on d e) t in
       let at_most = spread_down (λ e. one_if (is_of c e)) (λ d e. one_if (is_of c e && is_on d e)) t (all_days p)
-      (each (λ e. sum_by (λ d. one_if (is_of c e && is_on d e)) (all_days p) ≤ one_if (is_of c e)) (λ e. once_at_most (is_of c e) (λ d. is_on d e) 1 (all_days p) (count_below e.day p.days)) t) in
+      (each (λ e. sum_by (λ d. one_if (is_of c e && is_on d e)) (all_days p) ≤ one_if (is_of c e))
+      (λ e. once_at_most (is_of c e) (λ d. is_on d e) 1 (all_days p) (count_below e.day p.days)) t) in
       let k = sum_by-le one many (all_days p) (each (λ d. one d ≤ many d) (λ d. one_if_any (λ e. is_of c e && is_on d e) t) (all_days p)) in
       omega arith
 
@@ -106,7 +109,8 @@ module _ (p : Problem) (t : List Cell) (ok : IsFeasible p t) (path : List Fact) 
   -- ---- Compact
 
   -- a neighbour period of an entry of the curriculum isn't alone: the entry's own period has a live cell of a member
-  neighbour_live : (q : ℕ) (s : Slot) (x : Cell) → Contains t x → in_curriculum p q x.course ≡ true → next_to (slot_of x) s ≡ true → is_alone p path q s ≡ true → ⊥
+  neighbour_live : (q : ℕ) (s : Slot) (x : Cell) → Contains t x → in_curriculum p q x.course ≡ true → next_to (slot_of x) s ≡ true
+      → is_alone p path q s ≡ true → ⊥
   neighbour_live q s x h m n a =
       let live_member : Slot → Bool = λ z. list_any (λ c. live_period p path c z) (members p q) in
       let w = member_from_any (λ c. c == x.course) (members p q) m in
@@ -114,10 +118,13 @@ module _ (p : Problem) (t : List Cell) (ok : IsFeasible p t) (path : List Fact) 
       any_member (λ c. live_period p path c (slot_of x)) (members p q) w.0 w.1
       (subst (λ c. live_period p path c (slot_of x) ≡ true) (sym (eqb-true w.0 x.course w.2)) (live_period_of p t ok path fits x h)) in
       let r = in_range p t ok x h in
-      let there = any_slot p (λ z. next_to z s && live_member z) x.day x.period r.day r.period (and_from (next_to (slot_of x) s) (live_member (slot_of x)) n here) in
-      both_ways (list_any (λ z. next_to z s && live_member z) (all_slots p)) (not-true (list_any (λ z. next_to z s && live_member z) (all_slots p)) a) there
+      let there = any_slot p (λ z. next_to z s && live_member z) x.day x.period r.day r.period
+      (and_from (next_to (slot_of x) s) (live_member (slot_of x)) n here) in
+      both_ways (list_any (λ z. next_to z s && live_member z) (all_slots p))
+      (not-true (list_any (λ z. next_to z s && live_member z) (all_slots p)) a) there
 
-  alone_isolated : (q : ℕ) (s : Slot) → (pinned p path (Curriculum q) s && is_alone p path q s) ≡ true → list_any (λ e. in_curriculum p q e.course && is_isolated p t q e && is_at s e) t ≡ true
+  alone_isolated : (q : ℕ) (s : Slot) → (pinned p path (Curriculum q) s && is_alone p path q s) ≡ true
+      → list_any (λ e. in_curriculum p q e.course && is_isolated p t q e && is_at s e) t ≡ true
   alone_isolated q s h =
       let a = and_parts (pinned p path (Curriculum q) s) (is_alone p path q s) h in
       let w = pinned_entry p t ok path fits (Curriculum q) s a.0 in
@@ -128,18 +135,22 @@ module _ (p : Problem) (t : List Cell) (ok : IsFeasible p t) (path : List Fact) 
       let b = and_parts (in_curriculum p q v.0.course) (next_to (slot_of v.0) (slot_of e)) v.2 in
       neighbour_live q s v.0 v.1 b.0 (subst (λ z. next_to (slot_of v.0) z ≡ true) (is_at-slot s e w.3) b.1) a.1)) in
       any_member (λ e. in_curriculum p q e.course && is_isolated p t q e && is_at s e) t e w.1
-      (and_from (in_curriculum p q e.course && is_isolated p t q e) (is_at s e) (and_from (in_curriculum p q e.course) (is_isolated p t q e) w.2 alone) w.3)
+      (and_from (in_curriculum p q e.course && is_isolated p t q e) (is_at s e)
+      (and_from (in_curriculum p q e.course) (is_isolated p t q e) w.2 alone) w.3)
 
   pub compact_sound : (q : ℕ) → value_of p path (Compact q) ≤ compactness_cost p t q
   compact_sound q =
       let good : Cell → Bool = λ e. in_curriculum p q e.course && is_isolated p t q e in
       let claimed : Slot → Bool = λ s. pinned p path (Curriculum q) s && is_alone p path q s in
       let a = sum_by-le (λ s. one_if (claimed s)) (λ s. one_if (list_any (λ e. good e && is_at s e) t)) (all_slots p)
-      (each (λ s. one_if (claimed s) ≤ one_if (list_any (λ e. good e && is_at s e) t)) (λ s. cond-le (claimed s) (list_any (λ e. good e && is_at s e) t) (alone_isolated q s)) (all_slots p)) in
+      (each (λ s. one_if (claimed s) ≤ one_if (list_any (λ e. good e && is_at s e) t))
+      (λ s. cond-le (claimed s) (list_any (λ e. good e && is_at s e) t) (alone_isolated q s)) (all_slots p)) in
       let b = sum_by-le (λ s. one_if (list_any (λ e. good e && is_at s e) t)) (λ s. count_by (λ e. good e && is_at s e) t) (all_slots p)
-      (each (λ s. one_if (list_any (λ e. good e && is_at s e) t) ≤ count_by (λ e. good e && is_at s e) t) (λ s. one_if_any (λ e. good e && is_at s e) t) (all_slots p)) in
+      (each (λ s. one_if (list_any (λ e. good e && is_at s e) t) ≤ count_by (λ e. good e && is_at s e) t)
+      (λ s. one_if_any (λ e. good e && is_at s e) t) (all_slots p)) in
       let c = spread_down (λ e. one_if (good e)) (λ s e. one_if (good e && is_at s e)) t (all_slots p)
-      (each (λ e. sum_by (λ s. one_if (good e && is_at s e)) (all_slots p) ≤ one_if (good e)) (λ e. once_at_most (good e) (λ s. is_at s e) 1 (all_slots p) (count_slots p e)) t) in
+      (each (λ e. sum_by (λ s. one_if (good e && is_at s e)) (all_slots p) ≤ one_if (good e))
+      (λ e. once_at_most (good e) (λ s. is_at s e) 1 (all_slots p) (count_slots p e)) t) in
       omega arith
 
   -- ---- Capacity
@@ -163,14 +174,19 @@ module _ (p : Problem) (t : List Cell) (ok : IsFeasible p t) (path : List Fact) 
       cond-le_plus (is_of c e) u (cost_of e) (off (slot_of e)) (covered c u e h))) in
       let parts = sum_by-plus (λ e. cond (is_of c e) (cost_of e) 0) (λ e. cond (is_of c e) (off (slot_of e)) 0) t in
       let up = spread_up (λ e. cond (is_of c e) (off (slot_of e)) 0) (λ s e. cond (is_of c e && is_at s e) (off s) 0) t (all_slots p)
-      (each_member (λ e. cond (is_of c e) (off (slot_of e)) 0 ≤ sum_by (λ s. cond (is_of c e && is_at s e) (off s) 0) (all_slots p)) t (λ e h.
+      (each_member (λ e. cond (is_of c e) (off (slot_of e)) 0 ≤ sum_by (λ s. cond (is_of c e && is_at s e) (off s) 0) (all_slots p)) t
+      (λ e h.
       let r = in_range p t ok e h in
-      let once = once_at_least (is_of c e) (λ s. is_at s e) (off (slot_of e)) (all_slots p) (any_slot p (λ s. is_at s e) e.day e.period r.day r.period (at_itself e)) in
-      let moved = sum_by-same (λ s. cond (is_of c e && is_at s e) (off (slot_of e)) 0) (λ s. cond (is_of c e && is_at s e) (off s) 0) (all_slots p) (λ s.
-      cond-same (is_of c e && is_at s e) (off (slot_of e)) (off s) (λ k. ap off (is_at-slot s e (and_parts (is_of c e) (is_at s e) k).1))) in
+      let once = once_at_least (is_of c e) (λ s. is_at s e) (off (slot_of e)) (all_slots p)
+      (any_slot p (λ s. is_at s e) e.day e.period r.day r.period (at_itself e)) in
+      let moved = sum_by-same (λ s. cond (is_of c e && is_at s e) (off (slot_of e)) 0) (λ s. cond (is_of c e && is_at s e) (off s) 0)
+      (all_slots p) (λ s.
+      cond-same (is_of c e && is_at s e) (off (slot_of e)) (off s)
+      (λ k. ap off (is_at-slot s e (and_parts (is_of c e) (is_at s e) k).1))) in
       omega arith)) in
       let down = sum_by-le (λ s. sum_by (λ e. cond (is_of c e && is_at s e) (off s) 0) t) off (all_slots p)
-      (each_weaker (λ s. count_by (λ e. is_of c e && is_at s e) t ≤ 1) (λ s. sum_by (λ e. cond (is_of c e && is_at s e) (off s) 0) t ≤ off s) (λ s one.
+      (each_weaker (λ s. count_by (λ e. is_of c e && is_at s e) t ≤ 1)
+      (λ s. sum_by (λ e. cond (is_of c e && is_at s e) (off s) 0) t ≤ off s) (λ s one.
       let e = sum_by-at_places (λ e. is_of c e && is_at s e) (off s) t in
       let k = mul-le-mul_right (off s) one in
       omega arith) (all_slots p) (once_a_period p t ok c)) in

@@ -21,11 +21,20 @@ module _ (p : Problem) (t : Slot → Bool) where
   week_by_days =
       let one : Slot → ℕ = λ s. cond (t s) 1 0 in
       sym (sum_by-of_flat_map one (λ d. map (slot d) (range_below p.periods)) (all_days p)
-      ∙ sum_by-same (λ d. sum_by one (map (slot d) (range_below p.periods))) (on_day p t) (all_days p) (λ d. sum_by-of_map one (slot d) (range_below p.periods)))
+      ∙ sum_by-same (λ d. sum_by one (map (slot d) (range_below p.periods))) (on_day p t) (all_days p)
+      (λ d. sum_by-of_map one (slot d) (range_below p.periods)))
 
   -- the count over the days before one, plus the count of that day by the word of its periods that pass
-  pub week_next : (d w total more : ℕ) → p.periods ≤ 64 → ((s : ℕ) → s < 64 → has_bit w s ≡ (nat_lt s p.periods && t (slot d s))) → total ≡ sum_by (on_day p t) (range_below d) → more ≡ count_by (has_bit w) bits → total + more ≡ sum_by (on_day p t) (range_below (d + 1))
-  week_next d w total more at_most set e is = omega (arith, e, is, count-set w p.periods (λ s. t (slot d s)) at_most set, sum_more (on_day p t) d)
+  pub week_next : (d w total more : ℕ) → p.periods ≤ 64 → ((s : ℕ) → s < 64 → has_bit w s ≡ (nat_lt s p.periods && t (slot d s)))
+      → total ≡ sum_by (on_day p t) (range_below d) → more ≡ count_by (has_bit w) bits → total + more ≡ sum_by (on_day p t)
+      (range_below (d + 1))
+  week_next d w total more at_most set e is = omega (
+    arith,
+    e,
+    is,
+    count-set w p.periods (λ s. t (slot d s)) at_most set,
+    sum_more (on_day p t) d,
+  )
 
   pub week_whole : (d total : ℕ) → total ≡ sum_by (on_day p t) (range_below d) → d ≡ p.days → total ≡ count_by t (all_slots p)
   week_whole d total e is = e ∙ ap (λ n. sum_by (on_day p t) (range_below n)) is ∙ week_by_days

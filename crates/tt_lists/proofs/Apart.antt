@@ -14,7 +14,9 @@ one_if-positive true h = refl
 one_if-positive false h = absurd (omega arith)
 
 -- if no two related elements both count, the sum is at most 1, and 0 unless some element passes
-pub one_at_most : {X : Type 0} (related : X → X → Bool) (n : X → ℕ) (passes : X → Bool) (xs : List X) → each_two related xs ≡ true → ((x y : X) → related x y ≡ true → 1 ≤ n x → 1 ≤ n y → ⊥) → ((x : X) → n x ≤ 1) → ((x : X) → 1 ≤ n x → passes x ≡ true) → sum_by n xs ≤ one_if (list_any passes xs)
+pub one_at_most : {X : Type 0} (related : X → X → Bool) (n : X → ℕ) (passes : X → Bool) (xs : List X) → each_two related xs ≡ true
+    → ((x y : X) → related x y ≡ true → 1 ≤ n x → 1 ≤ n y → ⊥) → ((x : X) → n x ≤ 1) → ((x : X) → 1 ≤ n x → passes x ≡ true)
+    → sum_by n xs ≤ one_if (list_any passes xs)
 one_at_most related n passes [] e apart most pass = zero-le
 one_at_most related n passes (x ∷ xs) e apart most pass =
     let h = and_parts (list_all (related x) xs) (each_two related xs) e in
@@ -22,7 +24,9 @@ one_at_most related n passes (x ∷ xs) e apart most pass =
     elim (cases_lt 0 (n x)) [
       | inl k ↦
           let here = one_if_true (passes x || list_any passes xs) (or_left (passes x) (list_any passes xs) (pass x k)) in
-          let others = sum_by-le n (λ y. 0) xs (each_weaker (λ y. related x y ≡ true) (λ y. n y ≤ 0) (λ y r. by_cases y (λ m. apart x y r k m)) xs (each_from_list_all (related x) xs h.0)) in
+          let others = sum_by-le n (λ y. 0) xs
+          (each_weaker (λ y. related x y ≡ true) (λ y. n y ≤ 0) (λ y r. by_cases y (λ m. apart x y r k m)) xs
+          (each_from_list_all (related x) xs h.0)) in
           omega (arith, most x, sum_by-nothing xs)
       | inr k ↦
           let rest = one_at_most related n passes xs h.1 apart most pass in
@@ -34,10 +38,14 @@ one_at_most related n passes (x ∷ xs) e apart most pass =
     by_cases y f = elim (cases_lt 0 (n y)) [ inl m ↦ absurd (f m) | inr m ↦ m ]
 
 -- a sum over distinct elements is at most the sum over a list that contains each of them, except those that add nothing
-pub distinct_sum : {X : Type 0} (same : X → X → Bool) → ((x y : X) → same x y ≡ true → x ≡ y) → ((x : X) → same x x ≡ true) → (f : X → ℕ) (ys xs : List X) → each_two (λ a b. not (same a b)) ys ≡ true → ((y : X) → Contains ys y → (f y ≡ 0) ⊎ (list_any (same y) xs ≡ true)) → sum_by f ys ≤ sum_by f xs
+pub distinct_sum : {X : Type 0} (same : X → X → Bool) → ((x y : X) → same x y ≡ true → x ≡ y) → ((x : X) → same x x ≡ true)
+    → (f : X → ℕ) (ys xs : List X) → each_two (λ a b. not (same a b)) ys ≡ true
+    → ((y : X) → Contains ys y → (f y ≡ 0) ⊎ (list_any (same y) xs ≡ true)) → sum_by f ys ≤ sum_by f xs
 distinct_sum {X} same is itself f ys xs apart there =
-    let up = spread_up f (λ x y. cond (same y x) (f x) 0) ys xs (each_member (λ y. f y ≤ sum_by (λ x. cond (same y x) (f x) 0) xs) ys found) in
-    let down = sum_by-le (λ x. sum_by (λ y. cond (same y x) (f x) 0) ys) f xs (each (λ x. sum_by (λ y. cond (same y x) (f x) 0) ys ≤ f x) once xs) in
+    let up = spread_up f (λ x y. cond (same y x) (f x) 0) ys xs
+    (each_member (λ y. f y ≤ sum_by (λ x. cond (same y x) (f x) 0) xs) ys found) in
+    let down = sum_by-le (λ x. sum_by (λ y. cond (same y x) (f x) 0) ys) f xs
+    (each (λ x. sum_by (λ y. cond (same y x) (f x) 0) ys ≤ f x) once xs) in
     omega arith
   where
     found : (y : X) → Contains ys y → f y ≤ sum_by (λ x. cond (same y x) (f x) 0) xs
@@ -59,7 +67,8 @@ distinct_sum {X} same is itself f ys xs apart there =
     once : (x : X) → sum_by (λ y. cond (same y x) (f x) 0) ys ≤ f x
     once x =
         let e = sum_by-at_places (λ y. same y x) (f x) ys in
-        let one = one_at_most (λ a b. not (same a b)) (λ y. one_if (same y x)) (λ y. true) ys apart (never x) (λ y. one_if-le (same y x)) (λ y h. refl) in
+        let one = one_at_most (λ a b. not (same a b)) (λ y. one_if (same y x)) (λ y. true) ys apart (never x)
+        (λ y. one_if-le (same y x)) (λ y h. refl) in
         let most = one_if-le (list_any (λ (y : X). true) ys) in
         let two : count_by (λ y. same y x) ys ≤ 1 = omega arith in
         let k = mul-le-mul_right (f x) two in

@@ -35,7 +35,8 @@ module _ {X : Type 0} where
   length-le_sum f (x ∷ xs) a = omega (arith, sum_by-cons f x xs, a.0, length-le_sum f xs a.1)
 
   -- if each element occurs once, and all elements that pass are the same, at most one passes
-  pub one_passes : (same : X → X → Bool) (p : X → Bool) (xs : List X) → ((x : X) → Contains xs x → count_by (same x) xs ≤ 1) → ((x y : X) → Contains xs x → Contains xs y → p x ≡ true → p y ≡ true → same x y ≡ true) → count_by p xs ≤ 1
+  pub one_passes : (same : X → X → Bool) (p : X → Bool) (xs : List X) → ((x : X) → Contains xs x → count_by (same x) xs ≤ 1)
+      → ((x y : X) → Contains xs x → Contains xs y → p x ≡ true → p y ≡ true → same x y ≡ true) → count_by p xs ≤ 1
   one_passes same p xs once alike = elim (cases_lt 0 (count_by p xs)) [
     | inl h ↦
         let w = member_from_any p xs (any_if_count p xs h) in
@@ -46,7 +47,8 @@ module _ {X : Type 0} where
   ]
 
   -- if no two elements are related, there is no pair
-  pub pairs_none : (related : X → X → Bool) (xs : List X) → ((x y : X) → Contains xs x → Contains xs y → related x y ≡ true → ⊥) → count_pairs related xs ≡ 0
+  pub pairs_none : (related : X → X → Bool) (xs : List X) → ((x y : X) → Contains xs x → Contains xs y → related x y ≡ true → ⊥)
+      → count_pairs related xs ≡ 0
   pairs_none related [] f = refl
   pairs_none related (x ∷ xs) f =
       let first = none_counted (related x) xs (λ y m e. f x y (here x xs) (behind x xs y m) e) in
@@ -71,7 +73,8 @@ cond-le_cond true x y h = h refl
 cond-le_cond false x y h = zero-le
 
 -- counts by two tests that agree on each element are equal
-pub count_by-same_at : {X : Type 0} (P : X → Type 0) (p q : X → Bool) (xs : List X) → All P xs → ((x : X) → P x → p x ≡ q x) → count_by p xs ≡ count_by q xs
+pub count_by-same_at : {X : Type 0} (P : X → Type 0) (p q : X → Bool) (xs : List X) → All P xs → ((x : X) → P x → p x ≡ q x)
+    → count_by p xs ≡ count_by q xs
 count_by-same_at P p q [] all same = refl
 count_by-same_at P p q (x ∷ xs) all same =
     count_by-cons p x xs

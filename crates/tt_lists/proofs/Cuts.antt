@@ -4,7 +4,8 @@ use Rattle.std.specs.Prelude.{◌⊎◌, slice_get, slice_set}
 use Rattle.std.specs.List.{insert}
 
 -- a cut of two appended lists is in the first or in the second
-pub cut_cases : {X : Type 0} (ls rs : List X) (before : List X) (y : X) (after : List X) → ls ++ rs ≡ before ++ y ∷ after → ((ws : List X) × (ls ≡ before ++ y ∷ ws) × (after ≡ ws ++ rs)) ⊎ ((zs : List X) × (before ≡ ls ++ zs) × (rs ≡ zs ++ y ∷ after))
+pub cut_cases : {X : Type 0} (ls rs : List X) (before : List X) (y : X) (after : List X) → ls ++ rs ≡ before ++ y ∷ after
+    → ((ws : List X) × (ls ≡ before ++ y ∷ ws) × (after ≡ ws ++ rs)) ⊎ ((zs : List X) × (before ≡ ls ++ zs) × (rs ≡ zs ++ y ∷ after))
 cut_cases [] rs before y after e = inr (before, refl, e)
 cut_cases {X} (a ∷ ls) rs [] y after e =
     let h : a ≡ y = cc in
@@ -34,28 +35,33 @@ cut_at (y ∷ ys) (suc k) x e =
     record { before = y ∷ w.before; after = w.after; whole = ap (λ l. y ∷ l) w.whole; place = ap suc w.place }
 
 -- setting the element at the cut
-pub set_cut : {X : Type 0} (before : List X) (x : X) (after : List X) (y : X) → slice_set (before ++ x ∷ after) (length before) y ≡ before ++ y ∷ after
+pub set_cut : {X : Type 0} (before : List X) (x : X) (after : List X) (y : X) → slice_set (before ++ x ∷ after) (length before) y
+    ≡ before ++ y ∷ after
 set_cut [] x after y = refl
 set_cut (b ∷ before) x after y = ap (λ l. b ∷ l) (set_cut before x after y)
 
 -- inserting an element after the one at the cut
-pub insert_cut : {X : Type 0} (before : List X) (x : X) (after : List X) (y : X) → insert (before ++ x ∷ after) (suc (length before)) y ≡ before ++ x ∷ y ∷ after
+pub insert_cut : {X : Type 0} (before : List X) (x : X) (after : List X) (y : X) → insert (before ++ x ∷ after) (suc (length before)) y
+    ≡ before ++ x ∷ y ∷ after
 insert_cut [] x after y = refl
 insert_cut (b ∷ before) x after y = ap (λ l. b ∷ l) (insert_cut before x after y)
 
 -- the element after the one at the cut
-pub get_next : {X : Type 0} (before : List X) (x y : X) (after : List X) → slice_get (before ++ x ∷ y ∷ after) (suc (length before)) ≡ Some y
+pub get_next : {X : Type 0} (before : List X) (x y : X) (after : List X) → slice_get (before ++ x ∷ y ∷ after) (suc (length before))
+    ≡ Some y
 get_next [] x y after = refl
 get_next (b ∷ before) x y after = get_next before x y after
 
-pub get_after : {X : Type 0} (before : List X) (x y z : X) (after : List X) → slice_get (before ++ x ∷ y ∷ z ∷ after) (suc (suc (length before))) ≡ Some z
+pub get_after : {X : Type 0} (before : List X) (x y z : X) (after : List X) → slice_get (before ++ x ∷ y ∷ z ∷ after)
+    (suc (suc (length before))) ≡ Some z
 get_after [] x y z after = refl
 get_after (b ∷ before) x y z after = get_after before x y z after
 
 -- ---- elements of appended lists
 
 -- an element of two appended lists is in the first or in the second
-pub at_cases : {X : Type 0} (xs ys : List X) (i : ℕ) (x : X) → slice_get (xs ++ ys) i ≡ Some x → (slice_get xs i ≡ Some x) ⊎ ((j : ℕ) × (i ≡ length xs + j) × (slice_get ys j ≡ Some x))
+pub at_cases : {X : Type 0} (xs ys : List X) (i : ℕ) (x : X) → slice_get (xs ++ ys) i ≡ Some x → (slice_get xs i ≡ Some x)
+    ⊎ ((j : ℕ) × (i ≡ length xs + j) × (slice_get ys j ≡ Some x))
 at_cases [] ys i x e = inr (i, omega arith, e)
 at_cases (y ∷ xs) ys zero x e = inl e
 at_cases (y ∷ xs) ys (suc i) x e = elim (at_cases xs ys i x e) [

@@ -28,7 +28,8 @@ module _ {X : Type 0} (same : X → X → Bool) where
   -- if a property holds of each element so far and of those that follow, it holds of each in the end
   All-fold : (P : X → Type 0) (before xs : List X) → All P before → All P xs → All P (fold (with_new same) before xs)
   All-fold P before [] now all = now
-  All-fold P before (x ∷ xs) now all = All-fold P (with_new same before x) xs (All-with_new P before x now (All-head P x xs all)) (All-tail P x xs all)
+  All-fold P before (x ∷ xs) now all = All-fold P (with_new same before x) xs (All-with_new P before x now (All-head P x xs all))
+      (All-tail P x xs all)
 
   -- if a property holds of each element, it holds of each distinct one
   pub All-distinct : (P : X → Type 0) (xs : List X) → All P xs → All P (distinct same xs)

@@ -17,7 +17,8 @@ module _ {X : Type 0} where
   list_any-of_filter q p [] = refl
   list_any-of_filter q p (x ∷ xs) = by_test (p x) (list_any-of_filter q p xs)
     where
-      by_test : (b : Bool) → list_any q (filter p xs) ≡ list_any (λ y. p y && q y) xs → list_any q (cond b (x ∷ filter p xs) (filter p xs)) ≡ ((b && q x) || list_any (λ y. p y && q y) xs)
+      by_test : (b : Bool) → list_any q (filter p xs) ≡ list_any (λ y. p y && q y) xs
+          → list_any q (cond b (x ∷ filter p xs) (filter p xs)) ≡ ((b && q x) || list_any (λ y. p y && q y) xs)
       by_test true e = ap (λ r. q x || r) e
       by_test false e = e
 
@@ -26,7 +27,8 @@ module _ {X : Type 0} where
   list_all-of_filter t p [] = refl
   list_all-of_filter t p (x ∷ xs) = by_test (p x) (list_all-of_filter t p xs)
     where
-      by_test : (b : Bool) → list_all t (filter p xs) ≡ list_all (λ y. not (p y) || t y) xs → list_all t (cond b (x ∷ filter p xs) (filter p xs)) ≡ ((not b || t x) && list_all (λ y. not (p y) || t y) xs)
+      by_test : (b : Bool) → list_all t (filter p xs) ≡ list_all (λ y. not (p y) || t y) xs
+          → list_all t (cond b (x ∷ filter p xs) (filter p xs)) ≡ ((not b || t x) && list_all (λ y. not (p y) || t y) xs)
       by_test true e = ap (λ b. t x && b) e
       by_test false e = e
 
@@ -45,7 +47,8 @@ module _ {X : Type 0} where
   sum_by-of_filter f p [] = refl
   sum_by-of_filter f p (x ∷ xs) = by_test (p x) (sum_by-of_filter f p xs) ∙ sym (sum_by-cons (λ y. cond (p y) (f y) 0) x xs)
     where
-      by_test : (b : Bool) → sum_by f (filter p xs) ≡ sum_by (λ y. cond (p y) (f y) 0) xs → sum_by f (cond b (x ∷ filter p xs) (filter p xs)) ≡ cond b (f x) 0 + sum_by (λ y. cond (p y) (f y) 0) xs
+      by_test : (b : Bool) → sum_by f (filter p xs) ≡ sum_by (λ y. cond (p y) (f y) 0) xs
+          → sum_by f (cond b (x ∷ filter p xs) (filter p xs)) ≡ cond b (f x) 0 + sum_by (λ y. cond (p y) (f y) 0) xs
       by_test true e = omega (arith, sum_by-cons f x (filter p xs), e)
       by_test false e = omega (arith, e)
 
@@ -65,46 +68,58 @@ module _ {X : Type 0} where
       by_test false h r = r
 
   -- if each two elements are related, each two elements of the filtered list are related
-  pub each_two-of_filter : (related : X → X → Bool) (p : X → Bool) (xs : List X) → each_two related xs ≡ true → each_two related (filter p xs) ≡ true
+  pub each_two-of_filter : (related : X → X → Bool) (p : X → Bool) (xs : List X) → each_two related xs ≡ true
+      → each_two related (filter p xs) ≡ true
   each_two-of_filter related p [] e = refl
   each_two-of_filter related p (x ∷ xs) e =
       let a = and_parts (list_all (related x) xs) (each_two related xs) e in
       by_test (p x) (filter_all_pass (related x) p xs a.0) (each_two-of_filter related p xs a.1)
     where
-      by_test : (b : Bool) → list_all (related x) (filter p xs) ≡ true → each_two related (filter p xs) ≡ true → each_two related (cond b (x ∷ filter p xs) (filter p xs)) ≡ true
+      by_test : (b : Bool) → list_all (related x) (filter p xs) ≡ true → each_two related (filter p xs) ≡ true
+          → each_two related (cond b (x ∷ filter p xs) (filter p xs)) ≡ true
       by_test true h r = and_from (list_all (related x) (filter p xs)) (each_two related (filter p xs)) h r
       by_test false h r = r
 
 -- how many distinct places the elements that pass have
-pub distinct_filtered : {X Y : Type 0} (p : X → Bool) (at : Y → X → Bool) (xs : List X) (ys : List Y) → count_by (λ y. list_any (at y) (filter p xs)) ys ≡ count_by (λ y. list_any (λ x. p x && at y x) xs) ys
+pub distinct_filtered : {X Y : Type 0} (p : X → Bool) (at : Y → X → Bool) (xs : List X) (ys : List Y)
+    → count_by (λ y. list_any (at y) (filter p xs)) ys ≡ count_by (λ y. list_any (λ x. p x && at y x) xs) ys
 distinct_filtered p at xs ys =
-    sum_by-same (λ y. one_if (list_any (at y) (filter p xs))) (λ y. one_if (list_any (λ x. p x && at y x) xs)) ys (λ y. ap one_if (list_any-of_filter (at y) p xs))
+    sum_by-same (λ y. one_if (list_any (at y) (filter p xs))) (λ y. one_if (list_any (λ x. p x && at y x) xs)) ys
+    (λ y. ap one_if (list_any-of_filter (at y) p xs))
 
 -- -- joined lists, some of them omitted
 
-all_kept : {X Y : Type 0} (t : Y → Bool) (h : X → List Y) (q : X → Bool) (xs : List X) → list_all t (flat_map h xs) ≡ true → list_all t (flat_map h (filter q xs)) ≡ true
+all_kept : {X Y : Type 0} (t : Y → Bool) (h : X → List Y) (q : X → Bool) (xs : List X) → list_all t (flat_map h xs) ≡ true
+    → list_all t (flat_map h (filter q xs)) ≡ true
 all_kept t h q [] e = refl
 all_kept {X} t h q (x ∷ xs) e =
     let a = and_parts (list_all t (h x)) (list_all t (flat_map h xs)) (sym (list_all-append t (h x) (flat_map h xs)) ∙ e) in
     by_test (q x) a.0 (all_kept t h q xs a.1)
   where
-    by_test : (b : Bool) → list_all t (h x) ≡ true → list_all t (flat_map h (filter q xs)) ≡ true → list_all t (flat_map h (cond b (x ∷ filter q xs) (filter q xs))) ≡ true
-    by_test true f r = list_all-append t (h x) (flat_map h (filter q xs)) ∙ and_from (list_all t (h x)) (list_all t (flat_map h (filter q xs))) f r
+    by_test : (b : Bool) → list_all t (h x) ≡ true → list_all t (flat_map h (filter q xs)) ≡ true
+        → list_all t (flat_map h (cond b (x ∷ filter q xs) (filter q xs))) ≡ true
+    by_test true f r = list_all-append t (h x) (flat_map h (filter q xs))
+        ∙ and_from (list_all t (h x)) (list_all t (flat_map h (filter q xs))) f r
     by_test false f r = r
 
 -- if each two elements of some joined lists are related, they still are if some of the lists are omitted
-pub each_two_kept : {X Y : Type 0} (related : Y → Y → Bool) (h : X → List Y) (q : X → Bool) (xs : List X) → each_two related (flat_map h xs) ≡ true → each_two related (flat_map h (filter q xs)) ≡ true
+pub each_two_kept : {X Y : Type 0} (related : Y → Y → Bool) (h : X → List Y) (q : X → Bool) (xs : List X)
+    → each_two related (flat_map h xs) ≡ true → each_two related (flat_map h (filter q xs)) ≡ true
 each_two_kept related h q [] e = refl
 each_two_kept related h q (x ∷ xs) e =
     let whole = flat_map h xs in
-    let a = and_parts (each_two related (h x)) (list_all (λ y. list_all (related y) whole) (h x) && each_two related whole) (sym (each_two-append related (h x) whole) ∙ e) in
+    let a = and_parts (each_two related (h x)) (list_all (λ y. list_all (related y) whole) (h x) && each_two related whole)
+    (sym (each_two-append related (h x) whole) ∙ e) in
     let b = and_parts (list_all (λ y. list_all (related y) whole) (h x)) (each_two related whole) a.1 in
-    let c = all_weaker (λ y. list_all (related y) whole) (λ y. list_all (related y) (flat_map h (filter q xs))) (h x) (λ y k. all_kept (related y) h q xs k) b.0 in
+    let c = all_weaker (λ y. list_all (related y) whole) (λ y. list_all (related y) (flat_map h (filter q xs))) (h x)
+    (λ y k. all_kept (related y) h q xs k) b.0 in
     by_test (q x) a.0 c (each_two_kept related h q xs b.1)
   where
-    by_test : (b : Bool) → each_two related (h x) ≡ true → list_all (λ y. list_all (related y) (flat_map h (filter q xs))) (h x) ≡ true → each_two related (flat_map h (filter q xs)) ≡ true → each_two related (flat_map h (cond b (x ∷ filter q xs) (filter q xs))) ≡ true
+    by_test : (b : Bool) → each_two related (h x) ≡ true → list_all (λ y. list_all (related y) (flat_map h (filter q xs))) (h x) ≡ true
+        → each_two related (flat_map h (filter q xs)) ≡ true → each_two related (flat_map h (cond b (x ∷ filter q xs) (filter q xs))) ≡ true
     by_test true f c r =
         each_two-append related (h x) (flat_map h (filter q xs))
-        ∙ and_from (each_two related (h x)) (list_all (λ y. list_all (related y) (flat_map h (filter q xs))) (h x) && each_two related (flat_map h (filter q xs))) f
+        ∙ and_from (each_two related (h x)) (list_all (λ y. list_all (related y) (flat_map h (filter q xs))) (h x) && each_two related
+        (flat_map h (filter q xs))) f
         (and_from (list_all (λ y. list_all (related y) (flat_map h (filter q xs))) (h x)) (each_two related (flat_map h (filter q xs))) c r)
     by_test false f c r = r

@@ -29,7 +29,8 @@ module _ {X : Type 0} (h : X → Option ℕ) where
   count_by-filter_map q [] = refl
   count_by-filter_map q (x ∷ xs) = by_case (h x) (count_by-filter_map q xs) ∙ sym (sum_by-cons (λ y. count_in q (h y)) x xs)
     where
-      by_case : (o : Option ℕ) → count_by q (filter_map h xs) ≡ sum_by (λ y. count_in q (h y)) xs → count_by q (cons_option o (filter_map h xs)) ≡ count_in q o + sum_by (λ y. count_in q (h y)) xs
+      by_case : (o : Option ℕ) → count_by q (filter_map h xs) ≡ sum_by (λ y. count_in q (h y)) xs
+          → count_by q (cons_option o (filter_map h xs)) ≡ count_in q o + sum_by (λ y. count_in q (h y)) xs
       by_case None e = omega (arith, e)
       by_case (Some n) e = omega (arith, count_by-cons q n (filter_map h xs), e)
 
@@ -38,7 +39,8 @@ module _ {X : Type 0} (h : X → Option ℕ) where
   length-filter_map [] = refl
   length-filter_map (x ∷ xs) = by_case (h x) (length-filter_map xs) ∙ sym (count_by-cons (λ y. is_some (h y)) x xs)
     where
-      by_case : (o : Option ℕ) → length (filter_map h xs) ≡ count_by (λ y. is_some (h y)) xs → length (cons_option o (filter_map h xs)) ≡ one_if (is_some o) + count_by (λ y. is_some (h y)) xs
+      by_case : (o : Option ℕ) → length (filter_map h xs) ≡ count_by (λ y. is_some (h y)) xs
+          → length (cons_option o (filter_map h xs)) ≡ one_if (is_some o) + count_by (λ y. is_some (h y)) xs
       by_case None e = omega (arith, e)
       by_case (Some n) e = omega (arith, e)
 
@@ -47,7 +49,8 @@ module _ {X : Type 0} (h : X → Option ℕ) where
   each_given P [] f = tt
   each_given P (x ∷ xs) f = by_case (h x) (f x) (each_given P xs f)
     where
-      by_case : (o : Option ℕ) → ((m : ℕ) → o ≡ Some m → P m) → AllByRecursion P (filter_map h xs) → AllByRecursion P (cons_option o (filter_map h xs))
+      by_case : (o : Option ℕ) → ((m : ℕ) → o ≡ Some m → P m) → AllByRecursion P (filter_map h xs)
+          → AllByRecursion P (cons_option o (filter_map h xs))
       by_case None g a = a
       by_case (Some m) g a = (g m refl, a)
 
@@ -68,9 +71,11 @@ module _ {X : Type 0} (h : X → Option ℕ) where
       behind (Some n) k = (suc k.0, omega (arith, k.1), k.2)
 
   -- the number that the next element gives comes after those that the elements before it gave
-  pub filter_map_more : (xs : List X) (i : ℕ) (x : X) → i < length xs → x ≡ get_or xs i x → filter_map h (take (i + 1) xs) ≡ filter_map h (take i xs) ++ cons_option (h x) []
+  pub filter_map_more : (xs : List X) (i : ℕ) (x : X) → i < length xs → x ≡ get_or xs i x
+      → filter_map h (take (i + 1) xs) ≡ filter_map h (take i xs) ++ cons_option (h x) []
   filter_map_more xs i x l e =
-      ap (filter_map h) (take_more xs i x l) ∙ filter_map-append h (take i xs) (get_or xs i x ∷ []) ∙ ap (λ z. filter_map h (take i xs) ++ cons_option (h z) []) (sym e)
+      ap (filter_map h) (take_more xs i x l) ∙ filter_map-append h (take i xs) (get_or xs i x ∷ [])
+      ∙ ap (λ z. filter_map h (take i xs) ++ cons_option (h z) []) (sym e)
 
 -- if a property holds of each number, and of another one if it is given, it holds of each after that one is appended
 pub All-option : (P : ℕ → Type 0) (xs : List ℕ) (o : Option ℕ) → All P xs → IfSome o P → All P (xs ++ cons_option o [])

@@ -10,7 +10,8 @@ use Rattle.tt_lists.proofs.Sums.{one_if, one_if_true, one_if_false, count_by-con
 
 pub any_below : (p : ℕ → Bool) (n k : ℕ) → k < n → p k ≡ true → list_any p (range_below n) ≡ true
 any_below p n k h e =
-    let here : p (get_or (range_with_len 0 n) k 0) ≡ true = rw (get_or-range_with_len 0 n k 0 h) (let z : 0 + k ≡ k = omega arith in rw z e) in
+    let here : p (get_or (range_with_len 0 n) k 0) ≡ true = rw (get_or-range_with_len 0 n k 0 h) (let z : 0 + k ≡ k = omega arith in
+    rw z e) in
     list_any_at p (range_below n) k 0 (rw (length-range_with_len 0 n) h) here
 
 count_from_above : (i a n : ℕ) → i < a → count_by (λ k. i == k) (range_with_len a n) ≡ 0

@@ -6,7 +6,8 @@ use Rattle.tt_lists.specs.Words.{count_pairs}
 use Rattle.tt_lists.proofs.Sums.{one_if, count_by-cons}
 
 -- the pairs are those that have a given element and those without it
-pub count_pairs-at : {X : Type 0} (related : X → X → Bool) → ((x y : X) → related x y ≡ related y x) → (xs : List X) (i : ℕ) (d : X) → i < length xs → count_pairs related xs ≡ count_by (related (get_or xs i d)) (remove xs i) + count_pairs related (remove xs i)
+pub count_pairs-at : {X : Type 0} (related : X → X → Bool) → ((x y : X) → related x y ≡ related y x) → (xs : List X) (i : ℕ) (d : X)
+    → i < length xs → count_pairs related xs ≡ count_by (related (get_or xs i d)) (remove xs i) + count_pairs related (remove xs i)
 count_pairs-at related turn [] i d h = absurd (omega arith)
 count_pairs-at related turn (x ∷ xs) zero d h = refl
 count_pairs-at related turn (x ∷ xs) (suc i) d h =

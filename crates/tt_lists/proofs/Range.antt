@@ -24,12 +24,14 @@ each_below P n f = each_member P (range_below n) (λ k m. f k (below_member n k 
 others_above : (a b n : ℕ) → a < b → list_all (λ k. not (a == k)) (range_with_len b n) ≡ true
 others_above a b zero h = refl
 others_above a b (suc n) h =
-    and_from (not (a == b)) (list_all (λ k. not (a == k)) (range_with_len (b + 1) n)) (not_from_false (a == b) (ne_eqb a b (λ e. omega arith))) (others_above a (b + 1) n (omega arith))
+    and_from (not (a == b)) (list_all (λ k. not (a == k)) (range_with_len (b + 1) n))
+    (not_from_false (a == b) (ne_eqb a b (λ e. omega arith))) (others_above a (b + 1) n (omega arith))
 
 distinct_from : (a n : ℕ) → each_two (λ x y. not (x == y)) (range_with_len a n) ≡ true
 distinct_from a zero = refl
 distinct_from a (suc n) =
-    and_from (list_all (λ k. not (a == k)) (range_with_len (a + 1) n)) (each_two (λ x y. not (x == y)) (range_with_len (a + 1) n)) (others_above a (a + 1) n (omega arith)) (distinct_from (a + 1) n)
+    and_from (list_all (λ k. not (a == k)) (range_with_len (a + 1) n)) (each_two (λ x y. not (x == y)) (range_with_len (a + 1) n))
+    (others_above a (a + 1) n (omega arith)) (distinct_from (a + 1) n)
 
 -- no number occurs twice in the range
 pub distinct_below : (n : ℕ) → each_two (λ x y. not (x == y)) (range_below n) ≡ true

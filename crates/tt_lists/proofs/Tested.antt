@@ -5,7 +5,8 @@ use Rattle.std.specs.List.{list_any, list_all, AllByRecursion}
 use Rattle.std.proofs.lemmas.Bool.{and_parts, and_from, and_cases}
 
 -- if each element passes a test, each passes a weaker one
-pub all_weaker : {X : Type 0} (p q : X → Bool) (xs : List X) → ((x : X) → p x ≡ true → q x ≡ true) → list_all p xs ≡ true → list_all q xs ≡ true
+pub all_weaker : {X : Type 0} (p q : X → Bool) (xs : List X) → ((x : X) → p x ≡ true → q x ≡ true) → list_all p xs ≡ true
+    → list_all q xs ≡ true
 all_weaker p q [] h e = refl
 all_weaker p q (x ∷ xs) h e =
     let a = and_parts (p x) (list_all p xs) e in
@@ -17,7 +18,8 @@ list_any-same p q [] h = refl
 list_any-same p q (x ∷ xs) h = ap (λ b. b || list_any p xs) (h x) ∙ ap (λ b. q x || b) (list_any-same p q xs h)
 
 -- if some element fails a test, one such element exists, with a property that holds of each
-pub fails_with : {X : Type 0} (P : X → Type 0) (test : X → Bool) (xs : List X) → AllByRecursion P xs → list_all test xs ≡ false → (x : X) × P x × (test x ≡ false)
+pub fails_with : {X : Type 0} (P : X → Type 0) (test : X → Bool) (xs : List X) → AllByRecursion P xs → list_all test xs ≡ false
+    → (x : X) × P x × (test x ≡ false)
 fails_with P test [] a e = cc
 fails_with P test (x ∷ xs) a e = elim (and_cases (test x) (list_all test xs) e) [
   | inl h ↦ (x, a.0, h)
@@ -25,7 +27,8 @@ fails_with P test (x ∷ xs) a e = elim (and_cases (test x) (list_all test xs) e
 ]
 
 -- the element at a place of a list whose elements all pass
-pub all_at : {X : Type 0} (test : X → Bool) (Q : X → Type 0) (xs : List X) (i : ℕ) → list_all test xs ≡ true → IsSomeAnd (slice_get xs i) Q → (x : X) × (test x ≡ true) × Q x
+pub all_at : {X : Type 0} (test : X → Bool) (Q : X → Type 0) (xs : List X) (i : ℕ) → list_all test xs ≡ true
+    → IsSomeAnd (slice_get xs i) Q → (x : X) × (test x ≡ true) × Q x
 all_at test Q [] i e h = absurd h
 all_at test Q (x ∷ xs) zero e h = (x, (and_parts (test x) (list_all test xs) e).0, h)
 all_at test Q (x ∷ xs) (suc i) e h = all_at test Q xs i (and_parts (test x) (list_all test xs) e).1 h
@@ -42,7 +45,8 @@ pub each_append : {X : Type 0} (P : X → Type 0) (xs ys : List X) → AllByRecu
 each_append P [] ys a b = b
 each_append P (x ∷ xs) ys a b = (a.0, each_append P xs ys a.1 b)
 
-pub each_flat : {X Y : Type 0} (P : Y → Type 0) (h : X → List Y) (xs : List X) → AllByRecursion (λ x. AllByRecursion P (h x)) xs → AllByRecursion P (flat_map h xs)
+pub each_flat : {X Y : Type 0} (P : Y → Type 0) (h : X → List Y) (xs : List X) → AllByRecursion (λ x. AllByRecursion P (h x)) xs
+    → AllByRecursion P (flat_map h xs)
 each_flat P h [] a = tt
 each_flat P h (x ∷ xs) a = each_append P (h x) (flat_map h xs) a.0 (each_flat P h xs a.1)
 

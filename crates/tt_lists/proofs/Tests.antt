@@ -22,9 +22,11 @@ pub test_turned : (a b : ℕ) → (a == b) ≡ (b == a)
 test_turned a b = same_test a b b a sym sym
 
 -- two tests that agree at each element with a property give the same answer for the list
-pub list_any-same_at : {X : Type 0} (P : X → Type 0) (p q : X → Bool) (xs : List X) → All P xs → ((x : X) → P x → p x ≡ q x) → list_any p xs ≡ list_any q xs
+pub list_any-same_at : {X : Type 0} (P : X → Type 0) (p q : X → Bool) (xs : List X) → All P xs → ((x : X) → P x → p x ≡ q x)
+    → list_any p xs ≡ list_any q xs
 list_any-same_at P p q [] a h = refl
-list_any-same_at P p q (x ∷ xs) a h = ap (λ b. b || list_any p xs) (h x (All-head P x xs a)) ∙ ap (λ b. q x || b) (list_any-same_at P p q xs (All-tail P x xs a) h)
+list_any-same_at P p q (x ∷ xs) a h = ap (λ b. b || list_any p xs) (h x (All-head P x xs a))
+    ∙ ap (λ b. q x || b) (list_any-same_at P p q xs (All-tail P x xs a) h)
 
 -- some element passes one of two tests
 pub list_any-or : {X : Type 0} (p q : X → Bool) (xs : List X) → list_any (λ x. p x || q x) xs ≡ (list_any p xs || list_any q xs)
@@ -60,11 +62,14 @@ sum_by-same_below f g (suc n) h =
     omega (arith, a, b, h n (omega arith), sum_by-same_below f g n (λ k l. h k (omega arith)))
 
 -- a sum over a + n numbers is the sum over the first a and the sum over the other n
-pub sum_further : (f : ℕ → ℕ) (a n : ℕ) → sum_by f (range_below (a + n)) ≡ sum_by f (range_below a) + sum_by (λ s. f (a + s)) (range_below n)
+pub sum_further : (f : ℕ → ℕ) (a n : ℕ) → sum_by f (range_below (a + n)) ≡ sum_by f (range_below a) + sum_by (λ s. f (a + s))
+    (range_below n)
 sum_further f a zero = let e : a + 0 ≡ a = omega arith in rw e (omega arith)
 sum_further f a (suc n) =
     let e : a + suc n ≡ (a + n) + 1 = omega arith in
     let g : suc n ≡ n + 1 = omega arith in
-    let whole : sum_by f (range_below (a + suc n)) ≡ sum_by f (range_below (a + n)) + f (a + n) = ap (λ i. sum_by f (range_below i)) e ∙ sum_more f (a + n) in
-    let rest : sum_by (λ s. f (a + s)) (range_below (suc n)) ≡ sum_by (λ s. f (a + s)) (range_below n) + f (a + n) = ap (λ i. sum_by (λ s. f (a + s)) (range_below i)) g ∙ sum_more (λ s. f (a + s)) n in
+    let whole : sum_by f (range_below (a + suc n)) ≡ sum_by f (range_below (a + n)) + f (a + n) = ap (λ i. sum_by f (range_below i)) e
+    ∙ sum_more f (a + n) in
+    let rest : sum_by (λ s. f (a + s)) (range_below (suc n)) ≡ sum_by (λ s. f (a + s)) (range_below n) + f (a + n) =
+    ap (λ i. sum_by (λ s. f (a + s)) (range_below i)) g ∙ sum_more (λ s. f (a + s)) n in
     omega (arith, whole, rest, sum_further f a n)

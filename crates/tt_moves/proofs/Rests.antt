@@ -22,13 +22,15 @@ module _ (r : WithoutEntry) (u : List Cell) (ok : IsRest r u) where
   own = eq-eqb r.gone.course r.gone.course refl
 
   -- the entries of the course of the entry left out
-  own_count : (test : Cell → Bool) → count_by (λ e. is_of r.gone.course e && test e) u + one_if (test r.gone) ≡ count_by (λ e. is_of r.gone.course e && test e) entries
+  own_count : (test : Cell → Bool) → count_by (λ e. is_of r.gone.course e && test e) u + one_if (test r.gone) ≡ count_by
+      (λ e. is_of r.gone.course e && test e) entries
   own_count test =
       let moved = ap one_if (ok.own test) in
       let gone = ap (λ b. one_if (b && test r.gone)) own in
       omega (arith, ok.counts (λ e. is_of r.gone.course e && test e), moved, gone)
 
-  own_any : (test : Cell → Bool) → list_any (λ e. is_of r.gone.course e && test e) (r.gone ∷ u) ≡ list_any (λ e. is_of r.gone.course e && test e) entries
+  own_any : (test : Cell → Bool) → list_any (λ e. is_of r.gone.course e && test e) (r.gone ∷ u) ≡ list_any
+      (λ e. is_of r.gone.course e && test e) entries
   own_any test =
       let q = λ (e : Cell). is_of r.gone.course e && test e in
       let gone = ap (λ b. one_if (b && test r.gone)) own in
@@ -36,7 +38,9 @@ module _ (r : WithoutEntry) (u : List Cell) (ok : IsRest r u) where
       sym (any_counted q (r.gone ∷ u)) ∙ ap (nat_lt 0) same ∙ any_counted q entries
 
   -- whether another entry of the course shares the period
-  pub repeats_is : (x : Cell) (count one : ℕ) → x.course ≡ r.gone.course → count ≡ count_by (λ e. is_of x.course e && is_at (slot_of x) e) entries → one ≡ one_if (is_at (slot_of x) r.gone) → nat_lt one count ≡ repeats u x
+  pub repeats_is : (x : Cell) (count one : ℕ) → x.course ≡ r.gone.course
+      → count ≡ count_by (λ e. is_of x.course e && is_at (slot_of x) e) entries → one ≡ one_if (is_at (slot_of x) r.gone)
+      → nat_lt one count ≡ repeats u x
   repeats_is x count one course h k =
       let at = λ (e : Cell). is_at (slot_of x) e in
       let q = λ (e : Cell). is_of x.course e && at e in
@@ -61,22 +65,26 @@ module _ (r : WithoutEntry) (u : List Cell) (ok : IsRest r u) where
 
     used_same : used (r.gone ∷ u) r.gone.course ≡ used entries r.gone.course
     used_same =
-        sum_by-same (λ k. one_if (list_any (λ e. is_of r.gone.course e && (place e == k)) (r.gone ∷ u))) (λ k. one_if (list_any (λ e. is_of r.gone.course e && (place e == k)) entries)) (range_below n)
+        sum_by-same (λ k. one_if (list_any (λ e. is_of r.gone.course e && (place e == k)) (r.gone ∷ u)))
+        (λ k. one_if (list_any (λ e. is_of r.gone.course e && (place e == k)) entries)) (range_below n)
         (λ k. ap one_if (own_any (λ e. place e == k)))
 
     -- the number of places with another entry e of the course
-    used_by : (e : Cell) → e.course ≡ r.gone.course → place e < n → used (e ∷ u) r.gone.course ≡ used u r.gone.course + one_if (taken_in u r.gone.course (place e) == 0)
+    used_by : (e : Cell) → e.course ≡ r.gone.course → place e < n → used (e ∷ u) r.gone.course ≡ used u r.gone.course + one_if
+        (taken_in u r.gone.course (place e) == 0)
     used_by e course h =
         used_more n place u e h r.gone.course
         ∙ ap (λ k. used u r.gone.course + one_if ((k == r.gone.course) && (taken_in u k (place e) == 0))) course
         ∙ ap (λ b. used u r.gone.course + one_if (b && (taken_in u r.gone.course (place e) == 0))) own
 
-    left : place r.gone < n → used u r.gone.course + one_if (taken_in entries r.gone.course (place r.gone) == 1) ≡ used entries r.gone.course
+    left : place r.gone < n → used u r.gone.course + one_if (taken_in entries r.gone.course (place r.gone) == 1)
+        ≡ used entries r.gone.course
     left h =
         let itself = ap one_if (eq-eqb (place r.gone) (place r.gone) refl) in
         let c = own_count (λ e. place e == place r.gone) in
         let one : taken_in entries r.gone.course (place r.gone) ≡ taken_in u r.gone.course (place r.gone) + 1 = omega (arith, c, itself) in
-        let test = ap one_if (same_test (taken_in entries r.gone.course (place r.gone)) 1 (taken_in u r.gone.course (place r.gone)) 0 (λ e. omega arith) (λ e. omega arith)) in
+        let test = ap one_if (same_test (taken_in entries r.gone.course (place r.gone)) 1 (taken_in u r.gone.course (place r.gone)) 0
+        (λ e. omega arith) (λ e. omega arith)) in
         omega (arith, used_same, used_by r.gone refl h, test)
 
     module _ (x : Cell) (course : x.course ≡ r.gone.course) (here : place r.gone < n) (there : place x < n) where
@@ -91,12 +99,14 @@ module _ (r : WithoutEntry) (u : List Cell) (ok : IsRest r u) where
           let a = ap (λ c. taken_in entries c (place x)) course in
           omega (arith, own_count (λ e. place e == place x))
 
-      pub used_anew_is : used (x ∷ u) x.course ≡ (used entries x.course - one_if (taken_in entries x.course (place r.gone) == 1)) + one_if ((taken_in entries x.course (place x) - one_if (place r.gone == place x)) == 0)
+      pub used_anew_is : used (x ∷ u) x.course ≡ (used entries x.course - one_if (taken_in entries x.course (place r.gone) == 1))
+          + one_if ((taken_in entries x.course (place x) - one_if (place r.gone == place x)) == 0)
       used_anew_is =
           let a = ap (λ c. one_if (taken_in entries c (place r.gone) == 1)) course in
           let b = ap (used entries) course in
           let d = ap (used (x ∷ u)) course in
           let e = ap (λ c. taken_in entries c (place x)) course in
-          let f : taken_in u r.gone.course (place x) ≡ taken_in entries x.course (place x) - one_if (place r.gone == place x) = omega (arith, own_count (λ e. place e == place x)) in
+          let f : taken_in u r.gone.course (place x) ≡ taken_in entries x.course (place x) - one_if (place r.gone == place x) =
+          omega (arith, own_count (λ e. place e == place x)) in
           let g = ap (λ v. one_if (v == 0)) f in
           omega (arith, left here, used_by x course there)

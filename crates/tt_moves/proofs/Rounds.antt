@@ -30,14 +30,16 @@ three_anew false true g w n same = refl
 three_anew false false g w n same = one_anew g w n (same refl refl)
 
 -- the period of an entry on the day, counted again
-pub put_anew : (n : ℕ → ℕ) (w : Bool) (day d period s : ℕ) → day ≡ d → cond (s == period) (nat_lt 0 (n period)) w ≡ cond ((day == d) && (period == s)) (nat_lt 0 (n s)) w
+pub put_anew : (n : ℕ → ℕ) (w : Bool) (day d period s : ℕ) → day ≡ d → cond (s == period) (nat_lt 0 (n period)) w ≡ cond
+    ((day == d) && (period == s)) (nat_lt 0 (n s)) w
 put_anew n w day d period s on = elim (cases_eq period s) [
   | inl e ↦
       ap (λ b. cond b (nat_lt 0 (n period)) w) (eq-eqb s period (sym e)) ∙ ap (λ k. nat_lt 0 (n k)) e
       ∙ sym (ap (λ b. cond b (nat_lt 0 (n s)) w) (and_from (day == d) (period == s) (eq-eqb day d on) (eq-eqb period s e)))
   | inr e ↦
       ap (λ b. cond b (nat_lt 0 (n period)) w) (ne_eqb s period (λ z. e (sym z)))
-      ∙ sym (ap (λ b. cond (b && (period == s)) (nat_lt 0 (n s)) w) (eq-eqb day d on) ∙ ap (λ b. cond b (nat_lt 0 (n s)) w) (ne_eqb period s e))
+      ∙ sym (ap (λ b. cond (b && (period == s)) (nat_lt 0 (n s)) w) (eq-eqb day d on) ∙ ap (λ b. cond b (nat_lt 0 (n s)) w)
+      (ne_eqb period s e))
 ]
 
 -- a number counts the same under a test that passes only if the number is above 0
@@ -74,7 +76,8 @@ module _ (p : Problem) (u : List Cell) (q d : ℕ) (ok : IsTimetable p u) (short
     pub isolated_stand : (s : ℕ) → s < 64 → (b s && not (has_next b s)) ≡ (nat_lt 0 (entries_at p u q d s) && not (has_neighbour p u q d s))
     isolated_stand s h = ap (λ t. t && not (has_next b s)) (is s h) ∙ ap (λ t. nat_lt 0 (entries_at p u q d s) && not t) (beside_stands s h)
 
-  module _ (b : ℕ → Bool) (is : (s : ℕ) → s < 64 → b s ≡ (nat_lt 0 (entries_at p u q d s) && not (has_neighbour p u q d s))) (s : ℕ) (low : s < p.periods) where
+  module _ (b : ℕ → Bool) (is : (s : ℕ) → s < 64 → b s ≡ (nat_lt 0 (entries_at p u q d s) && not (has_neighbour p u q d s))) (s : ℕ)
+      (low : s < p.periods) where
     pub before_joined : cond (nat_lt 0 s && b (s - 1)) (entries_at p u q d (s - 1)) 0 ≡ joined_before p u q d s
     before_joined =
         ap (λ t. cond (nat_lt 0 s && t) (entries_at p u q d (s - 1)) 0) (is (s - 1) (omega arith))
@@ -86,14 +89,16 @@ module _ (p : Problem) (u : List Cell) (q d : ℕ) (ok : IsTimetable p u) (short
           ap (λ t. cond (t && b (s + 1)) (entries_at p u q d (s + 1)) 0) (lt-ltb (s + 1) 64 h)
           ∙ ap (λ t. cond t (entries_at p u q d (s + 1)) 0) (is (s + 1) h)
           ∙ some_only true (has_neighbour p u q d (s + 1)) (entries_at p u q d (s + 1))
-      | inr h ↦ nothing (nat_lt (s + 1) 64 && b (s + 1)) (not (has_neighbour p u q d (s + 1))) (entries_at p u q d (s + 1)) (sym (none_taken p u q d (s + 1) ok (omega arith)))
+      | inr h ↦ nothing (nat_lt (s + 1) 64 && b (s + 1)) (not (has_neighbour p u q d (s + 1))) (entries_at p u q d (s + 1))
+          (sym (none_taken p u q d (s + 1) ok (omega arith)))
     ]
 
 -- -- the moved entry
 
 module _ (r : WithoutEntry) (q d : ℕ) (gone : in_curriculum r.occupied.now.problem q r.gone.course ≡ true) where
   -- the moved entry makes no difference, or is counted if its course belongs to the curriculum
-  pub other_counts : (is_still other : Bool) → r.from.course ≡ r.to.course → (is_still ≡ true → IsStill r d) → other ≡ (not is_still && in_curriculum r.occupied.now.problem q r.from.course) → OtherIsHandled r q d other
+  pub other_counts : (is_still other : Bool) → r.from.course ≡ r.to.course → (is_still ≡ true → IsStill r d)
+      → other ≡ (not is_still && in_curriculum r.occupied.now.problem q r.from.course) → OtherIsHandled r q d other
   other_counts true other course still e = λ s.
       let same = ap one_if (still refl q s gone) in
       let to = ap (λ b. one_if (b && is_at (slot d s) r.to)) e in
@@ -107,14 +112,17 @@ module _ (r : WithoutEntry) (q d : ℕ) (gone : in_curriculum r.occupied.now.pro
 
   module _ (other : Bool) (counts : OtherIsHandled r q d other) (u : List Cell) (rest : IsRest r u) (s : ℕ) where
     -- the count over the rest, from the count over the timetable
-    pub standing_adjusted : entries_at r.occupied.now.problem u q d s + one_if (other && is_at (slot d s) r.from) + one_if (is_at (slot d s) r.gone) ≡ entries_at r.occupied.now.problem r.occupied.now.entries q d s + one_if (other && is_at (slot d s) r.to)
+    pub standing_adjusted : entries_at r.occupied.now.problem u q d s + one_if (other && is_at (slot d s) r.from) + one_if
+        (is_at (slot d s) r.gone) ≡ entries_at r.occupied.now.problem r.occupied.now.entries q d s + one_if (other && is_at (slot d s) r.to)
     standing_adjusted =
         let test = λ (e : Cell). in_curriculum r.occupied.now.problem q e.course && is_at (slot d s) e in
         let one = ap (λ b. one_if (b && is_at (slot d s) r.gone)) gone in
         omega (arith, rest.counts test, counts s, one)
 
     -- if none of the three entries counts, the two counts agree
-    pub standing_same : (other && is_at (slot d s) r.to) ≡ false → (other && is_at (slot d s) r.from) ≡ false → is_at (slot d s) r.gone ≡ false → nat_lt 0 (entries_at r.occupied.now.problem r.occupied.now.entries q d s) ≡ nat_lt 0 (entries_at r.occupied.now.problem u q d s)
+    pub standing_same : (other && is_at (slot d s) r.to) ≡ false → (other && is_at (slot d s) r.from) ≡ false
+        → is_at (slot d s) r.gone ≡ false → nat_lt 0 (entries_at r.occupied.now.problem r.occupied.now.entries q d s) ≡ nat_lt 0
+        (entries_at r.occupied.now.problem u q d s)
     standing_same to from away =
         let a = ap one_if to in
         let b = ap one_if from in

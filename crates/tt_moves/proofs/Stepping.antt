@@ -30,7 +30,8 @@ All-remove P xs i h all k d l =
     ]
 
 -- counts over a list in which `from` is replaced by `to` and `gone` is removed
-rest_count : (q : Cell → Bool) (t : List Cell) (i j : ℕ) (from to gone : Cell) → i < length t → j < length t → from ≡ entry_at t i → gone ≡ entry_at (set t i to) j → count_by q (remove (set t i to) j) + one_if (q from) + one_if (q gone) ≡ count_by q t + one_if (q to)
+rest_count : (q : Cell → Bool) (t : List Cell) (i j : ℕ) (from to gone : Cell) → i < length t → j < length t → from ≡ entry_at t i
+    → gone ≡ entry_at (set t i to) j → count_by q (remove (set t i to) j) + one_if (q from) + one_if (q gone) ≡ count_by q t + one_if (q to)
 rest_count q t i j from to gone h k a b =
     let l = length-set t i to in
     let k2 : j < length (set t i to) = omega arith in
@@ -46,7 +47,8 @@ still : (t : List Cell) (i j : ℕ) (z : Cell) → (entry_at t i).course ≢ (en
 still t i j z apart = sym (get_or-set_other t i j z no_entry (λ e. apart (ap (λ n. (entry_at t n).course) (sym e))))
 
 -- two entries of one course only change their places in the list
-pub swapped_same : (t : List Cell) (i j : ℕ) → i < length t → j < length t → (entry_at t i).course ≡ (entry_at t j).course → SameBag (stepped t (Swap i j)) t
+pub swapped_same : (t : List Cell) (i j : ℕ) → i < length t → j < length t → (entry_at t i).course ≡ (entry_at t j).course
+    → SameBag (stepped t (Swap i j)) t
 swapped_same t i j h k course f =
     let x = entry_at t i in
     let y = entry_at t j in
@@ -70,7 +72,8 @@ module _ (o : Bor Filled) where
   t = o.now.entries
 
   -- an entry is replaced by another one
-  pub exchanged : (i : ℕ) (to : Cell) → i < length t → IsRest (rest_without o i) (remove t i) → InRange p to → to.course ≡ (entry_at t i).course → IsExchange p (record { rest = rest_without o i; to = to }) (remove t i) t (set t i to)
+  pub exchanged : (i : ℕ) (to : Cell) → i < length t → IsRest (rest_without o i) (remove t i) → InRange p to
+      → to.course ≡ (entry_at t i).course → IsExchange p (record { rest = rest_without o i; to = to }) (remove t i) t (set t i to)
   exchanged i to h rest in_range course = record {
     problem = refl;
     rest = rest;
@@ -81,12 +84,17 @@ module _ (o : Bor Filled) where
   }
 
   -- a move by one exchange
-  pub moved_by_one : (i r d s : ℕ) (rest : WithoutEntry) → rest ≡ rest_without o i → IsRest rest (remove t i) → i < length t → r < length p.rooms → d < p.days → s < p.periods → IsFirst o.now (Move i r d s) (record { rest = rest; to = record { course = rest.gone.course; room = r; day = d; period = s } }) (stepped t (Move i r d s))
+  pub moved_by_one : (i r d s : ℕ) (rest : WithoutEntry) → rest ≡ rest_without o i → IsRest rest (remove t i) → i < length t
+      → r < length p.rooms → d < p.days → s < p.periods
+      → IsFirst o.now (Move i r d s) (record { rest = rest; to = record { course = rest.gone.course; room = r; day = d; period = s } })
+      (stepped t (Move i r d s))
   moved_by_one i r d s rest is ok h room day period =
       let whole = subst (λ z. IsRest z (remove t i)) is ok in
       let at = whole.gone in
       let to : Cell = record { course = (entry_at t i).course; room = r; day = d; period = s } in
-      subst (λ z. IsFirst o.now (Move i r d s) (record { rest = z; to = record { course = z.gone.course; room = r; day = d; period = s } }) (stepped t (Move i r d s))) (sym is) (record {
+      subst (λ z. IsFirst o.now (Move i r d s)
+      (record { rest = z; to = record { course = z.gone.course; room = r; day = d; period = s } }) (stepped t (Move i r d s)))
+      (sym is) (record {
         gone = refl;
         exchange = exchanged i to h whole (record { course = at.course; room = room; day = day; period = period }) refl;
       })
@@ -149,7 +157,8 @@ module _ (o : Bor Filled) where
         exchange = exchanged i there h (without_one i h) there_in_range refl;
       }
 
-      pub then_here : IsExchange p (record { rest = rest_other; to = here }) (remove (set t i there) j) (set t i there) (stepped t (Swap i j))
+      pub then_here : IsExchange p (record { rest = rest_other; to = here }) (remove (set t i there) j) (set t i there)
+          (stepped t (Swap i j))
       then_here = record {
         problem = refl;
         rest = without_other;
@@ -160,5 +169,6 @@ module _ (o : Bor Filled) where
       }
 
       -- the first entry moves to the second's place, then the second to the first's place
-      pub swapped_by_two : Lead o.now (Swap i j) (Two (record { rest = rest_without o i; to = there }) (record { rest = rest_other; to = here }))
+      pub swapped_by_two : Lead o.now (Swap i j)
+          (Two (record { rest = rest_without o i; to = there }) (record { rest = rest_other; to = here }))
       swapped_by_two = (remove (set t i there) j, set t i there, there_first, then_here)

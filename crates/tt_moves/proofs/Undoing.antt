@@ -8,7 +8,8 @@ use Rattle.tt_moves.specs.Steps.{no_entry, entry_at, in_place_of, stepped, CanSt
 use Rattle.tt_moves.specs.declared.step.Step.{Step}
 use Rattle.tt_moves.specs.declared.step.Step.TheVariants.{Move, Swap}
 
-moved_back : (t : List Cell) (i r d s : ℕ) (x : Cell) → i < length t → x ≡ entry_at t i → stepped (stepped t (Move i r d s)) (Move i x.room x.day x.period) ≡ t
+moved_back : (t : List Cell) (i r d s : ℕ) (x : Cell) → i < length t → x ≡ entry_at t i → stepped (stepped t (Move i r d s))
+    (Move i x.room x.day x.period) ≡ t
 moved_back t i r d s x h is =
     let y : Cell = record { course = (entry_at t i).course; room = r; day = d; period = s } in
     ap (λ z. set (set t i y) i (in_place_of z x)) (get_or-set_same t i y no_entry h)
@@ -19,7 +20,8 @@ moved_back t i r d s x h is =
 -- the entries at two places, set again to their old values
 set_again : (t : List Cell) (i j : ℕ) (y z : Cell) → i ≢ j → set (set (set (set t i y) j z) i (entry_at t i)) j (entry_at t j) ≡ t
 set_again t i j y z apart =
-    ap (λ l. set l j (entry_at t j)) (set_comm (set t i y) j i z (entry_at t i) (λ e. apart (sym e)) ∙ ap (λ l. set l j z) (set-set t i y (entry_at t i) ∙ set-get_or t i no_entry))
+    ap (λ l. set l j (entry_at t j)) (set_comm (set t i y) j i z (entry_at t i) (λ e. apart (sym e))
+    ∙ ap (λ l. set l j z) (set-set t i y (entry_at t i) ∙ set-get_or t i no_entry))
     ∙ set-set t j z (entry_at t j) ∙ set-get_or t j no_entry
 
 pub with_itself : (t : List Cell) (i : ℕ) → stepped t (Swap i i) ≡ t
@@ -41,7 +43,8 @@ swapped_back t i j h k = elim (cases_eq i j) [
 ]
 
 module _ (p : Problem) (t : List Cell) (step : Step) (can : CanStep p t step) where
-  pub move_back : (i r d s : ℕ) (x : Cell) → step ≡ Move i r d s → x ≡ entry_at t i → stepped (stepped t step) (Move i x.room x.day x.period) ≡ t
+  pub move_back : (i r d s : ℕ) (x : Cell) → step ≡ Move i r d s → x ≡ entry_at t i
+      → stepped (stepped t step) (Move i x.room x.day x.period) ≡ t
   move_back i r d s x e is =
       let able = subst (CanStep p t) e can in
       ap (λ z. stepped (stepped t z) (Move i x.room x.day x.period)) e ∙ moved_back t i r d s x able.0 is

@@ -37,7 +37,8 @@ module _ (p : Problem) (t : List Cell) (a b : Slot) (members : List ℕ) where
     pub inside_from : All (λ i. i < length t) members
     inside_from k d h = subst (λ i. i < length t) (get_or_default members k 0 d h) (each k h).inside
 
-  pub each_from : All (λ i. i < length t) members → IsClosed p t a b (has_number members) → IsOpen p t a b (has_number members) → EachMayTurn
+  pub each_from : All (λ i. i < length t) members → IsClosed p t a b (has_number members) → IsOpen p t a b (has_number members)
+      → EachMayTurn
   each_from inside closed free k h =
       let i = get_or members k 0 in
       let l = inside k 0 h in

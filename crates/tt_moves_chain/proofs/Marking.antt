@@ -17,8 +17,19 @@ marked-below fs i e = elim (cases_lt i (length fs)) [
 -- One place more is marked.
 pub marks-set : (fs : List Bool) (i : ℕ) → i < length fs → marked fs i ≡ false → marks (slice_set fs i true) ≡ marks fs + 1
 marks-set [] i h e = absurd (omega arith)
-marks-set (f ∷ fs) zero h e = omega (arith, count_by-cons (λ b. b) true fs, count_by-cons (λ b. b) f fs, one_if_true true refl, one_if_false f e)
-marks-set (f ∷ fs) (suc i) h e = omega (arith, count_by-cons (λ b. b) f (slice_set fs i true), count_by-cons (λ b. b) f fs, marks-set fs i (le_of_suc-le-suc h) e)
+marks-set (f ∷ fs) zero h e = omega (
+  arith,
+  count_by-cons (λ b. b) true fs,
+  count_by-cons (λ b. b) f fs,
+  one_if_true true refl,
+  one_if_false f e,
+)
+marks-set (f ∷ fs) (suc i) h e = omega (
+  arith,
+  count_by-cons (λ b. b) f (slice_set fs i true),
+  count_by-cons (λ b. b) f fs,
+  marks-set fs i (le_of_suc-le-suc h) e,
+)
 
 module _ (fs : List Bool) (ws : List ℕ) (i : ℕ) (h : i < length fs) where
   same_or_other : (j : ℕ) → (j ≡ i) ⊎ (marked (slice_set fs i true) j ≡ marked fs j)

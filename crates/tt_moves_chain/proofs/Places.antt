@@ -32,7 +32,8 @@ module _ (fs : List Bool) where
   has_places i =
       any-filter_same (λ m. m == i) (marked fs) (marked fs i) (λ k e. ap (marked fs) (eqb-true k i e)) (range_below (length fs))
       ∙ elim (cases_Bool (marked fs i)) as (λ _. (marked fs i && has_number (range_below (length fs)) i) ≡ marked fs i) [
-        | inl e ↦ and_from (marked fs i) (has_number (range_below (length fs)) i) e (any_below (λ m. m == i) (length fs) i (marked_below e) (eq-eqb i i refl)) ∙ sym e
+        | inl e ↦ and_from (marked fs i) (has_number (range_below (length fs)) i) e
+            (any_below (λ m. m == i) (length fs) i (marked_below e) (eq-eqb i i refl)) ∙ sym e
         | inr e ↦ and_left (marked fs i) (has_number (range_below (length fs)) i) e ∙ sym e
       ]
     where
@@ -60,7 +61,8 @@ module _ (fs : List Bool) where
 
 -- ---- the chain of marks
 
-module _ (p : Problem) (t : List Cell) (a b : Slot) (entry : ℕ) (inside : entry < length t) (stands : is_at a (entry_at t entry) ≡ true) (fs : List Bool) (spread : IsSpread p t a b entry fs) where
+module _ (p : Problem) (t : List Cell) (a b : Slot) (entry : ℕ) (inside : entry < length t) (stands : is_at a (entry_at t entry) ≡ true)
+    (fs : List Bool) (spread : IsSpread p t a b entry fs) where
   abbrev stands_in : ℕ → Bool
   stands_in k = is_at a (entry_at t k) || is_at b (entry_at t k)
 
@@ -70,7 +72,8 @@ module _ (p : Problem) (t : List Cell) (a b : Slot) (entry : ℕ) (inside : entr
   either_closed : IsClosed p t a b in_either
   either_closed = record {
     within = λ i d h e.
-        subst (λ z. (is_at a z || is_at b z) ≡ true) (get_or_default t i no_entry d h) ((and_parts (nat_lt i (length t)) (stands_in i) e).1);
+        subst (λ z. (is_at a z || is_at b z) ≡ true) (get_or_default t i no_entry d h)
+        ((and_parts (nat_lt i (length t)) (stands_in i) e).1);
     links = λ i j d h k e l.
         let x = get_or t i d in
         let y = get_or t j d in
@@ -79,18 +82,23 @@ module _ (p : Problem) (t : List Cell) (a b : Slot) (entry : ℕ) (inside : entr
           | inl m ↦ or_right (is_at a y) (is_at b y) ((and_parts (is_at a x) (is_at b y) m).1)
           | inr m ↦ or_left (is_at a y) (is_at b y) ((and_parts (is_at b x) (is_at a y) m).1)
         ] in
-        and_from (nat_lt j (length t)) (stands_in j) (lt-ltb j (length t) k) (subst (λ z. (is_at a z || is_at b z) ≡ true) (get_or_default t j d no_entry k) one);
+        and_from (nat_lt j (length t)) (stands_in j) (lt-ltb j (length t) k)
+        (subst (λ z. (is_at a z || is_at b z) ≡ true) (get_or_default t j d no_entry k) one);
   }
 
   pub chain_is : IsChain p t a b entry (places fs)
   chain_is = record {
     closed = record {
       within = λ i d h e.
-          either_closed.within i d h (spread.least in_either either_closed (and_from (nat_lt entry (length t)) (stands_in entry) (lt-ltb entry (length t) inside) (or_left (is_at a (entry_at t entry)) (is_at b (entry_at t entry)) stands)) i (sym (has_places fs i) ∙ e));
+          either_closed.within i d h
+          (spread.least in_either either_closed
+          (and_from (nat_lt entry (length t)) (stands_in entry) (lt-ltb entry (length t) inside)
+          (or_left (is_at a (entry_at t entry)) (is_at b (entry_at t entry)) stands)) i (sym (has_places fs i) ∙ e));
       links = λ i j d h k e l. has_places fs j ∙ spread.closed i j d h k (sym (has_places fs i) ∙ e) l;
     };
     starts = has_places fs entry ∙ spread.starts;
-    least = λ m closed starts i member. spread.least m closed starts i (sym (has_places fs i) ∙ any_member (λ k. k == i) (places fs) i member (eq-eqb i i refl));
+    least = λ m closed starts i member. spread.least m closed starts i
+        (sym (has_places fs i) ∙ any_member (λ k. k == i) (places fs) i member (eq-eqb i i refl));
   }
 
 -- ---- the first member that can't move
@@ -102,7 +110,8 @@ member_at members i member =
     (w.1.0, w.1.1, get_or_default members w.1.0 0 w.0 w.1.1 ∙ w.1.2 ∙ eqb-true w.0 i w.2)
 
 module _ (p : Problem) (t : List Cell) (a b : Slot) (members : List ℕ) where
-  pub first_shut : IsStrictlyIncreasing members → (n i : ℕ) → n < length members → get_or members n 0 ≡ i → is_shut p t a b i ≡ true → ((k : ℕ) → k < n → is_shut p t a b (get_or members k 0) ≡ false) → IsFirstShut p t a b members i
+  pub first_shut : IsStrictlyIncreasing members → (n i : ℕ) → n < length members → get_or members n 0 ≡ i → is_shut p t a b i ≡ true
+      → ((k : ℕ) → k < n → is_shut p t a b (get_or members k 0) ≡ false) → IsFirstShut p t a b members i
   first_shut rising n i h e shut before = record {
     member = list_any_at (λ m. m == i) members n 0 h (eq-eqb (get_or members n 0) i e);
     shut = shut;
@@ -117,7 +126,9 @@ module _ (p : Problem) (t : List Cell) (a b : Slot) (members : List ℕ) where
         ];
   }
 
-  pub open_is : All (λ i. i < length t) members → ((k : ℕ) → k < length members → is_shut p t a b (get_or members k 0) ≡ false) → IsOpen p t a b (has_number members)
+  pub open_is : All (λ i. i < length t) members → ((k : ℕ) → k < length members → is_shut p t a b (get_or members k 0) ≡ false)
+      → IsOpen p t a b (has_number members)
   open_is inside none = λ i d h member.
       let w = member_at members i member in
-      subst (λ z. unavailable p z.course (other a b z).day (other a b z).period ≡ false) (get_or_default t i no_entry d h) (ap (is_shut p t a b) (sym w.2) ∙ none w.0 w.1)
+      subst (λ z. unavailable p z.course (other a b z).day (other a b z).period ≡ false) (get_or_default t i no_entry d h)
+      (ap (is_shut p t a b) (sym w.2) ∙ none w.0 w.1)

@@ -32,7 +32,8 @@ module _ (a b : Slot) where
       get_or-swapped a b m 0 t i no_entry h ∙ ap (λ n. moved a b (m n) (entry_at t i)) z
 
   -- another member
-  swapped_with : (m n : ℕ → Bool) (t : List Cell) (i : ℕ) → i < length t → ((j : ℕ) → n j ≡ (m j || (i == j))) → set (swapped a b m t) i (turned a b (entry_at t i)) ≡ swapped a b n t
+  swapped_with : (m n : ℕ → Bool) (t : List Cell) (i : ℕ) → i < length t → ((j : ℕ) → n j ≡ (m j || (i == j)))
+      → set (swapped a b m t) i (turned a b (entry_at t i)) ≡ swapped a b n t
   swapped_with m n t i h more =
       let s = swapped a b m t in
       let y = turned a b (entry_at t i) in
@@ -56,7 +57,8 @@ module _ (a b : Slot) where
       or_false true = refl
       or_false false = refl
 
-  module _ (p : Problem) (t : List Cell) (members : List ℕ) (rising : IsStrictlyIncreasing members) (k : ℕ) (h : k < length members) (o : Filled) (o_is : o ≡ filled p (swapped a b (has_number (take k members)) t)) where
+  module _ (p : Problem) (t : List Cell) (members : List ℕ) (rising : IsStrictlyIncreasing members) (k : ℕ) (h : k < length members)
+      (o : Filled) (o_is : o ≡ filled p (swapped a b (has_number (take k members)) t)) where
     abbrev member : ℕ
     member = get_or members k 0
 
@@ -76,12 +78,19 @@ module _ (a b : Slot) where
     pub still_inside : member < length t → member < length o.entries
     still_inside l = let n = ap (λ z. length z.entries) o_is in let s = length-swapped a b (has_number (take k members)) 0 t in omega arith
 
-    pub swapped_next : member < length t → (x : Cell) → x ≡ entry_at o.entries member → (place : Slot) → place ≡ other a b x → filled o.problem (set o.entries member (record { course = (entry_at o.entries member).course; room = x.room; day = place.day; period = place.period })) ≡ filled p (swapped a b (has_number (take (k + 1) members)) t)
+    pub swapped_next : member < length t → (x : Cell) → x ≡ entry_at o.entries member → (place : Slot) → place ≡ other a b x
+        → filled o.problem
+        (set o.entries member
+        (record { course = (entry_at o.entries member).course; room = x.room; day = place.day; period = place.period })) ≡ filled p
+        (swapped a b (has_number (take (k + 1) members)) t)
     swapped_next l x x_is place place_is =
         let m = has_number (take k members) in
-        let was : x ≡ entry_at t member = x_is ∙ ap (λ z. entry_at z.entries member) o_is ∙ at_swapped m t member l ∙ ap (λ z. moved a b z (entry_at t member)) new_member in
-        ap (λ (y : Cell). filled o.problem (set o.entries member (record { course = y.course; room = x.room; day = place.day; period = place.period }))) (sym x_is)
-        ∙ ap (λ (s : Slot). filled o.problem (set o.entries member (record { course = x.course; room = x.room; day = s.day; period = s.period }))) place_is
+        let was : x ≡ entry_at t member = x_is ∙ ap (λ z. entry_at z.entries member) o_is ∙ at_swapped m t member l
+        ∙ ap (λ z. moved a b z (entry_at t member)) new_member in
+        ap (λ (y : Cell). filled o.problem
+        (set o.entries member (record { course = y.course; room = x.room; day = place.day; period = place.period }))) (sym x_is)
+        ∙ ap (λ (s : Slot). filled o.problem
+        (set o.entries member (record { course = x.course; room = x.room; day = s.day; period = s.period }))) place_is
         ∙ ap (λ y. filled o.problem (set o.entries member (turned a b y))) was
         ∙ ap (λ (z : Filled). filled z.problem (set z.entries member (turned a b (entry_at t member)))) o_is
         ∙ ap (filled p) (swapped_with m (has_number (take (k + 1) members)) t member l (λ j. list_any_more (λ n. n == j) members k 0 h))

@@ -36,7 +36,8 @@ scan_none seen o left sees = record {
 }
 
 -- the case that a step that lowers the pair is made
-pub scan_step : (seen : Filled → Type 0) (o next : Filled) (s : Step) (before after : ℕ) → CanStep o.problem o.entries s → Lowers o s → next ≡ record { problem = o.problem; entries = stepped o.entries s } → after + 1 ≡ before → IsScan seen o next before after
+pub scan_step : (seen : Filled → Type 0) (o next : Filled) (s : Step) (before after : ℕ) → CanStep o.problem o.entries s → Lowers o s
+    → next ≡ record { problem = o.problem; entries = stepped o.entries s } → after + 1 ≡ before → IsScan seen o next before after
 scan_step seen o next s before after can low is one_less =
     subst (λ z. IsScan seen o z before after) (sym is) (record {
       problem = refl;
@@ -104,7 +105,8 @@ module _ (B : ℕ → Filled → Type 0) where
   pub scan_begin : (o : Filled) (left : ℕ) → IsScan (λ z. (n : ℕ) → n < 0 → B n z) o o left left
   scan_begin o left = scan_none (λ z. (n : ℕ) → n < 0 → B n z) o left (λ n below. absurd (omega arith))
 
-  pub scan_next : (x y z : Filled) (i k l m : ℕ) → IsScan (λ o. (n : ℕ) → n < i → B n o) x y k l → IsScan (B i) y z l m → IsScan (λ o. (n : ℕ) → n < i + 1 → B n o) x z k m
+  pub scan_next : (x y z : Filled) (i k l m : ℕ) → IsScan (λ o. (n : ℕ) → n < i → B n o) x y k l → IsScan (B i) y z l m
+      → IsScan (λ o. (n : ℕ) → n < i + 1 → B n o) x z k m
   scan_next x y z i k l m first second =
       scan_then (λ o. (n : ℕ) → n < i → B n o) x y k l first (B i) (λ o. (n : ℕ) → n < i + 1 → B n o) z m second
       (λ below at. below_more (λ n. B n x) i below at)
@@ -112,7 +114,8 @@ module _ (B : ℕ → Filled → Type 0) where
 -- ---- the end of a descent
 
 -- the case that no step lowers the pair
-pub descent_settled : (A : Filled → Type 0) (x y z : Filled) (k l m : ℕ) → IsScan A x y k l → IsScan (λ o. NoMove o × NoSwap o) y z l m → m ≡ l → IsDescent x.problem x.entries k z.entries true
+pub descent_settled : (A : Filled → Type 0) (x y z : Filled) (k l m : ℕ) → IsScan A x y k l → IsScan (λ o. NoMove o × NoSwap o) y z l m
+    → m ≡ l → IsDescent x.problem x.entries k z.entries true
 descent_settled A x y z k l m first last same =
     let none = last.still same in
     let settled_y = settled_where_none y none.1.0 none.1.1 in

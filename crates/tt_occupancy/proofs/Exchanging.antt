@@ -19,7 +19,8 @@ use Rattle.tt_occupancy.specs.Inner.Weights.{IsWeight, IsExchange, IsExchanged}
 use Rattle.tt_occupancy.specs.declared.weight.Weight.{Weight}
 
 -- an entry x that is counted before u, and another entry y of its course
-pub exchange : (p : Problem) (u : List Cell) (x y : Cell) (tables : Tables) (s : Score) (a b : Weight) → IsCounted p (x ∷ u) tables s → InRange p y → x.course ≡ y.course → IsWeight p u x a → IsWeight p u y b → IsExchange p u x y s a b
+pub exchange : (p : Problem) (u : List Cell) (x y : Cell) (tables : Tables) (s : Score) (a b : Weight) → IsCounted p (x ∷ u) tables s
+    → InRange p y → x.course ≡ y.course → IsWeight p u x a → IsWeight p u y b → IsExchange p u x y s a b
 exchange p u x y tables s a b ok in_range course from_weight to_weight =
     let at_most = ok.at_most in
     record {
@@ -42,7 +43,13 @@ module _ (p : Problem) (u : List Cell) (x y : Cell) (s : Score) (a b : Weight) (
 
   pub lectures_kept : IsExchanged (lectures_count p (y ∷ u)) s.lectures a.repeats b.repeats
   lectures_kept = record {
-    sum = omega (arith, h.score.lectures, h.from_weight.repeats, h.to_weight.repeats, lectures_exchanged p u x y h.from_in_range h.to_in_range h.course);
+    sum = omega (
+      arith,
+      h.score.lectures,
+      h.from_weight.repeats,
+      h.to_weight.repeats,
+      lectures_exchanged p u x y h.from_in_range h.to_in_range h.course,
+    );
     at_most = lectures_few p h.instance (y ∷ u) to_few;
     total_few = omega (arith, h.score.lectures, lectures_few p h.instance (x ∷ u) from_few);
     to_few = omega (arith, h.to_weight.repeats, one_if-le (repeats u y));
@@ -50,7 +57,14 @@ module _ (p : Problem) (u : List Cell) (x y : Cell) (s : Score) (a b : Weight) (
 
   pub conflicts_kept : IsExchanged (conflicts_count p (y ∷ u)) s.conflicts a.against b.against
   conflicts_kept = record {
-    sum = omega (arith, h.score.conflicts, h.from_weight.against, h.to_weight.against, conflicts_added p u x h.from_in_range, conflicts_added p u y h.to_in_range);
+    sum = omega (
+      arith,
+      h.score.conflicts,
+      h.from_weight.against,
+      h.to_weight.against,
+      conflicts_added p u x h.from_in_range,
+      conflicts_added p u y h.to_in_range,
+    );
     at_most = conflicts_few p h.instance (y ∷ u) to_few;
     total_few = omega (arith, h.score.conflicts, conflicts_few p h.instance (x ∷ u) from_few);
     to_few = omega (arith, h.to_weight.against, conflicts_added p u y h.to_in_range, conflicts_few p h.instance (y ∷ u) to_few);
@@ -58,7 +72,14 @@ module _ (p : Problem) (u : List Cell) (x y : Cell) (s : Score) (a b : Weight) (
 
   pub availability_kept : IsExchanged (availability_count p (y ∷ u)) s.availability a.barred b.barred
   availability_kept = record {
-    sum = omega (arith, h.score.availability, h.from_weight.barred, h.to_weight.barred, availability_added p u x h.from_in_range, availability_added p u y h.to_in_range);
+    sum = omega (
+      arith,
+      h.score.availability,
+      h.from_weight.barred,
+      h.to_weight.barred,
+      availability_added p u x h.from_in_range,
+      availability_added p u y h.to_in_range,
+    );
     at_most = availability_few p h.instance (y ∷ u) to_few;
     total_few = omega (arith, h.score.availability, availability_few p h.instance (x ∷ u) from_few);
     to_few = omega (arith, h.to_weight.barred, one_if-le (barred p y));
@@ -66,7 +87,14 @@ module _ (p : Problem) (u : List Cell) (x y : Cell) (s : Score) (a b : Weight) (
 
   pub occupancy_kept : IsExchanged (occupancy_count p (y ∷ u)) s.room_occupancy a.shares b.shares
   occupancy_kept = record {
-    sum = omega (arith, h.score.room_occupancy, h.from_weight.shares, h.to_weight.shares, occupancy_added p u x h.from_in_range, occupancy_added p u y h.to_in_range);
+    sum = omega (
+      arith,
+      h.score.room_occupancy,
+      h.from_weight.shares,
+      h.to_weight.shares,
+      occupancy_added p u x h.from_in_range,
+      occupancy_added p u y h.to_in_range,
+    );
     at_most = occupancy_few p h.instance (y ∷ u) to_few;
     total_few = omega (arith, h.score.room_occupancy, occupancy_few p h.instance (x ∷ u) from_few);
     to_few = omega (arith, h.to_weight.shares, one_if-le (shares u y));
@@ -74,7 +102,14 @@ module _ (p : Problem) (u : List Cell) (x y : Cell) (s : Score) (a b : Weight) (
 
   pub capacity_kept : IsExchanged (capacity_count p (y ∷ u)) s.room_capacity a.excess b.excess
   capacity_kept = record {
-    sum = omega (arith, h.score.room_capacity, h.from_weight.excess, h.to_weight.excess, capacity_added p u x h.from_in_range, capacity_added p u y h.to_in_range);
+    sum = omega (
+      arith,
+      h.score.room_capacity,
+      h.from_weight.excess,
+      h.to_weight.excess,
+      capacity_added p u x h.from_in_range,
+      capacity_added p u y h.to_in_range,
+    );
     at_most = capacity_few p h.instance (y ∷ u) to_few;
     total_few = omega (arith, h.score.room_capacity, capacity_few p h.instance (x ∷ u) from_few);
     to_few = omega (arith, h.to_weight.excess, capacity_added p u y h.to_in_range, capacity_few p h.instance (y ∷ u) to_few);
@@ -82,7 +117,13 @@ module _ (p : Problem) (u : List Cell) (x y : Cell) (s : Score) (a b : Weight) (
 
   pub days_kept : IsExchanged (days_count p (y ∷ u)) s.min_working_days a.days b.days
   days_kept = record {
-    sum = omega (arith, h.score.min_working_days, h.from_weight.days, h.to_weight.days, days_exchanged p u x y h.from_in_range h.to_in_range h.course);
+    sum = omega (
+      arith,
+      h.score.min_working_days,
+      h.from_weight.days,
+      h.to_weight.days,
+      days_exchanged p u x y h.from_in_range h.to_in_range h.course,
+    );
     at_most = days_few p h.instance (y ∷ u) to_few;
     total_few = omega (arith, h.score.min_working_days, days_few p h.instance (x ∷ u) from_few);
     to_few = omega (arith, h.to_weight.days, days_cost_few p h.instance (y ∷ u) to_few y.course);
@@ -90,7 +131,16 @@ module _ (p : Problem) (u : List Cell) (x y : Cell) (s : Score) (a b : Weight) (
 
   pub compactness_kept : IsExchanged (compactness_count p (y ∷ u)) s.compactness (2 * (a.alone + b.joined)) (2 * (b.alone + a.joined))
   compactness_kept = record {
-    sum = omega (arith, h.score.compactness, h.from_weight.alone, h.from_weight.joined, h.to_weight.alone, h.to_weight.joined, compactness_added p u x, compactness_added p u y);
+    sum = omega (
+      arith,
+      h.score.compactness,
+      h.from_weight.alone,
+      h.from_weight.joined,
+      h.to_weight.alone,
+      h.to_weight.joined,
+      compactness_added p u x,
+      compactness_added p u y,
+    );
     at_most = compactness_few p h.instance (y ∷ u) to_few;
     total_few = omega (arith, h.score.compactness, compactness_few p h.instance (x ∷ u) from_few);
     to_few = omega (arith, b.alone_few, a.joined_few);
@@ -98,7 +148,13 @@ module _ (p : Problem) (u : List Cell) (x y : Cell) (s : Score) (a b : Weight) (
 
   pub stability_kept : IsExchanged (stability_count p (y ∷ u)) s.room_stability a.rooms b.rooms
   stability_kept = record {
-    sum = omega (arith, h.score.room_stability, h.from_weight.rooms, h.to_weight.rooms, stability_exchanged p u x y h.from_in_range h.to_in_range h.course);
+    sum = omega (
+      arith,
+      h.score.room_stability,
+      h.from_weight.rooms,
+      h.to_weight.rooms,
+      stability_exchanged p u x y h.from_in_range h.to_in_range h.course,
+    );
     at_most = stability_few p h.instance (y ∷ u) to_few;
     total_few = omega (arith, h.score.room_stability, stability_few p h.instance (x ∷ u) from_few);
     to_few = omega (arith, h.to_weight.rooms, stability_cost_few p h.instance (y ∷ u) to_few y.course);

@@ -44,7 +44,8 @@ module _ (p : Problem) (s t : List Cell) (same : SameBag s t) where
     places = ok.places;
     counts = λ c k a b. ok.counts c k a b ∙ same (λ e. one_if (is_of c e && (place e == k)));
     used = λ c a.
-        ok.used c a ∙ sum_by-same (λ k. one_if (list_any (λ e. is_of c e && (place e == k)) s)) (λ k. one_if (list_any (λ e. is_of c e && (place e == k)) t)) (range_below n)
+        ok.used c a ∙ sum_by-same (λ k. one_if (list_any (λ e. is_of c e && (place e == k)) s))
+        (λ k. one_if (list_any (λ e. is_of c e && (place e == k)) t)) (range_below n)
         (λ k. ap one_if (bag_any (λ e. is_of c e && (place e == k)) s t same));
   }
 
@@ -100,21 +101,24 @@ module _ (p : Problem) (t : List Cell) (i : ℕ) (inside : i < length t) where
       ]
 
   -- tables and a score of the list are those of the entry followed by the others
-  pub counted_front : (from : Cell) (x : Tables) (s : Score) → slice_get t i ≡ Some from → IsCounted p t x s → IsCounted p (from ∷ remove t i) x s
+  pub counted_front : (from : Cell) (x : Tables) (s : Score) → slice_get t i ≡ Some from → IsCounted p t x s
+      → IsCounted p (from ∷ remove t i) x s
   counted_front from x s found ok =
       let is : from ≡ get_or t i from = sym (get_or_from_slice_get t i from from found) in
       let same = same_front t i from from inside is in
       let n = length-remove t i inside in
       record {
         instance = ok.instance;
-        in_range = All-cons (InRange p) from (remove t i) (subst (InRange p) (sym is) (ok.in_range i from inside)) (others_in_range ok.in_range);
+        in_range = All-cons (InRange p) from (remove t i) (subst (InRange p) (sym is) (ok.in_range i from inside))
+            (others_in_range ok.in_range);
         at_most = omega (arith, ok.at_most);
         tables = tables_same p t (from ∷ remove t i) same x ok.tables;
         score = score_same p t (from ∷ remove t i) same s ok.score;
       }
 
   -- tables and a score of another entry followed by the others are those of the list with this entry
-  pub counted_set : (e : Cell) (x : Tables) (s : Score) (new : List Cell) → new ≡ set t i e → IsTimetable p t → IsCounted p (e ∷ remove t i) x s → IsCounted p new x s
+  pub counted_set : (e : Cell) (x : Tables) (s : Score) (new : List Cell) → new ≡ set t i e → IsTimetable p t
+      → IsCounted p (e ∷ remove t i) x s → IsCounted p new x s
   counted_set e x s new is in_range ok =
       let same = same_set t i e e inside in
       let n = length-remove t i inside in

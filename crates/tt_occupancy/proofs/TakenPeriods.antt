@@ -34,10 +34,14 @@ none_taken p u q d s ok h = sym (none_counted (λ e. in_curriculum p q e.course 
     omega arith))
 
 -- whether the table w, which counts the entries, has some in a period
-pub some_taken : (p : Problem) (u : List Cell) (w : Week) → IsTimetable p u → IsTally p (length p.curricula) (of_curriculum p) u w → (q d s : ℕ) → q < length p.curricula → d < p.days → (nat_lt s w.periods && nat_lt 0 (in_period w q d s)) ≡ nat_lt 0 (entries_at p u q d s)
+pub some_taken : (p : Problem) (u : List Cell) (w : Week) → IsTimetable p u → IsTally p (length p.curricula) (of_curriculum p) u w
+    → (q d s : ℕ) → q < length p.curricula → d < p.days → (nat_lt s w.periods && nat_lt 0 (in_period w q d s)) ≡ nat_lt 0
+    (entries_at p u q d s)
 some_taken p u w ok tally q d s row day = elim (cases_lt s w.periods) [
-  | inl h ↦ ap (λ b. b && nat_lt 0 (in_period w q d s)) (lt-ltb s w.periods h) ∙ ap (nat_lt 0) (tally.counts q d s row day (omega (arith, tally.periods)))
-  | inr h ↦ ap (λ b. b && nat_lt 0 (in_period w q d s)) (le-ltb s w.periods h) ∙ ap (nat_lt 0) (none_taken p u q d s ok (omega (arith, tally.periods)))
+  | inl h ↦ ap (λ b. b && nat_lt 0 (in_period w q d s)) (lt-ltb s w.periods h)
+      ∙ ap (nat_lt 0) (tally.counts q d s row day (omega (arith, tally.periods)))
+  | inr h ↦ ap (λ b. b && nat_lt 0 (in_period w q d s)) (le-ltb s w.periods h)
+      ∙ ap (nat_lt 0) (none_taken p u q d s ok (omega (arith, tally.periods)))
 ]
 
 -- ---- counts f by period
@@ -51,7 +55,8 @@ before_of f s = cond (nat_lt 0 s && not (beside f (s - 1))) (f (s - 1)) 0
 abbrev after_of : (ℕ → ℕ) → ℕ → ℕ
 after_of f s = cond (not (beside f (s + 1))) (f (s + 1)) 0
 
-module _ (f : ℕ → ℕ) (s two_before before here after two_after : ℕ) (a : two_before ≡ cond (nat_le 2 s) (f (s - 2)) 0) (b : before ≡ cond (nat_le 1 s) (f (s - 1)) 0) (h : here ≡ f s) (k : after ≡ f (s + 1)) (m : two_after ≡ f (s + 2)) where
+module _ (f : ℕ → ℕ) (s two_before before here after two_after : ℕ) (a : two_before ≡ cond (nat_le 2 s) (f (s - 2)) 0)
+    (b : before ≡ cond (nat_le 1 s) (f (s - 1)) 0) (h : here ≡ f s) (k : after ≡ f (s + 1)) (m : two_after ≡ f (s + 2)) where
   alone_by_counts : ((before == 0) && (after == 0)) ≡ not (beside f s)
   alone_by_counts = grind (arith, nat_tests)
 
@@ -69,8 +74,10 @@ module _ (f : ℕ → ℕ) (s two_before before here after two_after : ℕ) (a :
 module _ (p : Problem) (u : List Cell) (q d s : ℕ) where
   beside_is : (k : ℕ) → beside (entries_at p u q d) k ≡ has_neighbour p u q d k
   beside_is k =
-      ap (λ b. b || (nat_lt 0 k && nat_lt 0 (entries_at p u q d (k - 1)))) (any_counted (λ e. in_curriculum p q e.course && is_at (slot d (k + 1)) e) u)
-      ∙ ap (λ b. has_entry_at p u q d (k + 1) || (nat_lt 0 k && b)) (any_counted (λ e. in_curriculum p q e.course && is_at (slot d (k - 1)) e) u)
+      ap (λ b. b || (nat_lt 0 k && nat_lt 0 (entries_at p u q d (k - 1))))
+      (any_counted (λ e. in_curriculum p q e.course && is_at (slot d (k + 1)) e) u)
+      ∙ ap (λ b. has_entry_at p u q d (k + 1) || (nat_lt 0 k && b))
+      (any_counted (λ e. in_curriculum p q e.course && is_at (slot d (k - 1)) e) u)
 
   before_is : before_of (entries_at p u q d) s ≡ joined_before p u q d s
   before_is = ap (λ b. cond (nat_lt 0 s && not b) (entries_at p u q d (s - 1)) 0) (beside_is (s - 1))
@@ -81,22 +88,34 @@ module _ (p : Problem) (u : List Cell) (q d s : ℕ) where
   module _ (a : NeighbourCounts) (ok : AreNeighbourCounts p u q d s a) where
     pub alone_is : ((a.before == 0) && (a.after == 0)) ≡ not (has_neighbour p u q d s)
     alone_is =
-        alone_by_counts (entries_at p u q d) s a.two_before a.before a.here a.after a.two_after ok.two_before ok.before ok.here ok.after ok.two_after
+        alone_by_counts (entries_at p u q d) s a.two_before a.before a.here a.after a.two_after ok.two_before ok.before ok.here ok.after
+        ok.two_after
         ∙ ap not (beside_is s)
 
     pub joined_none : 0 < a.here → 0 ≡ joined_before p u q d s + joined_after p u q d s
     joined_none some =
-        omega (arith, before_is, after_is, none_by_counts (entries_at p u q d) s a.two_before a.before a.here a.after a.two_after ok.two_before ok.before ok.here ok.after ok.two_after some)
+        omega (
+          arith,
+          before_is,
+          after_is,
+          none_by_counts (entries_at p u q d) s a.two_before a.before a.here a.after a.two_after
+              ok.two_before ok.before ok.here ok.after ok.two_after some,
+        )
 
-    pub joined_is : a.here ≤ 0 → cond (a.two_before == 0) a.before 0 + cond (a.two_after == 0) a.after 0 ≡ joined_before p u q d s + joined_after p u q d s
+    pub joined_is : a.here ≤ 0 → cond (a.two_before == 0) a.before 0 + cond (a.two_after == 0) a.after 0 ≡ joined_before p u q d s
+        + joined_after p u q d s
     joined_is none =
-        let b = before_by_counts (entries_at p u q d) s a.two_before a.before a.here a.after a.two_after ok.two_before ok.before ok.here ok.after ok.two_after none in
-        let c = after_by_counts (entries_at p u q d) s a.two_before a.before a.here a.after a.two_after ok.two_before ok.before ok.here ok.after ok.two_after none in
+        let b = before_by_counts (entries_at p u q d) s a.two_before a.before a.here a.after a.two_after ok.two_before ok.before ok.here
+        ok.after ok.two_after none in
+        let c = after_by_counts (entries_at p u q d) s a.two_before a.before a.here a.after a.two_after ok.two_before ok.before ok.here
+        ok.after ok.two_after none in
         omega (arith, before_is, after_is, b, c)
 
 -- ---- all curricula of a course
 
-module _ (p : Problem) (u : List Cell) (x : Cell) (rows : List ℕ) (are : rows ≡ filter (λ q. in_curriculum p q x.course) (all_curricula p)) (g : IsolationChange) (isolation_change : IsIsolationChange p u rows x.day x.period g) where
+module _ (p : Problem) (u : List Cell) (x : Cell) (rows : List ℕ)
+    (are : rows ≡ filter (λ q. in_curriculum p q x.course) (all_curricula p)) (g : IsolationChange)
+    (isolation_change : IsIsolationChange p u rows x.day x.period g) where
   pub gaps_alone : g.alone ≡ alone p u x
   gaps_alone =
       let member = λ (q : ℕ). in_curriculum p q x.course in

@@ -19,7 +19,10 @@ use Rattle.tt_rules.proofs.Feasible.{periods-le_entries}
 -- -- counts of places that have an entry
 
 -- if each entry has exactly one place of a kind: one place more if no entry of the course was at x's place
-pub places_added : {Y : Type 0} (at : Y → Cell → Bool) (c : ℕ) (u : List Cell) (x : Cell) (places : List Y) (here : Bool) → is_of c x ≡ true → count_by (λ s. at s x) places ≡ 1 → ((s : Y) → at s x ≡ true → list_any (λ e. is_of c e && at s e) u ≡ here) → count_by (λ s. list_any (λ e. is_of c e && at s e) (x ∷ u)) places ≡ count_by (λ s. list_any (λ e. is_of c e && at s e) u) places + one_if (not here)
+pub places_added : {Y : Type 0} (at : Y → Cell → Bool) (c : ℕ) (u : List Cell) (x : Cell) (places : List Y) (here : Bool)
+    → is_of c x ≡ true → count_by (λ s. at s x) places ≡ 1 → ((s : Y) → at s x ≡ true → list_any (λ e. is_of c e && at s e) u ≡ here)
+    → count_by (λ s. list_any (λ e. is_of c e && at s e) (x ∷ u)) places ≡ count_by (λ s. list_any (λ e. is_of c e && at s e) u) places
+    + one_if (not here)
 places_added {Y} at c u x places here own once same =
     let before : Y → Bool = λ s. list_any (λ e. is_of c e && at s e) u in
     let after : Y → Bool = λ s. (is_of c x && at s x) || before s in
@@ -33,9 +36,11 @@ places_added {Y} at c u x places here own once same =
     by_test false = refl
 
 -- an entry of another course adds no place
-pub places_kept : {Y : Type 0} (at : Y → Cell → Bool) (c : ℕ) (u : List Cell) (x : Cell) (places : List Y) → is_of c x ≡ false → count_by (λ s. list_any (λ e. is_of c e && at s e) (x ∷ u)) places ≡ count_by (λ s. list_any (λ e. is_of c e && at s e) u) places
+pub places_kept : {Y : Type 0} (at : Y → Cell → Bool) (c : ℕ) (u : List Cell) (x : Cell) (places : List Y) → is_of c x ≡ false
+    → count_by (λ s. list_any (λ e. is_of c e && at s e) (x ∷ u)) places ≡ count_by (λ s. list_any (λ e. is_of c e && at s e) u) places
 places_kept at c u x places other =
-    sum_by-same (λ s. one_if ((is_of c x && at s x) || list_any (λ e. is_of c e && at s e) u)) (λ s. one_if (list_any (λ e. is_of c e && at s e) u)) places
+    sum_by-same (λ s. one_if ((is_of c x && at s x) || list_any (λ e. is_of c e && at s e) u))
+    (λ s. one_if (list_any (λ e. is_of c e && at s e) u)) places
     (λ s. ap one_if (ap (λ b. b || list_any (λ e. is_of c e && at s e) u) (and_left (is_of c x) (at s x) other)))
 
 -- ---- lectures
@@ -69,7 +74,9 @@ module _ (p : Problem) (u : List Cell) (x : Cell) (ok : InRange p x) where
       ap (λ i. (max (lectures p c) i - min (lectures p c) i) + (i - periods_of p (x ∷ u) c)) n
       ∙ ap (λ j. (max (lectures p c) (entries_of u c) - min (lectures p c) (entries_of u c)) + (entries_of u c - j)) k
 
-  lectures_off_added : lectures_off p (x ∷ u) x.course ≡ (max (lectures p x.course) (entries_of u x.course + 1) - min (lectures p x.course) (entries_of u x.course + 1)) + (entries_of u x.course - periods_of p u x.course) + one_if (repeats u x)
+  lectures_off_added : lectures_off p (x ∷ u) x.course ≡
+      (max (lectures p x.course) (entries_of u x.course + 1) - min (lectures p x.course) (entries_of u x.course + 1)) +
+      (entries_of u x.course - periods_of p u x.course) + one_if (repeats u x)
   lectures_off_added =
       let k = periods_added in
       let at_most = periods-le_entries p u x.course in
@@ -81,7 +88,9 @@ module _ (p : Problem) (u : List Cell) (x : Cell) (ok : InRange p x) where
       by_test true = refl
       by_test false = refl
 
-  pub lectures_added : lectures_count p (x ∷ u) + lectures_off p u x.course ≡ lectures_count p u + ((max (lectures p x.course) (entries_of u x.course + 1) - min (lectures p x.course) (entries_of u x.course + 1)) + (entries_of u x.course - periods_of p u x.course) + one_if (repeats u x))
+  pub lectures_added : lectures_count p (x ∷ u) + lectures_off p u x.course ≡ lectures_count p u +
+      ((max (lectures p x.course) (entries_of u x.course + 1) - min (lectures p x.course) (entries_of u x.course + 1)) +
+      (entries_of u x.course - periods_of p u x.course) + one_if (repeats u x))
   lectures_added =
       let d = differ_below (lectures_off p (x ∷ u)) (lectures_off p u) x.course (length p.courses) ok.course lectures_off_kept in
       omega (arith, d, lectures_off_added)
@@ -100,7 +109,8 @@ module _ (p : Problem) (u : List Cell) (x : Cell) (ok : InRange p x) where
 
   entries_in_here : entries_in (x ∷ u) x.room (slot_of x) ≡ entries_in u x.room (slot_of x) + 1
   entries_in_here =
-      let t : (is_in x.room x && is_at (slot_of x) x) ≡ true = and_from (x.room == x.room) ((x.day == x.day) && (x.period == x.period)) (eq-eqb x.room x.room refl)
+      let t : (is_in x.room x && is_at (slot_of x) x) ≡ true = and_from (x.room == x.room) ((x.day == x.day) && (x.period == x.period))
+      (eq-eqb x.room x.room refl)
       (and_from (x.day == x.day) (x.period == x.period) (eq-eqb x.day x.day refl) (eq-eqb x.period x.period refl)) in
       omega (arith, count_by-cons (λ e. is_in x.room e && is_at (slot_of x) e) x u, one_if_true (is_in x.room x && is_at (slot_of x) x) t)
 
@@ -121,10 +131,12 @@ module _ (p : Problem) (u : List Cell) (x : Cell) (ok : InRange p x) where
       ]
 
   -- the entries beyond the first, in one room
-  shared_in_room : sum_by (λ s. entries_in (x ∷ u) x.room s - 1) (all_slots p) ≡ sum_by (λ s. entries_in u x.room s - 1) (all_slots p) + one_if (shares u x)
+  shared_in_room : sum_by (λ s. entries_in (x ∷ u) x.room s - 1) (all_slots p) ≡ sum_by (λ s. entries_in u x.room s - 1) (all_slots p)
+      + one_if (shares u x)
   shared_in_room =
       let here = shared_here in
-      let d = sum_by-differ (λ s. entries_in (x ∷ u) x.room s - 1) (λ s. entries_in u x.room s - 1) (λ s. is_at s x) (entries_in (x ∷ u) x.room (slot_of x) - 1) (entries_in u x.room (slot_of x) - 1) (all_slots p) (once_slot p x ok.day ok.period)
+      let d = sum_by-differ (λ s. entries_in (x ∷ u) x.room s - 1) (λ s. entries_in u x.room s - 1) (λ s. is_at s x)
+      (entries_in (x ∷ u) x.room (slot_of x) - 1) (entries_in u x.room (slot_of x) - 1) (all_slots p) (once_slot p x ok.day ok.period)
       (λ s e. ap (λ n. n - 1) (entries_in_else x.room s (and_right (is_in x.room x) (is_at s x) e)))
       (λ s e. let k = slot_at s e in (ap (λ z. entries_in (x ∷ u) x.room z - 1) k, ap (λ z. entries_in u x.room z - 1) k)) in
       omega arith
@@ -136,8 +148,10 @@ module _ (p : Problem) (u : List Cell) (x : Cell) (ok : InRange p x) where
 
   pub occupancy_added : occupancy_count p (x ∷ u) ≡ occupancy_count p u + one_if (shares u x)
   occupancy_added =
-      let d = differ_below (λ r. sum_by (λ s. entries_in (x ∷ u) r s - 1) (all_slots p)) (λ r. sum_by (λ s. entries_in u r s - 1) (all_slots p)) x.room (length p.rooms) ok.room
-      (λ r e. sum_by-same (λ s. entries_in (x ∷ u) r s - 1) (λ s. entries_in u r s - 1) (all_slots p) (λ s. ap (λ n. n - 1) (entries_in_else r s (and_left (is_in r x) (is_at s x) e)))) in
+      let d = differ_below (λ r. sum_by (λ s. entries_in (x ∷ u) r s - 1) (all_slots p))
+      (λ r. sum_by (λ s. entries_in u r s - 1) (all_slots p)) x.room (length p.rooms) ok.room
+      (λ r e. sum_by-same (λ s. entries_in (x ∷ u) r s - 1) (λ s. entries_in u r s - 1) (all_slots p)
+      (λ s. ap (λ n. n - 1) (entries_in_else r s (and_left (is_in r x) (is_at s x) e)))) in
       let h = shared_in_room in
       omega arith
 
@@ -159,10 +173,14 @@ module _ (p : Problem) (u : List Cell) (x : Cell) (ok : InRange p x) where
   -- the distinct days and rooms of the course itself, for the code
   pub days_of_added : days_of p (x ∷ u) x.course ≡ days_of p u x.course + one_if (not (list_any (λ e. is_of x.course e && is_on x.day e) u))
   days_of_added =
-      places_added is_on x.course u x (all_days p) (list_any (λ e. is_of x.course e && is_on x.day e) u) own (once_below x.day p.days ok.day)
+      places_added is_on x.course u x (all_days p) (list_any (λ e. is_of x.course e && is_on x.day e) u) own
+      (once_below x.day p.days ok.day)
       (λ d e. ap (λ k. list_any (λ z. is_of x.course z && is_on k z) u) (sym (eqb-true x.day d e)))
 
-  pub rooms_of_added : count_by (λ r. list_any (λ e. is_of x.course e && is_in r e) (x ∷ u)) (all_rooms p) ≡ count_by (λ r. list_any (λ e. is_of x.course e && is_in r e) u) (all_rooms p) + one_if (not (list_any (λ e. is_of x.course e && is_in x.room e) u))
+  pub rooms_of_added : count_by (λ r. list_any (λ e. is_of x.course e && is_in r e) (x ∷ u)) (all_rooms p) ≡ count_by
+      (λ r. list_any (λ e. is_of x.course e && is_in r e) u) (all_rooms p) + one_if
+      (not (list_any (λ e. is_of x.course e && is_in x.room e) u))
   rooms_of_added =
-      places_added is_in x.course u x (all_rooms p) (list_any (λ e. is_of x.course e && is_in x.room e) u) own (once_below x.room (length p.rooms) ok.room)
+      places_added is_in x.course u x (all_rooms p) (list_any (λ e. is_of x.course e && is_in x.room e) u) own
+      (once_below x.room (length p.rooms) ok.room)
       (λ d e. ap (λ k. list_any (λ z. is_of x.course z && is_in k z) u) (sym (eqb-true x.room d e)))

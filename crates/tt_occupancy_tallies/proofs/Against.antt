@@ -11,7 +11,8 @@ use Rattle.tt_rules.specs.Hard.{collide}
 use Rattle.tt_occupancy_tallies.specs.Weight.{against}
 
 -- the entries that collide with x are those of its period whose courses conflict with its own
-pub against_is : (p : Problem) (u : List Cell) (x : Cell) → count_by (λ e. conflict p x.course e.course && is_at (slot x.day x.period) e) u ≡ against p u x
+pub against_is : (p : Problem) (u : List Cell) (x : Cell)
+    → count_by (λ e. conflict p x.course e.course && is_at (slot x.day x.period) e) u ≡ against p u x
 against_is p u x =
     sum_by-same (λ e. one_if (conflict p x.course e.course && is_at (slot x.day x.period) e)) (λ e. one_if (collide p x e)) u
     (λ e. ap (λ b. one_if (conflict p x.course e.course && (b && (e.period == x.period)))) (turned e.day x.day)

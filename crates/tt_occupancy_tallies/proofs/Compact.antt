@@ -36,7 +36,8 @@ module _ (p : Problem) (u : List Cell) (x : Cell) (q : ℕ) where
       let first = count_by-cons test x u in
       let nothing = one_if_false (test x) (and_left (in_curriculum p q x.course) (is_isolated p (x ∷ u) q x) no_member) in
       let rest = sum_by-same (λ e. one_if (test e)) (λ e. one_if (in_curriculum p q e.course && is_isolated p u q e)) u
-      (λ e. ap (λ b. one_if (in_curriculum p q e.course && not (b || list_any (λ z. in_curriculum p q z.course && next_to (slot_of z) (slot_of e)) u)))
+      (λ e. ap (λ b. one_if
+      (in_curriculum p q e.course && not (b || list_any (λ z. in_curriculum p q z.course && next_to (slot_of z) (slot_of e)) u)))
       (and_left (in_curriculum p q x.course) (next_to (slot_of x) (slot_of e)) no_member)) in
       omega arith
 
@@ -46,13 +47,20 @@ module _ (p : Problem) (u : List Cell) (x : Cell) (q : ℕ) where
       let before = λ (e : Cell). in_curriculum p q e.course && is_isolated p u q e in
       let first = count_by-cons test x u in
       let itself : test x ≡ is_isolated p u q x = ap (λ b. b && is_isolated p (x ∷ u) q x) member
-      ∙ ap (λ b. not ((in_curriculum p q x.course && b) || list_any (λ z. in_curriculum p q z.course && next_to (slot_of z) (slot_of x)) u)) (not_next (slot_of x))
-      ∙ ap (λ b. not (b || list_any (λ z. in_curriculum p q z.course && next_to (slot_of z) (slot_of x)) u)) (and_right (in_curriculum p q x.course) false refl) in
+      ∙ ap (λ b. not
+      ((in_curriculum p q x.course && b) || list_any (λ z. in_curriculum p q z.course && next_to (slot_of z) (slot_of x)) u))
+      (not_next (slot_of x))
+      ∙ ap (λ b. not (b || list_any (λ z. in_curriculum p q z.course && next_to (slot_of z) (slot_of x)) u))
+      (and_right (in_curriculum p q x.course) false refl) in
       let one = ap one_if itself in
       let split = count_by-split before (λ e. next_to (slot_of x) (slot_of e)) u in
       let rest = sum_by-same (λ e. one_if (test e)) (λ e. one_if (before e && not (next_to (slot_of x) (slot_of e)))) u
-      (λ e. ap (λ b. one_if (in_curriculum p q e.course && not ((b && next_to (slot_of x) (slot_of e)) || list_any (λ z. in_curriculum p q z.course && next_to (slot_of z) (slot_of e)) u))) member
-      ∙ ap one_if (turn (in_curriculum p q e.course) (next_to (slot_of x) (slot_of e)) (list_any (λ z. in_curriculum p q z.course && next_to (slot_of z) (slot_of e)) u))) in
+      (λ e. ap (λ b. one_if
+      (in_curriculum p q e.course && not
+      ((b && next_to (slot_of x) (slot_of e)) || list_any (λ z. in_curriculum p q z.course && next_to (slot_of z) (slot_of e))
+      u))) member
+      ∙ ap one_if (turn (in_curriculum p q e.course) (next_to (slot_of x) (slot_of e))
+      (list_any (λ z. in_curriculum p q z.course && next_to (slot_of z) (slot_of e)) u))) in
       omega arith
     where
       turn : (a b c : Bool) → (a && not ((true && b) || c)) ≡ ((a && not c) && not b)
@@ -63,7 +71,8 @@ module _ (p : Problem) (u : List Cell) (x : Cell) (q : ℕ) where
       turn true false false = refl
 
   -- one curriculum
-  pub curriculum_added : compactness_cost p (x ∷ u) q + cond (in_curriculum p q x.course) (joined p u x q) 0 * 2 ≡ compactness_cost p u q + cond (in_curriculum p q x.course) (one_if (is_isolated p u q x)) 0 * 2
+  pub curriculum_added : compactness_cost p (x ∷ u) q + cond (in_curriculum p q x.course) (joined p u x q) 0 * 2
+      ≡ compactness_cost p u q + cond (in_curriculum p q x.course) (one_if (is_isolated p u q x)) 0 * 2
   curriculum_added = elim (cases_Bool (in_curriculum p q x.course)) [
     | inl e ↦
         let h = member_added e in
@@ -77,11 +86,13 @@ module _ (p : Problem) (u : List Cell) (x : Cell) (q : ℕ) where
         omega arith
   ]
 
-pub compactness_added : (p : Problem) (u : List Cell) (x : Cell) → compactness_count p (x ∷ u) + 2 * all_joined p u x ≡ compactness_count p u + 2 * alone p u x
+pub compactness_added : (p : Problem) (u : List Cell) (x : Cell) → compactness_count p (x ∷ u) + 2 * all_joined p u x
+    ≡ compactness_count p u + 2 * alone p u x
 compactness_added p u x =
     let lost = λ (q : ℕ). cond (in_curriculum p q x.course) (joined p u x q) 0 in
     let won = λ (q : ℕ). cond (in_curriculum p q x.course) (one_if (is_isolated p u q x)) 0 in
-    let each = sum_by-same (λ q. compactness_cost p (x ∷ u) q + lost q * 2) (λ q. compactness_cost p u q + won q * 2) (all_curricula p) (curriculum_added p u x) in
+    let each = sum_by-same (λ q. compactness_cost p (x ∷ u) q + lost q * 2) (λ q. compactness_cost p u q + won q * 2) (all_curricula p)
+    (curriculum_added p u x) in
     let a = sum_by-plus (compactness_cost p (x ∷ u)) (λ q. lost q * 2) (all_curricula p) in
     let b = sum_by-plus (compactness_cost p u) (λ q. won q * 2) (all_curricula p) in
     let c = sum_by-times lost 2 (all_curricula p) in

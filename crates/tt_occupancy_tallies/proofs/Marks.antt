@@ -30,14 +30,21 @@ module _ (w v : Week) (words new : List ℕ) (row day period : ℕ) (at_day : da
     | inr r ↦ ap (λ b. b && ((day == d) && (period == s))) (ne_eqb row i r)
   ]
 
-  module _ (rows : v.grid.rows ≡ w.grid.rows) (days : v.days ≡ w.days) (periods : v.periods ≡ w.periods) (same : (i d s : ℕ) → d < w.days → s < w.periods → ((row == i) && ((day == d) && (period == s))) ≡ false → in_period v i d s ≡ in_period w i d s) (here : (r : ℕ) → r < 64 → has_bit (slice_index new place) r ≡ cond (r == period) (nat_lt 0 (in_period v row day period)) (has_bit (slice_index words place) r)) (others : (k : ℕ) → (k ≡ place → ⊥) → slice_index new k ≡ slice_index words k) (old : AreMarks w words) where
-    unchanged : (i d s : ℕ) → d < w.days → ((row == i) && ((day == d) && (period == s))) ≡ false → (nat_lt s w.periods && nat_lt 0 (in_period w i d s)) ≡ (nat_lt s w.periods && nat_lt 0 (in_period v i d s))
+  module _ (rows : v.grid.rows ≡ w.grid.rows) (days : v.days ≡ w.days) (periods : v.periods ≡ w.periods)
+      (same : (i d s : ℕ) → d < w.days → s < w.periods → ((row == i) && ((day == d) && (period == s))) ≡ false
+      → in_period v i d s ≡ in_period w i d s) (here : (r : ℕ) → r < 64 → has_bit (slice_index new place) r ≡ cond (r == period)
+      (nat_lt 0 (in_period v row day period)) (has_bit (slice_index words place) r)) (others : (k : ℕ) → (k ≡ place → ⊥)
+      → slice_index new k ≡ slice_index words k) (old : AreMarks w words) where
+    unchanged : (i d s : ℕ) → d < w.days → ((row == i) && ((day == d) && (period == s))) ≡ false
+        → (nat_lt s w.periods && nat_lt 0 (in_period w i d s)) ≡ (nat_lt s w.periods && nat_lt 0 (in_period v i d s))
     unchanged i d s h e = elim (cases_lt s w.periods) [
       | inl l ↦ ap (λ n. nat_lt s w.periods && nat_lt 0 n) (sym (same i d s h l e))
-      | inr l ↦ ap (λ b. b && nat_lt 0 (in_period w i d s)) (le-ltb s w.periods l) ∙ sym (ap (λ b. b && nat_lt 0 (in_period v i d s)) (le-ltb s w.periods l))
+      | inr l ↦ ap (λ b. b && nat_lt 0 (in_period w i d s)) (le-ltb s w.periods l)
+          ∙ sym (ap (λ b. b && nat_lt 0 (in_period v i d s)) (le-ltb s w.periods l))
     ]
 
-    marked : (i d s : ℕ) → i < w.grid.rows → d < w.days → s < 64 → has_bit (slice_index new (i * w.days + d)) s ≡ (nat_lt s w.periods && nat_lt 0 (in_period v i d s))
+    marked : (i d s : ℕ) → i < w.grid.rows → d < w.days → s < 64 → has_bit (slice_index new (i * w.days + d)) s ≡
+        (nat_lt s w.periods && nat_lt 0 (in_period v i d s))
     marked i d s hi hd hs = elim (cases_eq (i * w.days + d) place) [
       | inl e ↦ elim (cases_eq s period) [
         | inl f ↦
@@ -45,7 +52,8 @@ module _ (w v : Week) (words new : List ℕ) (row day period : ℕ) (at_day : da
             ap (λ n. has_bit (slice_index new n) s) e ∙ here s hs
             ∙ ap (λ b. cond b (nat_lt 0 (in_period v row day period)) (has_bit (slice_index words place) s)) (eq-eqb s period f)
             ∙ sym (ap (λ b. b && nat_lt 0 (in_period v i d s)) (lt-ltb s w.periods (subst (λ z. z < w.periods) (sym f) at_period))
-            ∙ ap (λ n. nat_lt 0 (in_period v n d s)) q.0 ∙ ap (λ n. nat_lt 0 (in_period v row n s)) q.1 ∙ ap (λ n. nat_lt 0 (in_period v row day n)) f)
+            ∙ ap (λ n. nat_lt 0 (in_period v n d s)) q.0 ∙ ap (λ n. nat_lt 0 (in_period v row n s)) q.1
+            ∙ ap (λ n. nat_lt 0 (in_period v row day n)) f)
         | inr f ↦
             ap (λ n. has_bit (slice_index new n) s) e ∙ here s hs
             ∙ ap (λ b. cond b (nat_lt 0 (in_period v row day period)) (has_bit (slice_index words place) s)) (ne_eqb s period f)

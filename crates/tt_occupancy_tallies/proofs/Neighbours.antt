@@ -31,15 +31,18 @@ one_before a s = elim (cases_lt 0 s) [
 ]
 
 -- an entry of the curriculum is next to a period if and only if one is in the period before or after it
-beside : (p : Problem) (u : List Cell) (q d s : ℕ) → list_any (λ e. in_curriculum p q e.course && next_to (slot_of e) (slot d s)) u ≡ has_neighbour p u q d s
+beside : (p : Problem) (u : List Cell) (q d s : ℕ) → list_any (λ e. in_curriculum p q e.course && next_to (slot_of e) (slot d s)) u
+    ≡ has_neighbour p u q d s
 beside p u q d s =
     let after = λ (e : Cell). in_curriculum p q e.course && is_at (slot d (s + 1)) e in
     let before = λ (e : Cell). nat_lt 0 s && (in_curriculum p q e.course && is_at (slot d (s - 1)) e) in
-    list_any-same_at (λ (e : Cell). Unit {0}) (λ e. in_curriculum p q e.course && next_to (slot_of e) (slot d s)) (λ e. after e || before e) u (λ k e h. tt)
+    list_any-same_at (λ (e : Cell). Unit {0}) (λ e. in_curriculum p q e.course && next_to (slot_of e) (slot d s))
+    (λ e. after e || before e) u (λ k e h. tt)
     (λ e h. ap (λ b. in_curriculum p q e.course && ((e.day == d) && ((e.period == s + 1) || b))) (one_before e.period s)
     ∙ turn (in_curriculum p q e.course) (e.day == d) (e.period == s + 1) (nat_lt 0 s) (e.period == s - 1))
     ∙ list_any-or after before u
-    ∙ ap (λ b. has_entry_at p u q d (s + 1) || b) (list_any-also (nat_lt 0 s) (λ e. in_curriculum p q e.course && is_at (slot d (s - 1)) e) u)
+    ∙ ap (λ b. has_entry_at p u q d (s + 1) || b)
+    (list_any-also (nat_lt 0 s) (λ e. in_curriculum p q e.course && is_at (slot d (s - 1)) e) u)
   where
     turn : (a b c k f : Bool) → (a && (b && (c || (k && f)))) ≡ ((a && (b && c)) || (k && (a && (b && f))))
     turn false b c true f = refl
@@ -56,7 +59,9 @@ isolated_by_periods p u q x = ap not (beside p u q x.day x.period)
 -- ---- the isolated entries next to a period
 
 -- one entry of the curriculum, at period k of day i, isolated and next to period s of day d
-term : (a : Bool) (b : ℕ → ℕ → Bool) (d s i k : ℕ) → one_if ((a && not (b i k)) && ((d == i) && ((s == k + 1) || (s + 1 == k)))) ≡ cond (nat_lt 0 s && not (b d (s - 1))) (one_if (a && ((i == d) && (k == s - 1)))) 0 + cond (not (b d (s + 1))) (one_if (a && ((i == d) && (k == s + 1)))) 0
+term : (a : Bool) (b : ℕ → ℕ → Bool) (d s i k : ℕ) → one_if ((a && not (b i k)) && ((d == i) && ((s == k + 1) || (s + 1 == k)))) ≡ cond
+    (nat_lt 0 s && not (b d (s - 1))) (one_if (a && ((i == d) && (k == s - 1)))) 0 + cond (not (b d (s + 1)))
+    (one_if (a && ((i == d) && (k == s + 1)))) 0
 term a b d s i k = elim (cases_eq i d) [
   | inl e ↦
       let e1 : (d == i) ≡ true = eq-eqb d i (sym e) in
@@ -88,13 +93,15 @@ term a b d s i k = elim (cases_eq i d) [
   | inr e ↦
       let e1 : (d == i) ≡ false = ne_eqb d i (λ h. e (sym h)) in
       let e2 : (i == d) ≡ false = ne_eqb i d e in
-      rw (e1, e2) (none a (b i k) (nat_lt 0 s && not (b d (s - 1))) (not (b d (s + 1))) ((s == k + 1) || (s + 1 == k)) (k == s - 1) (k == s + 1))
+      rw (e1, e2) (none a (b i k) (nat_lt 0 s && not (b d (s - 1))) (not (b d (s + 1))) ((s == k + 1) || (s + 1 == k)) (k == s - 1)
+      (k == s + 1))
 ]
   where
     no_before : (k + 1 ≡ s → ⊥) → (nat_lt 0 s && (k == s - 1)) ≡ false
     no_before f = sym (one_before k s) ∙ ne_eqb (k + 1) s f
 
-    first : (a y z : Bool) → one_if ((a && not y) && (true && (true || false))) ≡ cond (true && not y) (one_if (a && (true && true))) 0 + cond (not z) (one_if (a && (true && false))) 0
+    first : (a y z : Bool) → one_if ((a && not y) && (true && (true || false))) ≡ cond (true && not y) (one_if (a && (true && true))) 0
+        + cond (not z) (one_if (a && (true && false))) 0
     first true true true = refl
     first true true false = refl
     first true false true = refl
@@ -104,7 +111,8 @@ term a b d s i k = elim (cases_eq i d) [
     first false false true = refl
     first false false false = refl
 
-    second : (a y z : Bool) → one_if ((a && not y) && (true && (false || true))) ≡ cond z (one_if (a && (true && false))) 0 + cond (not y) (one_if (a && (true && true))) 0
+    second : (a y z : Bool) → one_if ((a && not y) && (true && (false || true))) ≡ cond z (one_if (a && (true && false))) 0 + cond
+        (not y) (one_if (a && (true && true))) 0
     second true true true = refl
     second true true false = refl
     second true false true = refl
@@ -132,10 +140,12 @@ term a b d s i k = elim (cases_eq i d) [
     zero_both false false true false h = refl
     zero_both a true true y h = cc
 
-    third : (a w y z m n : Bool) → (n && m) ≡ false → one_if ((a && not w) && (true && (false || false))) ≡ cond (n && not y) (one_if (a && (true && m))) 0 + cond (not z) (one_if (a && (true && false))) 0
+    third : (a w y z m n : Bool) → (n && m) ≡ false → one_if ((a && not w) && (true && (false || false))) ≡ cond (n && not y)
+        (one_if (a && (true && m))) 0 + cond (not z) (one_if (a && (true && false))) 0
     third a w y z m n h = let l = zero_left (a && not w) in let r = zero_right a (not z) in let o = zero_both a m n y h in omega arith
 
-    none : (a w n z o m l : Bool) → one_if ((a && not w) && (false && o)) ≡ cond n (one_if (a && (false && m))) 0 + cond z (one_if (a && (false && l))) 0
+    none : (a w n z o m l : Bool) → one_if ((a && not w) && (false && o)) ≡ cond n (one_if (a && (false && m))) 0 + cond z
+        (one_if (a && (false && l))) 0
     none true true true true o m l = refl
     none true true true false o m l = refl
     none true true false true o m l = refl
@@ -155,7 +165,8 @@ sum_by-if true f xs = refl
 sum_by-if false f xs = sum_by-nothing xs
 
 -- the isolated entries that an entry would join, by the periods next to it
-pub joined_by_periods : (p : Problem) (u : List Cell) (x : Cell) (q : ℕ) → joined p u x q ≡ joined_before p u q x.day x.period + joined_after p u q x.day x.period
+pub joined_by_periods : (p : Problem) (u : List Cell) (x : Cell) (q : ℕ) → joined p u x q ≡ joined_before p u q x.day x.period
+    + joined_after p u q x.day x.period
 joined_by_periods p u x q =
     let d = x.day in
     let s = x.period in
@@ -163,7 +174,8 @@ joined_by_periods p u x q =
     let after = λ (e : Cell). one_if (in_curriculum p q e.course && is_at (slot d (s + 1)) e) in
     let k = nat_lt 0 s && not (has_neighbour p u q d (s - 1)) in
     let m = not (has_neighbour p u q d (s + 1)) in
-    sum_by-same (λ e. one_if (in_curriculum p q e.course && is_isolated p u q e && next_to (slot_of x) (slot_of e))) (λ e. cond k (before e) 0 + cond m (after e) 0) u
+    sum_by-same (λ e. one_if (in_curriculum p q e.course && is_isolated p u q e && next_to (slot_of x) (slot_of e)))
+    (λ e. cond k (before e) 0 + cond m (after e) 0) u
     (λ e. ap (λ b. one_if ((in_curriculum p q e.course && not b) && next_to (slot_of x) (slot_of e))) (beside p u q e.day e.period)
     ∙ term (in_curriculum p q e.course) (has_neighbour p u q) d s e.day e.period)
     ∙ sum_by-plus (λ e. cond k (before e) 0) (λ e. cond m (after e) 0) u

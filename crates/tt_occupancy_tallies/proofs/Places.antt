@@ -21,7 +21,8 @@ module _ (xs : List ℕ) (a b w v : ℕ) (inside : a * w + b < length xs) (colum
   pub there : get_or xs here 0 ≡ v
   there = sym (is ∙ any_default xs here v 0 inside)
 
-  pub added_at : (i j : ℕ) → j < w → get_or (set xs (a * w + b) (v + 1)) (i * w + j) 0 ≡ get_or xs (i * w + j) 0 + cond ((a == i) && (b == j)) 1 0
+  pub added_at : (i j : ℕ) → j < w → get_or (set xs (a * w + b) (v + 1)) (i * w + j) 0 ≡ get_or xs (i * w + j) 0 + cond
+      ((a == i) && (b == j)) 1 0
   added_at i j l = elim (cases_eq here (i * w + j)) [
     | inl e ↦
         let n : get_or (set xs here (v + 1)) here 0 ≡ v + 1 = get_or-set_same xs here (v + 1) 0 inside in
@@ -36,7 +37,8 @@ module _ (xs : List ℕ) (a b w v : ℕ) (inside : a * w + b < length xs) (colum
         omega arith
   ]
 
-  pub taken_at : 1 ≤ v → (i j : ℕ) → j < w → get_or (set xs (a * w + b) (v - 1)) (i * w + j) 0 + cond ((a == i) && (b == j)) 1 0 ≡ get_or xs (i * w + j) 0
+  pub taken_at : 1 ≤ v → (i j : ℕ) → j < w → get_or (set xs (a * w + b) (v - 1)) (i * w + j) 0 + cond ((a == i) && (b == j)) 1 0
+      ≡ get_or xs (i * w + j) 0
   taken_at some i j l = elim (cases_eq here (i * w + j)) [
     | inl e ↦
         let n : get_or (set xs here (v - 1)) here 0 ≡ v - 1 = get_or-set_same xs here (v - 1) 0 inside in
@@ -54,7 +56,8 @@ module _ (xs : List ℕ) (a b w v : ℕ) (inside : a * w + b < length xs) (colum
 -- -- rows in turn
 
 -- the next row is counted in the whole list once more than in the part before it
-pub row_next : (rows : List ℕ) (k : ℕ) → k < length rows → count_by (λ r. r == get_or rows k 0) (take k rows) + 1 ≤ count_by (λ r. r == get_or rows k 0) rows
+pub row_next : (rows : List ℕ) (k : ℕ) → k < length rows → count_by (λ r. r == get_or rows k 0) (take k rows) + 1 ≤ count_by
+    (λ r. r == get_or rows k 0) rows
 row_next rows k h =
     let i = get_or rows k 0 in
     let a = sum_by_more_le (λ r. one_if (r == i)) rows k 0 h in

@@ -15,13 +15,13 @@ use Rattle.tt_occupancy_tallies.specs.Bag.{SameBag}
 use Rattle.tt_occupancy_tallies.proofs.Bags.{bag_any, bag_pairs}
 use Rattle.tt_lists.proofs.Truth.{same_truth}
 
-
 pub collide-sym : (p : Problem) (x y : Cell) → collide p x y ≡ collide p y x
 collide-sym p x y = same_truth (collide p x y) (collide p y x) (collide-turn p x y) (collide-turn p y x)
 
 module _ (p : Problem) (s t : List Cell) (same : SameBag s t) where
   -- the places of a kind that have an entry of the course
-  places_same : {Y : Type 0} (at : Y → Cell → Bool) (c : ℕ) (places : List Y) → count_by (λ k. list_any (λ e. is_of c e && at k e) s) places ≡ count_by (λ k. list_any (λ e. is_of c e && at k e) t) places
+  places_same : {Y : Type 0} (at : Y → Cell → Bool) (c : ℕ) (places : List Y)
+      → count_by (λ k. list_any (λ e. is_of c e && at k e) s) places ≡ count_by (λ k. list_any (λ e. is_of c e && at k e) t) places
   places_same at c places =
       sum_by-same (λ k. one_if (list_any (λ e. is_of c e && at k e) s)) (λ k. one_if (list_any (λ e. is_of c e && at k e) t)) places
       (λ k. ap one_if (bag_any (λ e. is_of c e && at k e) s t same))
@@ -32,7 +32,8 @@ module _ (p : Problem) (s t : List Cell) (same : SameBag s t) where
   lectures_off_same : (c : ℕ) → lectures_off p s c ≡ lectures_off p t c
   lectures_off_same c =
       ap (λ i. (max (lectures p c) i - min (lectures p c) i) + (i - periods_of p s c)) (count_same (is_of c))
-      ∙ ap (λ j. (max (lectures p c) (entries_of t c) - min (lectures p c) (entries_of t c)) + (entries_of t c - j)) (places_same is_at c (all_slots p))
+      ∙ ap (λ j. (max (lectures p c) (entries_of t c) - min (lectures p c) (entries_of t c)) + (entries_of t c - j))
+      (places_same is_at c (all_slots p))
 
   pub lectures_same : lectures_count p s ≡ lectures_count p t
   lectures_same = sum_by-same (lectures_off p s) (lectures_off p t) (all_courses p) lectures_off_same
@@ -45,22 +46,28 @@ module _ (p : Problem) (s t : List Cell) (same : SameBag s t) where
 
   pub occupancy_same : occupancy_count p s ≡ occupancy_count p t
   occupancy_same =
-      sum_by-same (λ r. sum_by (λ k. entries_in s r k - 1) (all_slots p)) (λ r. sum_by (λ k. entries_in t r k - 1) (all_slots p)) (all_rooms p)
-      (λ r. sum_by-same (λ k. entries_in s r k - 1) (λ k. entries_in t r k - 1) (all_slots p) (λ k. ap (λ n. n - 1) (count_same (λ e. is_in r e && is_at k e))))
+      sum_by-same (λ r. sum_by (λ k. entries_in s r k - 1) (all_slots p)) (λ r. sum_by (λ k. entries_in t r k - 1) (all_slots p))
+      (all_rooms p)
+      (λ r. sum_by-same (λ k. entries_in s r k - 1) (λ k. entries_in t r k - 1) (all_slots p)
+      (λ k. ap (λ n. n - 1) (count_same (λ e. is_in r e && is_at k e))))
 
   pub capacity_same : capacity_count p s ≡ capacity_count p t
   capacity_same = same (λ e. excess p e.course e.room)
 
   pub days_same : days_count p s ≡ days_count p t
-  days_same = sum_by-same (days_cost p s) (days_cost p t) (all_courses p) (λ c. ap (λ n. 5 * (min_days p c - n)) (places_same is_on c (all_days p)))
+  days_same = sum_by-same (days_cost p s) (days_cost p t) (all_courses p)
+      (λ c. ap (λ n. 5 * (min_days p c - n)) (places_same is_on c (all_days p)))
 
   pub stability_same : stability_count p s ≡ stability_count p t
-  stability_same = sum_by-same (stability_cost p s) (stability_cost p t) (all_courses p) (λ c. ap (λ n. n - 1) (places_same is_in c (all_rooms p)))
+  stability_same = sum_by-same (stability_cost p s) (stability_cost p t) (all_courses p)
+      (λ c. ap (λ n. n - 1) (places_same is_in c (all_rooms p)))
 
   compactness_cost_same : (q : ℕ) → compactness_cost p s q ≡ compactness_cost p t q
   compactness_cost_same q =
-      ap (λ n. 2 * n) (sum_by-same (λ e. one_if (in_curriculum p q e.course && is_isolated p s q e)) (λ e. one_if (in_curriculum p q e.course && is_isolated p t q e)) s
-      (λ e. ap (λ b. one_if (in_curriculum p q e.course && not b)) (bag_any (λ x. in_curriculum p q x.course && next_to (slot_of x) (slot_of e)) s t same))
+      ap (λ n. 2 * n) (sum_by-same (λ e. one_if (in_curriculum p q e.course && is_isolated p s q e))
+      (λ e. one_if (in_curriculum p q e.course && is_isolated p t q e)) s
+      (λ e. ap (λ b. one_if (in_curriculum p q e.course && not b))
+      (bag_any (λ x. in_curriculum p q x.course && next_to (slot_of x) (slot_of e)) s t same))
       ∙ same (λ e. one_if (in_curriculum p q e.course && is_isolated p t q e)))
 
   pub compactness_same : compactness_count p s ≡ compactness_count p t

@@ -46,7 +46,8 @@ module _ (p : Problem) (ok : IsInstance p) (t : List Cell) (at_most : length t �
 
   pub lectures_few : lectures_count p t ≤ 2 ^ 40
   lectures_few =
-      let a = sum_below (lectures_off p t) 65536 2048 (length p.courses) ok.within.courses (λ c. omega (arith, (course_few c).0, count_few (is_of c))) in
+      let a = sum_below (lectures_off p t) 65536 2048 (length p.courses) ok.within.courses
+      (λ c. omega (arith, (course_few c).0, count_few (is_of c))) in
       omega arith
 
   pub conflicts_few : conflicts_count p t ≤ 2 ^ 40
@@ -59,7 +60,8 @@ module _ (p : Problem) (ok : IsInstance p) (t : List Cell) (at_most : length t �
   occupancy_few =
       let week : length (all_slots p) ≤ 512 = omega (arith, length-all_slots p, ok.within.slots) in
       let a = sum_below (λ r. sum_by (λ s. entries_in t r s - 1) (all_slots p)) 8388608 512 (length p.rooms) ok.within.rooms
-      (λ r. let b = sum_few (λ s. entries_in t r s - 1) 16384 512 (all_slots p) week (λ s. omega (arith, count_by-le-length (λ e. is_in r e && is_at s e) t)) in omega arith) in
+      (λ r. let b = sum_few (λ s. entries_in t r s - 1) 16384 512 (all_slots p) week
+      (λ s. omega (arith, count_by-le-length (λ e. is_in r e && is_at s e) t)) in omega arith) in
       omega arith
 
   pub capacity_few : capacity_count p t ≤ 2 ^ 40
@@ -77,11 +79,17 @@ module _ (p : Problem) (ok : IsInstance p) (t : List Cell) (at_most : length t �
 
   pub compactness_few : compactness_count p t ≤ 2 ^ 40
   compactness_few =
-      let a = sum_below (compactness_cost p t) 32768 8192 (length p.curricula) ok.within.curricula (λ q. omega (arith, count_few (λ e. in_curriculum p q e.course && is_isolated p t q e))) in
+      let a = sum_below (compactness_cost p t) 32768 8192 (length p.curricula) ok.within.curricula
+      (λ q. omega (arith, count_few (λ e. in_curriculum p q e.course && is_isolated p t q e))) in
       omega arith
 
   pub stability_cost_few : (c : ℕ) → stability_cost p t c ≤ 512
-  stability_cost_few c = omega (arith, count_by-le-length (λ r. list_any (λ e. is_of c e && is_in r e) t) (all_rooms p), length-range_with_len 0 (length p.rooms), ok.within.rooms)
+  stability_cost_few c = omega (
+    arith,
+    count_by-le-length (λ r. list_any (λ e. is_of c e && is_in r e) t) (all_rooms p),
+    length-range_with_len 0 (length p.rooms),
+    ok.within.rooms,
+  )
 
   pub stability_few : stability_count p t ≤ 2 ^ 40
   stability_few =

@@ -29,7 +29,8 @@ none_passes_is q t = elim (cases_lt 0 (count_by q t)) [
     by_test false e z = ap not e ∙ sym (eq-eqb (count_by q t) 0 z)
 
 -- a table of zeros is a table of no entries
-pub spread_none : (p : Problem) (n : ℕ) (place : Cell → ℕ) (x : Spread) → x.counts.rows ≡ length p.courses → x.counts.columns ≡ n → ((i j : ℕ) → at x.counts i j ≡ 0) → ((i : ℕ) → used_at x i ≡ 0) → IsSpread p n place [] x
+pub spread_none : (p : Problem) (n : ℕ) (place : Cell → ℕ) (x : Spread) → x.counts.rows ≡ length p.courses → x.counts.columns ≡ n
+    → ((i j : ℕ) → at x.counts i j ≡ 0) → ((i : ℕ) → used_at x i ≡ 0) → IsSpread p n place [] x
 spread_none p n place x rows places zeros unused = record {
   rows = rows;
   places = places;
@@ -46,7 +47,8 @@ module _ (n : ℕ) (place : Cell → ℕ) where
   used t c = count_by (λ k. list_any (λ z. is_of c z && (place z == k)) t) (range_below n)
 
   -- the places of each course, with another entry
-  pub used_more : (t : List Cell) (e : Cell) → place e < n → (i : ℕ) → used (e ∷ t) i ≡ used t i + cond ((e.course == i) && (count_by (λ z. is_of e.course z && (place z == place e)) t == 0)) 1 0
+  pub used_more : (t : List Cell) (e : Cell) → place e < n → (i : ℕ) → used (e ∷ t) i ≡ used t i + cond
+      ((e.course == i) && (count_by (λ z. is_of e.course z && (place z == place e)) t == 0)) 1 0
   used_more t e h i = elim (cases_eq e.course i) [
     | inl same ↦
         let q = λ (z : Cell). is_of e.course z && (place z == place e) in
@@ -70,7 +72,13 @@ module _ (n : ℕ) (place : Cell → ℕ) where
     spread_room ok c k h l = omega (arith, ok.counts c k h l, count_by-le-length (λ e. is_of c e && (place e == k)) t)
 
     pub spread_free : IsSpread p n place t x → (c : ℕ) → c < length p.courses → used_at x c ≤ n
-    spread_free ok c h = omega (arith, ok.used c h, count_by-le-length (λ k. list_any (λ e. is_of c e && (place e == k)) t) (range_below n), length-range_with_len 0 n)
+    spread_free ok c h =
+        omega (
+          arith,
+          ok.used c h,
+          count_by-le-length (λ k. list_any (λ e. is_of c e && (place e == k)) t) (range_below n),
+          length-range_with_len 0 n,
+        )
 
     module _ (e : Cell) (r : InRange p e) (h : place e < n) where
       abbrev here : Cell → Bool
@@ -104,7 +112,12 @@ module _ (n : ℕ) (place : Cell → ℕ) where
         spread_added m ok = record {
           rows = m.rows ∙ ok.rows;
           places = m.places ∙ ok.places;
-          counts = λ c k i j. omega (arith, m.counts c k (subst (λ z. k < z) (sym ok.places) j), ok.counts c k i j, count_by-cons (λ z. is_of c z && (place z == k)) e t);
+          counts = λ c k i j. omega (
+            arith,
+            m.counts c k (subst (λ z. k < z) (sym ok.places) j),
+            ok.counts c k i j,
+            count_by-cons (λ z. is_of c z && (place z == k)) e t,
+          );
           used = λ c i.
               let before = ap (λ v. one_if ((e.course == c) && (v == 0))) (ok.counts e.course (place e) r.course h) in
               omega (arith, m.used c, ok.used c i, before, used_more t e h c);
@@ -113,7 +126,13 @@ module _ (n : ℕ) (place : Cell → ℕ) where
         pub spread_taken : IsOneMore y x e.course (place e) → IsSpread p n place (e ∷ t) x → IsSpread p n place t y
         spread_taken m ok =
             let places = sym m.places ∙ ok.places in
-            let counts : (c k : ℕ) → c < length p.courses → k < n → at y.counts c k ≡ count_by (λ z. is_of c z && (place z == k)) t = λ c k i j. omega (arith, m.counts c k (subst (λ z. k < z) (sym places) j), ok.counts c k i j, count_by-cons (λ z. is_of c z && (place z == k)) e t) in
+            let counts : (c k : ℕ) → c < length p.courses → k < n → at y.counts c k ≡ count_by (λ z. is_of c z && (place z == k)) t =
+            λ c k i j. omega (
+              arith,
+              m.counts c k (subst (λ z. k < z) (sym places) j),
+              ok.counts c k i j,
+              count_by-cons (λ z. is_of c z && (place z == k)) e t,
+            ) in
             record {
               rows = sym m.rows ∙ ok.rows;
               places = places;

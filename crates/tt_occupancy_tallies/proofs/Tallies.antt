@@ -12,7 +12,8 @@ use Rattle.tt_occupancy_tallies.specs.Tallies.{IsTally}
 use Rattle.tt_occupancy_tallies.specs.declared.week.Week.{Week}
 
 -- a table of zeros is a tally of no entries
-pub tally_none : (p : Problem) (n : ℕ) (chooses : ℕ → Cell → Bool) (w : Week) → w.grid.rows ≡ n → w.days ≡ p.days → w.periods ≡ p.periods → ((i d s : ℕ) → in_period w i d s ≡ 0) → IsTally p n chooses [] w
+pub tally_none : (p : Problem) (n : ℕ) (chooses : ℕ → Cell → Bool) (w : Week) → w.grid.rows ≡ n → w.days ≡ p.days
+    → w.periods ≡ p.periods → ((i d s : ℕ) → in_period w i d s ≡ 0) → IsTally p n chooses [] w
 tally_none p n chooses w rows days periods zeros = record {
   rows = rows;
   days = days;
@@ -31,7 +32,12 @@ module _ (p : Problem) (n : ℕ) (chooses : ℕ → Cell → Bool) (t : List Cel
     tally_some ok r i h chosen =
         let test = λ (z : Cell). chooses i z && is_at (slot e.day e.period) z in
         let at = and_from (e.day == e.day) (e.period == e.period) (eq-eqb e.day e.day refl) (eq-eqb e.period e.period refl) in
-        omega (arith, ok.counts i e.day e.period h r.day r.period, count_by-cons test e t, one_if_true (test e) (and_from (chooses i e) (is_at (slot e.day e.period) e) chosen at))
+        omega (
+          arith,
+          ok.counts i e.day e.period h r.day r.period,
+          count_by-cons test e t,
+          one_if_true (test e) (and_from (chooses i e) (is_at (slot e.day e.period) e) chosen at),
+        )
 
     module _ (v : Week) (more : ℕ → ℕ → ℕ → ℕ) (same : (i d s : ℕ) → i < n → more i d s ≡ one_if (chooses i e && is_at (slot d s) e)) where
       -- a tally raised by one in each count of the entry is a tally of the list with the entry
@@ -40,7 +46,13 @@ module _ (p : Problem) (n : ℕ) (chooses : ℕ → Cell → Bool) (t : List Cel
         rows = m.rows ∙ ok.rows;
         days = m.days ∙ ok.days;
         periods = m.periods ∙ ok.periods;
-        counts = λ i d s h k l. omega (arith, m.counts i d s (subst (λ z. d < z) (sym ok.days) k) (subst (λ z. s < z) (sym ok.periods) l), ok.counts i d s h k l, same i d s h, count_by-cons (λ z. chooses i z && is_at (slot d s) z) e t);
+        counts = λ i d s h k l. omega (
+          arith,
+          m.counts i d s (subst (λ z. d < z) (sym ok.days) k) (subst (λ z. s < z) (sym ok.periods) l),
+          ok.counts i d s h k l,
+          same i d s h,
+          count_by-cons (λ z. chooses i z && is_at (slot d s) z) e t,
+        );
       }
 
       -- a tally lowered by one in each count of the entry is a tally of the list without it
@@ -52,5 +64,11 @@ module _ (p : Problem) (n : ℕ) (chooses : ℕ → Cell → Bool) (t : List Cel
             rows = sym m.rows ∙ ok.rows;
             days = days;
             periods = periods;
-            counts = λ i d s h k l. omega (arith, m.counts i d s (subst (λ z. d < z) (sym days) k) (subst (λ z. s < z) (sym periods) l), ok.counts i d s h k l, same i d s h, count_by-cons (λ z. chooses i z && is_at (slot d s) z) e t);
+            counts = λ i d s h k l. omega (
+              arith,
+              m.counts i d s (subst (λ z. d < z) (sym days) k) (subst (λ z. s < z) (sym periods) l),
+              ok.counts i d s h k l,
+              same i d s h,
+              count_by-cons (λ z. chooses i z && is_at (slot d s) z) e t,
+            );
           }

@@ -21,7 +21,8 @@ module _ {X : Type 0} where
       step (q x) (p x) refl ∙ ap (λ b. cond b (x ∷ filter p (filter q xs)) (filter p (filter q xs))) (same x)
       ∙ ap (λ z. cond (r x) (x ∷ z) z) (filter-filter p q r xs same)
     where
-      step : (a b : Bool) → p x ≡ b → filter p (cond a (x ∷ filter q xs) (filter q xs)) ≡ cond (a && b) (x ∷ filter p (filter q xs)) (filter p (filter q xs))
+      step : (a b : Bool) → p x ≡ b → filter p (cond a (x ∷ filter q xs) (filter q xs)) ≡ cond (a && b) (x ∷ filter p (filter q xs))
+          (filter p (filter q xs))
       step true true e = ap (λ c. cond c (x ∷ filter p (filter q xs)) (filter p (filter q xs))) e
       step true false e = ap (λ c. cond c (x ∷ filter p (filter q xs)) (filter p (filter q xs))) e
       step false b e = refl

@@ -56,7 +56,8 @@ one_before name m n fails other =
 -- ---- counts and filters
 
 -- how many elements pass a test that exactly the first k pass
-count_first : (p : ℕ → Bool) (xs : List ℕ) (k : ℕ) → k ≤ length xs → ((i : ℕ) → i < k → p (get_or xs i 0) ≡ true) → ((i : ℕ) → k ≤ i → i < length xs → p (get_or xs i 0) ≡ false) → count_by p xs ≡ k
+count_first : (p : ℕ → Bool) (xs : List ℕ) (k : ℕ) → k ≤ length xs → ((i : ℕ) → i < k → p (get_or xs i 0) ≡ true)
+    → ((i : ℕ) → k ≤ i → i < length xs → p (get_or xs i 0) ≡ false) → count_by p xs ≡ k
 count_first p [] k few passes fails = omega arith
 count_first p (x ∷ xs) zero few passes fails =
     omega (
@@ -80,12 +81,14 @@ filter_none p a (suc n) fails =
     ∙ filter_none p (a + 1) n (λ m h l. fails m (omega arith) (omega arith))
 
 -- the only number of a range that passes a test
-filter_one : (p : ℕ → Bool) (a n x : ℕ) → a ≤ x → x < a + n → p x ≡ true → ((m : ℕ) → a ≤ m → m < a + n → (m ≡ x → ⊥) → p m ≡ false) → filter p (range_with_len a n) ≡ x ∷ []
+filter_one : (p : ℕ → Bool) (a n x : ℕ) → a ≤ x → x < a + n → p x ≡ true → ((m : ℕ) → a ≤ m → m < a + n → (m ≡ x → ⊥) → p m ≡ false)
+    → filter p (range_with_len a n) ≡ x ∷ []
 filter_one p a zero x low high passes fails = absurd (omega arith)
 filter_one p a (suc n) x low high passes fails =
     elim (cases_eq a x) [
       | inl e ↦ here e
-      | inr e ↦ later e (filter_one p (a + 1) n x (omega (arith, low, e)) (omega (arith, high)) passes (λ m h l f. fails m (omega (arith, h)) (omega (arith, l)) f))
+      | inr e ↦ later e (filter_one p (a + 1) n x (omega (arith, low, e)) (omega (arith, high)) passes
+          (λ m h l f. fails m (omega (arith, h)) (omega (arith, l)) f))
     ]
   where
     here : a ≡ x → cond (p a) (a ∷ filter p (range_with_len (a + 1) n)) (filter p (range_with_len (a + 1) n)) ≡ x ∷ []
@@ -94,12 +97,15 @@ filter_one p a (suc n) x low high passes fails =
         ∙ ap (λ l. a ∷ l) (filter_none p (a + 1) n (λ m h l. fails m (omega (arith, h)) (omega (arith, l)) (λ f. omega (arith, e, f, h))))
         ∙ ap (λ m. m ∷ []) e
 
-    later : (a ≡ x → ⊥) → filter p (range_with_len (a + 1) n) ≡ x ∷ [] → cond (p a) (a ∷ filter p (range_with_len (a + 1) n)) (filter p (range_with_len (a + 1) n)) ≡ x ∷ []
+    later : (a ≡ x → ⊥) → filter p (range_with_len (a + 1) n) ≡ x ∷ [] → cond (p a) (a ∷ filter p (range_with_len (a + 1) n))
+        (filter p (range_with_len (a + 1) n)) ≡ x ∷ []
     later e rest =
-        ap (λ b. cond b (a ∷ filter p (range_with_len (a + 1) n)) (filter p (range_with_len (a + 1) n))) (fails a (omega arith) (omega arith) e) ∙ rest
+        ap (λ b. cond b (a ∷ filter p (range_with_len (a + 1) n)) (filter p (range_with_len (a + 1) n)))
+        (fails a (omega arith) (omega arith) e) ∙ rest
 
 -- lists of one element each, joined
-join_places : (f : ℕ → List ℕ) (a : ℕ) (xs : List ℕ) → ((i : ℕ) → i < length xs → f (a + i) ≡ get_or xs i 0 ∷ []) → flat_map f (range_with_len a (length xs)) ≡ xs
+join_places : (f : ℕ → List ℕ) (a : ℕ) (xs : List ℕ) → ((i : ℕ) → i < length xs → f (a + i) ≡ get_or xs i 0 ∷ [])
+    → flat_map f (range_with_len a (length xs)) ≡ xs
 join_places f a [] at = refl
 join_places f a (x ∷ xs) at =
     ap (λ l. l ++ flat_map f (range_with_len (a + 1) (length xs))) here
@@ -113,15 +119,23 @@ join_places f a (x ∷ xs) at =
 distinct_range : (n : ℕ) → IsDistinct eqb (range_below n)
 distinct_range n = IsDistinct-from_apart eqb (range_below n)
     (λ i j d h l. let size = length-range_with_len 0 n in
-    ne_eqb _ _ (λ e. omega (arith, e, size, get_or-range_with_len 0 n i d (omega (arith, h, l, size)), get_or-range_with_len 0 n j d (omega (arith, l, size)))))
+    ne_eqb _ _ (λ e. omega (
+      arith,
+      e,
+      size,
+      get_or-range_with_len 0 n i d (omega (arith, h, l, size)),
+      get_or-range_with_len 0 n j d (omega (arith, l, size)),
+    )))
 
-module _ (name : ℕ → List ℕ) (n : ℕ) (xs : List ℕ) (all : IsPermutation (range_below n) xs) (up : IsSortedBy (λ a b. is_lt (by_name name a b)) xs) where
+module _ (name : ℕ → List ℕ) (n : ℕ) (xs : List ℕ) (all : IsPermutation (range_below n) xs)
+    (up : IsSortedBy (λ a b. is_lt (by_name name a b)) xs) where
   size : length xs ≡ n
   size = length_permutation (range_below n) xs all ∙ length-range_with_len 0 n
 
   apart : (i j : ℕ) → i < j → j < length xs → get_or xs i 0 ≡ get_or xs j 0 → ⊥
   apart i j h l e =
-      let differ = apart_from_distinct eqb xs i j 0 (IsDistinct-IsPermutation eqb test_turned (range_below n) xs all (distinct_range n)) h l in
+      let differ = apart_from_distinct eqb xs i j 0 (IsDistinct-IsPermutation eqb test_turned (range_below n) xs all (distinct_range n))
+      h l in
       absurd (cc (differ, eq-eqb (get_or xs i 0) (get_or xs j 0) e))
 
   earlier : (i j : ℕ) → i < j → j < length xs → is_lt (by_name name (get_or xs i 0) (get_or xs j 0)) ≡ true
@@ -148,11 +162,13 @@ module _ (name : ℕ → List ℕ) (n : ℕ) (xs : List ℕ) (all : IsPermutatio
       sym same ∙ ap (λ i. get_or xs i 0) there
 
   below : (k : ℕ) → k < length xs → get_or xs k 0 < n
-  below k h = below_member n (get_or xs k 0) (Contains-permutation xs (range_below n) (get_or xs k 0) (IsPermutation-sym (range_below n) xs all) (Contains-get_or xs k 0 h))
+  below k h = below_member n (get_or xs k 0)
+      (Contains-permutation xs (range_below n) (get_or xs k 0) (IsPermutation-sym (range_below n) xs all) (Contains-get_or xs k 0 h))
 
   at_place : (k : ℕ) → k < length xs → filter (λ m. place_of name n m == k) (range_below n) ≡ get_or xs k 0 ∷ []
   at_place k h =
-      filter_one (λ m. place_of name n m == k) 0 n (get_or xs k 0) zero-le (omega (arith, below k h)) (eq-eqb (place_of name n (get_or xs k 0)) k (place k h))
+      filter_one (λ m. place_of name n m == k) 0 n (get_or xs k 0) zero-le (omega (arith, below k h))
+      (eq-eqb (place_of name n (get_or xs k 0)) k (place k h))
       (λ m z l f. ne_eqb (place_of name n m) k (λ e. f (only k m h (omega (arith, l)) e)))
 
   pub sorted_is : in_order name n ≡ xs
@@ -165,7 +181,8 @@ module _ (name : ℕ → List ℕ) (n : ℕ) (xs : List ℕ) (all : IsPermutatio
 -- ---- numbers with their names
 
 module _ {B : Type 0} (text : B → List ℕ) (name : ℕ → List ℕ) where
-  numbers_sorted : (ps : List (B × ℕ)) → All (λ x. text x.0 ≡ name x.1) ps → IsSortedBy (λ x y. is_lt (ordering_then (slice_cmp nat_cmp (text x.0) (text y.0)) (nat_cmp x.1 y.1))) ps
+  numbers_sorted : (ps : List (B × ℕ)) → All (λ x. text x.0 ≡ name x.1) ps
+      → IsSortedBy (λ x y. is_lt (ordering_then (slice_cmp nat_cmp (text x.0) (text y.0)) (nat_cmp x.1 y.1))) ps
       → IsSortedBy (λ a b. is_lt (by_name name a b)) (map (λ x. x.1) ps)
   numbers_sorted [] named up k d z h = absurd (omega arith)
   numbers_sorted (p ∷ ps) named up k d z h =
@@ -180,7 +197,8 @@ module _ {B : Type 0} (text : B → List ℕ) (name : ℕ → List ℕ) where
       ∙ up k p z within
 
   -- another number and its name
-  pub named_more : (old new : List (B × ℕ)) (x : B) (i : ℕ) → new ≡ old ++ (x, i) ∷ [] → text x ≡ name i → map (λ y. y.1) old ≡ range_below i → All (λ y. text y.0 ≡ name y.1) old
+  pub named_more : (old new : List (B × ℕ)) (x : B) (i : ℕ) → new ≡ old ++ (x, i) ∷ [] → text x ≡ name i
+      → map (λ y. y.1) old ≡ range_below i → All (λ y. text y.0 ≡ name y.1) old
       → (map (λ y. y.1) new ≡ range_below (i + 1)) × All (λ y. text y.0 ≡ name y.1) new
   named_more old new x i pushed own numbers named = (
     ap (map (λ y. y.1)) pushed ∙ map-append (λ y. y.1) old ((x, i) ∷ []) ∙ ap (λ l. l ++ i ∷ []) numbers ∙ sym (range_below_more i),
@@ -188,8 +206,10 @@ module _ {B : Type 0} (text : B → List ℕ) (name : ℕ → List ℕ) where
   )
 
   -- numbers and their names, sorted
-  pub sorted_in_order : (n : ℕ) (old new : List (B × ℕ)) → map (λ x. x.1) old ≡ range_below n → All (λ x. text x.0 ≡ name x.1) old → IsPermutation old new
-      → IsSortedBy (λ x y. is_lt (ordering_then (slice_cmp nat_cmp (text x.0) (text y.0)) (nat_cmp x.1 y.1))) new → map (λ x. x.1) new ≡ in_order name n
+  pub sorted_in_order : (n : ℕ) (old new : List (B × ℕ)) → map (λ x. x.1) old ≡ range_below n → All (λ x. text x.0 ≡ name x.1) old
+      → IsPermutation old new
+      → IsSortedBy (λ x y. is_lt (ordering_then (slice_cmp nat_cmp (text x.0) (text y.0)) (nat_cmp x.1 y.1))) new
+      → map (λ x. x.1) new ≡ in_order name n
   sorted_in_order n old new numbers named moved up =
       sym (sorted_is name n (map (λ x. x.1) new)
       (subst (λ l. IsPermutation l (map (λ x. x.1) new)) numbers (IsPermutation-map (λ x. x.1) old new moved))
@@ -205,4 +225,5 @@ in_order-below name n =
     (each_flat (λ k. k < n) (λ k. filter (λ m. place_of name n m == k) (range_below n)) (range_below n)
     (each (λ k. AllByRecursion (λ m. m < n) (filter (λ m. place_of name n m == k) (range_below n)))
     (λ k. recursion_from_All (λ m. m < n) (filter (λ m. place_of name n m == k) (range_below n))
-    (All-filter (λ m. place_of name n m == k) (λ m. m < n) (range_below n) (All-from_recursion (λ m. m < n) (range_below n) (each_below (λ m. m < n) n (λ m l. l))))) (range_below n)))
+    (All-filter (λ m. place_of name n m == k) (λ m. m < n) (range_below n)
+    (All-from_recursion (λ m. m < n) (range_below n) (each_below (λ m. m < n) n (λ m l. l))))) (range_below n)))

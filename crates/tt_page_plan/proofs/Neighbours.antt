@@ -35,26 +35,32 @@ module _ (p : Problem) (chosen : Cell → Bool) (t : List Cell) (e : Cell) where
   pub none_before : e.period ≡ 0 → list_any (λ x. chosen x && is_right_before e x) t ≡ false
   none_before first =
       list_any-same (λ x. chosen x && is_right_before e x) (λ x. false) t
-      (λ x. ap (λ b. chosen x && ((x.day == e.day) && b)) (ne_eqb (x.period + 1) e.period (λ same. omega (arith, same, first))) ∙ neither (chosen x) (x.day == e.day))
+      (λ x. ap (λ b. chosen x && ((x.day == e.day) && b)) (ne_eqb (x.period + 1) e.period (λ same. omega (arith, same, first)))
+      ∙ neither (chosen x) (x.day == e.day))
       ∙ none_pass t
 
-  pub right_before : 0 < e.period → list_any (λ x. chosen x && is_at (slot e.day (e.period - 1)) x) t ≡ list_any (λ x. chosen x && is_right_before e x) t
+  pub right_before : 0 < e.period → list_any (λ x. chosen x && is_at (slot e.day (e.period - 1)) x) t ≡ list_any
+      (λ x. chosen x && is_right_before e x) t
   right_before some =
       list_any-same (λ x. chosen x && is_at (slot e.day (e.period - 1)) x) (λ x. chosen x && is_right_before e x) t
-      (λ x. ap (λ b. chosen x && ((x.day == e.day) && b)) (same_test x.period (e.period - 1) (x.period + 1) e.period (λ h. omega (arith, h, some)) (λ h. omega (arith, h, some))))
+      (λ x. ap (λ b. chosen x && ((x.day == e.day) && b))
+      (same_test x.period (e.period - 1) (x.period + 1) e.period (λ h. omega (arith, h, some)) (λ h. omega (arith, h, some))))
 
   -- no entry comes after the last period
   pub none_after : All (InRange p) t → e.period + 1 ≡ p.periods → list_any (λ x. chosen x && is_right_after e x) t ≡ false
   none_after ok last =
       list_any-same_at (InRange p) (λ x. chosen x && is_right_after e x) (λ x. false) t ok
-      (λ x within. ap (λ b. chosen x && ((x.day == e.day) && b)) (ne_eqb x.period (e.period + 1) (λ same. omega (arith, same, last, within.period))) ∙ neither (chosen x) (x.day == e.day))
+      (λ x within. ap (λ b. chosen x && ((x.day == e.day) && b))
+      (ne_eqb x.period (e.period + 1) (λ same. omega (arith, same, last, within.period))) ∙ neither (chosen x) (x.day == e.day))
       ∙ none_pass t
 
   -- an entry is alone exactly if no entry is before it and none is after it
-  pub alone : not (list_any (λ x. chosen x && next_to (slot_of x) (slot_of e)) t) ≡ (not (list_any (λ x. chosen x && is_right_before e x) t) && not (list_any (λ x. chosen x && is_right_after e x) t))
+  pub alone : not (list_any (λ x. chosen x && next_to (slot_of x) (slot_of e)) t) ≡
+      (not (list_any (λ x. chosen x && is_right_before e x) t) && not (list_any (λ x. chosen x && is_right_after e x) t))
   alone =
       ap not
-      (list_any-same (λ x. chosen x && next_to (slot_of x) (slot_of e)) (λ x. (chosen x && is_right_before e x) || (chosen x && is_right_after e x)) t
+      (list_any-same (λ x. chosen x && next_to (slot_of x) (slot_of e))
+      (λ x. (chosen x && is_right_before e x) || (chosen x && is_right_after e x)) t
       (λ x. parted (chosen x) (x.day == e.day) (x.period == e.period + 1) (x.period + 1 == e.period))
       ∙ list_any-or (λ x. chosen x && is_right_before e x) (λ x. chosen x && is_right_after e x) t)
       ∙ both_fail (list_any (λ x. chosen x && is_right_before e x) t) (list_any (λ x. chosen x && is_right_after e x) t)

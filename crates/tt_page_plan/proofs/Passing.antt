@@ -23,12 +23,14 @@ module _ {X : Type 0} (p : X → Bool) where
 
 -- ---- numbers that pass a test
 
-pub number_kept : (p : ℕ → Bool) (i : ℕ) (old new : List ℕ) → p i ≡ true → old ≡ filter p (range_below i) → new ≡ old ++ i ∷ [] → new ≡ filter p (range_below (i + 1))
+pub number_kept : (p : ℕ → Bool) (i : ℕ) (old new : List ℕ) → p i ≡ true → old ≡ filter p (range_below i) → new ≡ old ++ i ∷ []
+    → new ≡ filter p (range_below (i + 1))
 number_kept p i old new pass before more =
     more ∙ ap (λ z. z ++ i ∷ []) before ∙ ap (λ z. filter p (range_below i) ++ z) (sym (kept p i [] pass))
     ∙ sym (filter-append p (range_below i) (i ∷ [])) ∙ ap (filter p) (sym (range_below_more i))
 
-pub number_left_out : (p : ℕ → Bool) (i : ℕ) (old : List ℕ) → p i ≡ false → old ≡ filter p (range_below i) → old ≡ filter p (range_below (i + 1))
+pub number_left_out : (p : ℕ → Bool) (i : ℕ) (old : List ℕ) → p i ≡ false → old ≡ filter p (range_below i)
+    → old ≡ filter p (range_below (i + 1))
 number_left_out p i old fail before =
     before ∙ sym (append-nil (filter p (range_below i))) ∙ ap (λ z. filter p (range_below i) ++ z) (sym (left_out p i [] fail))
     ∙ sym (filter-append p (range_below i) (i ∷ [])) ∙ ap (filter p) (sym (range_below_more i))
@@ -37,5 +39,7 @@ number_left_out p i old fail before =
 
 pub own_courses_there : (p : Problem) (kind : Kind) (n : ℕ) → All (λ c. c < length p.courses) (own_courses p kind n)
 own_courses_there p Room r = All-nil (λ c. c < length p.courses)
-own_courses_there p Teacher k = All-filter (λ c. teacher_of p c == k) (λ c. c < length p.courses) (all_courses p) (each_below (length p.courses))
-own_courses_there p Curriculum q = All-filter (in_curriculum p q) (λ c. c < length p.courses) (all_courses p) (each_below (length p.courses))
+own_courses_there p Teacher k = All-filter (λ c. teacher_of p c == k) (λ c. c < length p.courses) (all_courses p)
+    (each_below (length p.courses))
+own_courses_there p Curriculum q = All-filter (in_curriculum p q) (λ c. c < length p.courses) (all_courses p)
+    (each_below (length p.courses))

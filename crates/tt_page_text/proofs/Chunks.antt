@@ -27,7 +27,10 @@ letters-append : (xs ys : List ℕ) → IsUtf8 xs → letters_text (xs ++ ys) �
 letters-append xs ys utf8 = ap (flat_map letter_text) (chars-append xs ys utf8) ∙ flat_map-append letter_text (chars xs) (chars ys)
 
 -- a chunk with bytes that are no text was put
-pub chunk_put : (first s t u : PageState) (rest valid more : List ℕ) → IsUtf8 valid → utf8_lossy rest ≡ valid ++ (replacement_bytes ++ utf8_lossy more) → t ≡ put_text s (letters_text valid) → u ≡ put_text t (letter_text unshown) → put_text s (letters_text (utf8_lossy rest)) ≡ first → put_text u (letters_text (utf8_lossy more)) ≡ first
+pub chunk_put : (first s t u : PageState) (rest valid more : List ℕ) → IsUtf8 valid
+    → utf8_lossy rest ≡ valid ++ (replacement_bytes ++ utf8_lossy more) → t ≡ put_text s (letters_text valid)
+    → u ≡ put_text t (letter_text unshown) → put_text s (letters_text (utf8_lossy rest)) ≡ first
+    → put_text u (letters_text (utf8_lossy more)) ≡ first
 chunk_put first s t u rest valid more utf8 is h k before =
     let a = letters_text valid in
     let b = letter_text unshown in
@@ -38,7 +41,9 @@ chunk_put first s t u rest valid more utf8 is h k before =
     ap (λ v. put_text v z) (then_put s t u a b h k) ∙ put_twice s (a ++ b) z ∙ ap (put_text s) (sym whole) ∙ before
 
 -- the last chunk was put, which is text
-pub last_chunk_put : (first s t : PageState) (rest valid more : List ℕ) → IsUtf8 valid → utf8_lossy rest ≡ valid ++ utf8_lossy more → t ≡ put_text s (letters_text valid) → put_text s (letters_text (utf8_lossy rest)) ≡ first → put_text t (letters_text (utf8_lossy more)) ≡ first
+pub last_chunk_put : (first s t : PageState) (rest valid more : List ℕ) → IsUtf8 valid → utf8_lossy rest ≡ valid ++ utf8_lossy more
+    → t ≡ put_text s (letters_text valid) → put_text s (letters_text (utf8_lossy rest)) ≡ first
+    → put_text t (letters_text (utf8_lossy more)) ≡ first
 last_chunk_put first s t rest valid more utf8 is h before =
     let z = letters_text (utf8_lossy more) in
     let whole = ap letters_text is ∙ letters-append valid (utf8_lossy more) utf8 in
@@ -47,4 +52,5 @@ last_chunk_put first s t rest valid more utf8 is h before =
 -- all chunks were put
 pub chunks_put : (first s : PageState) (rest : List ℕ) → length rest ≡ 0 → put_text s (letters_text (utf8_lossy rest)) ≡ first → s ≡ first
 chunks_put first s rest none before =
-    sym (put_nothing s) ∙ ap (put_text s) (sym (ap letters_text (utf8_lossy_empty rest none) ∙ ap (flat_map letter_text) chars-nil)) ∙ before
+    sym (put_nothing s) ∙ ap (put_text s) (sym (ap letters_text (utf8_lossy_empty rest none) ∙ ap (flat_map letter_text) chars-nil))
+    ∙ before

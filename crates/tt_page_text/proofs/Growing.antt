@@ -25,7 +25,8 @@ drop_across (suc n) (c ∷ x) y =
     drop_across n x y ∙ ap (λ k. drop n x ++ drop k y) same
 
 -- two parts that are taken in turn, each as far as there is room
-taken_in_turn : (size : ℕ) (bytes a r : List ℕ) → (bytes ++ take (size - length bytes) a) ++ take (size - length (bytes ++ take (size - length bytes) a)) r ≡ bytes ++ take (size - length bytes) (a ++ r)
+taken_in_turn : (size : ℕ) (bytes a r : List ℕ) → (bytes ++ take (size - length bytes) a) ++ take
+    (size - length (bytes ++ take (size - length bytes) a)) r ≡ bytes ++ take (size - length bytes) (a ++ r)
 taken_in_turn size bytes a r =
     let n = size - length bytes in
     let rest : size - length (bytes ++ take n a) ≡ n - length a = omega (arith, length-append bytes (take n a), length-take n a) in
@@ -37,7 +38,8 @@ taken_nothing : (s : PageState) → take_in s [] ≡ s
 taken_nothing s =
     let before : s.before - 0 ≡ s.before = omega arith in
     let left : s.left - 0 ≡ s.left = omega arith in
-    let none : take (s.size - length s.bytes) (drop s.before []) ≡ [] = ap (take (s.size - length s.bytes)) (drop_all {X = ℕ} s.before [] (omega arith)) ∙ take_all {A = ℕ} (s.size - length s.bytes) [] (omega arith) in
+    let none : take (s.size - length s.bytes) (drop s.before []) ≡ [] = ap (take (s.size - length s.bytes))
+    (drop_all {X = ℕ} s.before [] (omega arith)) ∙ take_all {A = ℕ} (s.size - length s.bytes) [] (omega arith) in
     let bytes : s.bytes ++ take (s.size - length s.bytes) (drop s.before []) ≡ s.bytes = ap (λ z. s.bytes ++ z) none ∙ append-nil s.bytes in
     λ i. record { before = before i; size = s.size; left = left i; bytes = bytes i }
 
@@ -46,7 +48,8 @@ taken_twice s x y =
     let before : (s.before - length x) - length y ≡ s.before - length (x ++ y) = omega (arith, length-append x y) in
     let left : (s.left - length x) - length y ≡ s.left - length (x ++ y) = omega (arith, length-append x y) in
     let n = s.size - length s.bytes in
-    let bytes = taken_in_turn s.size s.bytes (drop s.before x) (drop (s.before - length x) y) ∙ ap (λ z. s.bytes ++ take n z) (sym (drop_across s.before x y)) in
+    let bytes = taken_in_turn s.size s.bytes (drop s.before x) (drop (s.before - length x) y)
+    ∙ ap (λ z. s.bytes ++ take n z) (sym (drop_across s.before x y)) in
     λ i. record { before = before i; size = s.size; left = left i; bytes = bytes i }
 
 -- ---- texts that are put
@@ -76,40 +79,50 @@ then_put first s t x y h k = k ∙ ap (λ z. put_text z y) h ∙ put_twice first
 
 -- ---- the texts of elements
 
-one_more : {X : Type 0} (f : X → List ℕ) (xs : List X) (i : ℕ) (d : X) → i < length xs → flat_map f (take (i + 1) xs) ≡ flat_map f (take i xs) ++ f (get_or xs i d)
+one_more : {X : Type 0} (f : X → List ℕ) (xs : List X) (i : ℕ) (d : X) → i < length xs → flat_map f (take (i + 1) xs) ≡ flat_map f
+    (take i xs) ++ f (get_or xs i d)
 one_more f xs i d h =
-    ap (flat_map f) (take_more xs i d h) ∙ flat_map-append f (take i xs) (get_or xs i d ∷ []) ∙ ap (λ z. flat_map f (take i xs) ++ z) (append-nil (f (get_or xs i d)))
+    ap (flat_map f) (take_more xs i d h) ∙ flat_map-append f (take i xs) (get_or xs i d ∷ []) ∙ ap (λ z. flat_map f (take i xs) ++ z)
+    (append-nil (f (get_or xs i d)))
 
 -- a text is extended by that of another element
-pub taken_further : {X : Type 0} (f : X → List ℕ) (xs : List X) (i : ℕ) (d : X) (first old new : PageState) → i < length xs → old ≡ put_text first (flat_map f (take i xs)) → new ≡ put_text old (f (get_or xs i d)) → new ≡ put_text first (flat_map f (take (i + 1) xs))
+pub taken_further : {X : Type 0} (f : X → List ℕ) (xs : List X) (i : ℕ) (d : X) (first old new : PageState) → i < length xs
+    → old ≡ put_text first (flat_map f (take i xs)) → new ≡ put_text old (f (get_or xs i d))
+    → new ≡ put_text first (flat_map f (take (i + 1) xs))
 taken_further f xs i d first old new h before more =
     then_put first old new (flat_map f (take i xs)) (f (get_or xs i d)) before more ∙ ap (put_text first) (sym (one_more f xs i d h))
 
 texts_more : (f : ℕ → List ℕ) (i : ℕ) → flat_map f (range_below (i + 1)) ≡ flat_map f (range_below i) ++ f i
 texts_more f i =
-    ap (flat_map f) (range_below_more i) ∙ flat_map-append f (range_below i) (i ∷ []) ∙ ap (λ z. flat_map f (range_below i) ++ z) (append-nil (f i))
+    ap (flat_map f) (range_below_more i) ∙ flat_map-append f (range_below i) (i ∷ []) ∙ ap (λ z. flat_map f (range_below i) ++ z)
+    (append-nil (f i))
 
 -- a text is extended by that of another number
-pub text_further : (f : ℕ → List ℕ) (i : ℕ) (first old new : PageState) → old ≡ put_text first (flat_map f (range_below i)) → new ≡ put_text old (f i) → new ≡ put_text first (flat_map f (range_below (i + 1)))
+pub text_further : (f : ℕ → List ℕ) (i : ℕ) (first old new : PageState) → old ≡ put_text first (flat_map f (range_below i))
+    → new ≡ put_text old (f i) → new ≡ put_text first (flat_map f (range_below (i + 1)))
 text_further f i first old new before more =
     then_put first old new (flat_map f (range_below i)) (f i) before more ∙ ap (put_text first) (sym (texts_more f i))
 
 -- if no byte is left, the texts of the elements that follow change nothing
-pub taken_full : {X : Type 0} (f : X → List ℕ) (xs : List X) (i : ℕ) (first s : PageState) → s ≡ put_text first (flat_map f (take i xs)) → s.left ≡ 0 → s ≡ put_text first (flat_map f xs)
+pub taken_full : {X : Type 0} (f : X → List ℕ) (xs : List X) (i : ℕ) (first s : PageState) → s ≡ put_text first (flat_map f (take i xs))
+    → s.left ≡ 0 → s ≡ put_text first (flat_map f xs)
 taken_full f xs i first s before full =
     sym (put_full s (flat_map f (drop i xs)) full)
     ∙ then_put first s (put_text s (flat_map f (drop i xs))) (flat_map f (take i xs)) (flat_map f (drop i xs)) before refl
     ∙ ap (put_text first) (sym (flat_map-append f (take i xs) (drop i xs)) ∙ ap (flat_map f) (take-append-drop i xs))
 
-texts_full : (f : ℕ → List ℕ) (i k : ℕ) (first s : PageState) → s ≡ put_text first (flat_map f (range_below i)) → s.left ≡ 0 → s ≡ put_text first (flat_map f (range_below (i + k)))
-texts_full f i zero first s before full = let same : i ≡ i + 0 = omega arith in before ∙ ap (λ k. put_text first (flat_map f (range_below k))) same
+texts_full : (f : ℕ → List ℕ) (i k : ℕ) (first s : PageState) → s ≡ put_text first (flat_map f (range_below i)) → s.left ≡ 0
+    → s ≡ put_text first (flat_map f (range_below (i + k)))
+texts_full f i zero first s before full = let same : i ≡ i + 0 = omega arith in before
+    ∙ ap (λ k. put_text first (flat_map f (range_below k))) same
 texts_full f i (suc k) first s before full =
     let next : (i + k) + 1 ≡ i + suc k = omega arith in
     text_further f (i + k) first s s (texts_full f i k first s before full) (sym (put_full s (f (i + k)) full))
     ∙ ap (λ k. put_text first (flat_map f (range_below k))) next
 
 -- if no byte is left, the texts of the numbers that follow change nothing
-pub text_full : (f : ℕ → List ℕ) (i n : ℕ) (first s : PageState) → i ≤ n → s ≡ put_text first (flat_map f (range_below i)) → s.left ≡ 0 → s ≡ put_text first (flat_map f (range_below n))
+pub text_full : (f : ℕ → List ℕ) (i n : ℕ) (first s : PageState) → i ≤ n → s ≡ put_text first (flat_map f (range_below i)) → s.left ≡ 0
+    → s ≡ put_text first (flat_map f (range_below n))
 text_full f i n first s within before full =
     let whole : i + (n - i) ≡ n = omega arith in
     texts_full f i (n - i) first s before full ∙ ap (λ k. put_text first (flat_map f (range_below k))) whole
@@ -118,6 +131,8 @@ text_full f i n first s within before full =
 pub ruleset puts = (put_twice, put_nothing, append_assoc, append-nil, take_all, take_at_read, flat_map-append, range_below_more)
 
 -- the text of the first of the elements that are left is put before those of the others
-pub text_ahead : {X : Type 0} (f : X → List ℕ) (x : X) (xs left : List X) (first old new : PageState) → left ≡ x ∷ xs → new ≡ put_text old (f x) → put_text old (flat_map f left) ≡ first → put_text new (flat_map f xs) ≡ first
+pub text_ahead : {X : Type 0} (f : X → List ℕ) (x : X) (xs left : List X) (first old new : PageState) → left ≡ x ∷ xs
+    → new ≡ put_text old (f x) → put_text old (flat_map f left) ≡ first → put_text new (flat_map f xs) ≡ first
 text_ahead f x xs left first old new is more before =
-    ap (λ z. put_text z (flat_map f xs)) more ∙ put_twice old (f x) (flat_map f xs) ∙ ap (λ es. put_text old (flat_map f es)) (sym is) ∙ before
+    ap (λ z. put_text z (flat_map f xs)) more ∙ put_twice old (f x) (flat_map f xs) ∙ ap (λ es. put_text old (flat_map f es)) (sym is)
+    ∙ before

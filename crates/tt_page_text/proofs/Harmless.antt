@@ -17,8 +17,11 @@ use Rattle.tt_page_text.specs.Shown.{is_markup, letter_text, shown, unshown, IsH
 module _ (P : List ℕ → Type 0)
     (amp : P (codes "&amp;")) (lt : P (codes "&lt;")) (gt : P (codes "&gt;")) (quot : P (codes "&quot;")) (apos : P (codes "&#39;"))
     (plain : (d : ℕ) → IsScalar d → is_markup d ≡ false → is_control d ≡ false → P (encode_utf8 d)) where
-  by_tests : (c : ℕ) (a b d e f g : Bool) → IsScalar c → (c == 38) ≡ a → (c == 60) ≡ b → (c == 62) ≡ d → (c == 34) ≡ e → (c == 39) ≡ f → is_control c ≡ g
-      → P (cond a (codes "&amp;") (cond b (codes "&lt;") (cond d (codes "&gt;") (cond e (codes "&quot;") (cond f (codes "&#39;") (cond g (encode_utf8 unshown) (encode_utf8 c)))))))
+  by_tests : (c : ℕ) (a b d e f g : Bool) → IsScalar c → (c == 38) ≡ a → (c == 60) ≡ b → (c == 62) ≡ d → (c == 34) ≡ e → (c == 39) ≡ f
+      → is_control c ≡ g
+      → P (cond a (codes "&amp;")
+      (cond b (codes "&lt;")
+      (cond d (codes "&gt;") (cond e (codes "&quot;") (cond f (codes "&#39;") (cond g (encode_utf8 unshown) (encode_utf8 c)))))))
   by_tests c true b d e f g scalar h i j k l m = amp
   by_tests c false true d e f g scalar h i j k l m = lt
   by_tests c false false true e f g scalar h i j k l m = gt
@@ -36,7 +39,8 @@ harmless_letters [] ok = tt
 harmless_letters (c ∷ cs) ok =
     let parts = and_parts _ _ ok in (
       of_letter IsHarmlessPiece (inr refl) (inr refl) (inr refl) (inr refl) (inr refl)
-          (λ d scalar markup control. inl (record { letter = d; scalar = scalar; no_markup = markup; no_control = control; spelled = refl })) c parts.0,
+          (λ d scalar markup control. inl
+          (record { letter = d; scalar = scalar; no_markup = markup; no_control = control; spelled = refl })) c parts.0,
       harmless_letters cs parts.1,
     )
 
@@ -53,7 +57,9 @@ utf8_letters : (cs : List ℕ) → all_scalars cs ≡ true → IsUtf8 (flat_map 
 utf8_letters [] ok = IsUtf8-nil
 utf8_letters (c ∷ cs) ok =
     let parts = and_parts _ _ ok in
-    IsUtf8-append (letter_text c) (flat_map letter_text cs) (of_letter IsUtf8 (ascii (codes "&amp;") refl) (ascii (codes "&lt;") refl) (ascii (codes "&gt;") refl) (ascii (codes "&quot;") refl) (ascii (codes "&#39;") refl) (λ d scalar markup control. IsUtf8-encode d scalar) c parts.0) (utf8_letters cs parts.1)
+    IsUtf8-append (letter_text c) (flat_map letter_text cs) (of_letter IsUtf8 (ascii (codes "&amp;") refl) (ascii (codes "&lt;") refl)
+    (ascii (codes "&gt;") refl) (ascii (codes "&quot;") refl) (ascii (codes "&#39;") refl)
+    (λ d scalar markup control. IsUtf8-encode d scalar) c parts.0) (utf8_letters cs parts.1)
 
 scalars_of : (bs : List ℕ) → IsUtf8 bs → all_scalars (chars bs) ≡ true
 scalars_of bs utf8 = ap all_scalars (ap chars (sym utf8.1.1) ∙ chars-encodes utf8.0 utf8.1.0) ∙ utf8.1.0
@@ -63,8 +69,10 @@ scalars_of bs utf8 = ap all_scalars (ap chars (sym utf8.1.1) ∙ chars-encodes u
 front_utf8 : (bs : List ℕ) (m : ℕ) → IsUtf8 (take (valid_len_up_to bs m) bs)
 front_utf8 bs zero = IsUtf8-nil
 front_utf8 bs (suc m) = ⊎_elim
-    (λ yes. subst (λ n. IsUtf8 (take n bs)) (sym (cond-true (is_utf8 (take (suc m) bs)) (suc m) (valid_len_up_to bs m) yes)) (IsUtf8-from_is_utf8 (take (suc m) bs) yes))
-    (λ no. subst (λ n. IsUtf8 (take n bs)) (sym (cond-false (is_utf8 (take (suc m) bs)) (suc m) (valid_len_up_to bs m) no)) (front_utf8 bs m))
+    (λ yes. subst (λ n. IsUtf8 (take n bs)) (sym (cond-true (is_utf8 (take (suc m) bs)) (suc m) (valid_len_up_to bs m) yes))
+    (IsUtf8-from_is_utf8 (take (suc m) bs) yes))
+    (λ no. subst (λ n. IsUtf8 (take n bs)) (sym (cond-false (is_utf8 (take (suc m) bs)) (suc m) (valid_len_up_to bs m) no))
+    (front_utf8 bs m))
     (cases_Bool (is_utf8 (take (suc m) bs)))
 
 valid_utf8 : (bs : List ℕ) → IsUtf8 (take (utf8_valid_len bs) bs)
@@ -88,7 +96,8 @@ lossy_utf8_within (suc n) bs short = ⊎_elim
     let shorter = length-after_first_chunk bs faulty in
     subst IsUtf8 (sym (utf8_lossy_step bs faulty))
     (IsUtf8-append (take (utf8_valid_len bs) bs) (replacement_bytes ++ utf8_lossy (after_first_chunk bs)) (valid_utf8 bs)
-    (IsUtf8-append replacement_bytes (utf8_lossy (after_first_chunk bs)) replacement_utf8 (lossy_utf8_within n (after_first_chunk bs) (omega arith)))))
+    (IsUtf8-append replacement_bytes (utf8_lossy (after_first_chunk bs)) replacement_utf8
+    (lossy_utf8_within n (after_first_chunk bs) (omega arith)))))
     (λ whole. whole_utf8 bs whole)
     (cases_lt (utf8_valid_len bs) (length bs))
 

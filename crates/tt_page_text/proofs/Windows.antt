@@ -8,7 +8,11 @@ use Rattle.tt_page_text.specs.Windowed.{PageState}
 use Rattle.tt_page_text.specs.declared.page_text.TheConstants.{MAX_PAGE_BYTES}
 
 -- the state after a token of which the part in the window was appended
-pub token_put : (s : PageState) (token taken behind seen bytes : List ℕ) (before left : ℕ) → taken ≡ take (min s.left (length token)) token → behind ≡ drop (min s.before (length taken)) taken → seen ≡ take (min (s.size - length s.bytes) (length behind)) behind → bytes ≡ s.bytes ++ seen → before ≡ s.before - length taken → left ≡ s.left - length taken → (let t : PageState = record { before = before; size = s.size; left = left; bytes = bytes } in t) ≡ put_text s token
+pub token_put : (s : PageState) (token taken behind seen bytes : List ℕ) (before left : ℕ)
+    → taken ≡ take (min s.left (length token)) token → behind ≡ drop (min s.before (length taken)) taken
+    → seen ≡ take (min (s.size - length s.bytes) (length behind)) behind → bytes ≡ s.bytes ++ seen → before ≡ s.before - length taken
+    → left ≡ s.left - length taken → (let t : PageState = record { before = before; size = s.size; left = left; bytes = bytes } in t)
+    ≡ put_text s token
 unfolding put_text
 token_put s token taken behind seen bytes before left part h k is b l =
     let whole : taken ≡ take s.left token = part ∙ take_min s.left token in
@@ -24,8 +28,10 @@ unfolding put_text
 bytes_put from size left text = let all : size - 0 ≡ size = omega arith in ap (λ k. take k (drop from (take left text))) all
 
 -- the bytes in a window, if all of the text is taken
-pub bytes_of_all : (from size left : ℕ) (text : List ℕ) → length text ≤ left → (put_text (window from size left) text).bytes ≡ take size (drop from text)
-bytes_of_all from size left text within = bytes_put from size left text ∙ ap (λ (z : List ℕ). take size (drop from z)) (take_all left text within)
+pub bytes_of_all : (from size left : ℕ) (text : List ℕ) → length text ≤ left → (put_text (window from size left) text).bytes ≡ take size
+    (drop from text)
+bytes_of_all from size left text within = bytes_put from size left text ∙ ap (λ (z : List ℕ). take size (drop from z))
+    (take_all left text within)
 
 -- the bytes in a window, if the text is taken up to the window's end
 pub bytes_to_end : (from size : ℕ) (text : List ℕ) → (put_text (window from size (from + size)) text).bytes ≡ take size (drop from text)
@@ -38,7 +44,8 @@ unfolding put_text
 size_put s text = refl
 
 -- the number of bytes of a text that isn't too large
-total_within : (from size : ℕ) (text : List ℕ) → length text ≤ MAX_PAGE_BYTES → total_of (put_text (window from size too_many) text) ≡ Some (length text)
+total_within : (from size : ℕ) (text : List ℕ) → length text ≤ MAX_PAGE_BYTES → total_of (put_text (window from size too_many) text)
+    ≡ Some (length text)
 unfolding put_text
 total_within from size text within =
     let taken = length-take too_many text in
@@ -54,7 +61,8 @@ total_beyond from size text beyond =
     cond-true _ _ _ (eq-eqb (too_many - length (take too_many text)) 0 none)
 
 -- a number of bytes is that of the text, which isn't too large
-pub total_some : (from size : ℕ) (text : List ℕ) (n : ℕ) → total_of (put_text (window from size too_many) text) ≡ Some n → (n ≡ length text) × (length text ≤ MAX_PAGE_BYTES)
+pub total_some : (from size : ℕ) (text : List ℕ) (n : ℕ) → total_of (put_text (window from size too_many) text) ≡ Some n
+    → (n ≡ length text) × (length text ≤ MAX_PAGE_BYTES)
 total_some from size text n is = ⊎_elim
     (λ (beyond : IsTooLarge text). let none = total_beyond from size text beyond in cc)
     (λ within. let some = total_within from size text within in (cc, within))

@@ -18,8 +18,11 @@ joined [] x = refl
 joined (y ∷ ys) x = ap (λ l. y.items ∷ l) (joined ys x)
 
 -- another source
-pub sources_more : {A : Type 0} (proofs : List (Vec ℕ A)) (i : ℕ) (d : Vec ℕ A) (sources : List (Peeked Cut)) (s : Peeked Cut) → i < length proofs
-    → AllZip Gives sources (texts_of (take i proofs)) → Gives s (get_or proofs i d).items → AllZip Gives (sources ++ s ∷ []) (texts_of (take (i + 1) proofs))
+pub sources_more : {A : Type 0} (proofs : List (Vec ℕ A)) (i : ℕ) (d : Vec ℕ A) (sources : List (Peeked Cut)) (s : Peeked Cut)
+    → i < length proofs
+    → AllZip Gives sources (texts_of (take i proofs)) → Gives s (get_or proofs i d).items → AllZip Gives (sources ++ s ∷ [])
+    (texts_of (take (i + 1) proofs))
 sources_more proofs i d sources s lt before here =
-    subst (λ (l : List (List ℕ)). AllZip Gives (sources ++ s ∷ []) l) (sym (ap texts_of (take_more proofs i d lt) ∙ joined (take i proofs) (get_or proofs i d)))
+    subst (λ (l : List (List ℕ)). AllZip Gives (sources ++ s ∷ []) l)
+    (sym (ap texts_of (take_more proofs i d lt) ∙ joined (take i proofs) (get_or proofs i d)))
     (zip_append Gives sources (texts_of (take i proofs)) (s ∷ []) ((get_or proofs i d).items ∷ []) before (here, tt))

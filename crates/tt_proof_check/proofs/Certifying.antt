@@ -33,7 +33,8 @@ use Rattle.tt_instance.proofs.Laws.{spelled_once}
 -- ---- before the score is known
 
 -- files that are certified are refused only for being out of memory
-pub certified_memory : (i s bytes : List ℕ) (c b : ℕ) (f : CertifyFault) → Certifies i s bytes c b → FailsFiles i s f → AnswersYes (Err f) c b
+pub certified_memory : (i s bytes : List ℕ) (c b : ℕ) (f : CertifyFault) → Certifies i s bytes c b → FailsFiles i s f
+    → AnswersYes (Err f) c b
 certified_memory i s bytes c b f h explains = inl (only_memory i s h.solves.problem h.solves.table f h.solves.both explains)
 
 -- files of a timetable that breaks a hard rule are refused only for being out of memory
@@ -50,7 +51,8 @@ no_points b n both feasible = both.0 feasible
 -- ---- the proof's bound
 
 -- an error of the check is reported as an error of the proof
-pub check_reported : (p : Problem) (bytes : List ℕ) (f : CheckFault) → IsProofFault p (stream_of bytes) f → IsBoundFault p bytes (fault_from_check f)
+pub check_reported : (p : Problem) (bytes : List ℕ) (f : CheckFault) → IsProofFault p (stream_of bytes) f
+    → IsBoundFault p bytes (fault_from_check f)
 check_reported p bytes check.OutOfMemory h = tt
 check_reported p bytes (check.Text f) h = h
 check_reported p bytes (check.Rule n f) h = h
@@ -91,7 +93,8 @@ read_checked (check.Rule n f) e = cc
 read_checked (check.TooDeep n) e = cc
 
 -- whether a read has failed after an error of the check, said of the error that it becomes
-pub check_reads : (f : CheckFault) (before after : Bool) → after ≡ (if checks.is_failed_read f then true else before) → after ≡ (if is_failed_read (fault_from_check f) then true else before)
+pub check_reads : (f : CheckFault) (before after : Bool) → after ≡ (if checks.is_failed_read f then true else before)
+    → after ≡ (if is_failed_read (fault_from_check f) then true else before)
 check_reads check.OutOfMemory before after h = h
 check_reads (check.Text f) before after h = h
 check_reads (check.Rule n f) before after h = h
@@ -129,7 +132,8 @@ module _ (i s : List ℕ) (p : Problem) (t : List Cell) (spelled : Spells i p) (
   certified_here bytes c b h =
       let same : h.solves.problem ≡ p = spelled_once i h.solves.problem p h.solves.both.spelled spelled in
       let there : SpellsTable p s h.solves.table × Certified p h.solves.table bytes c b =
-      subst (λ (q : Problem). SpellsTable q s h.solves.table × Certified q h.solves.table bytes c b) same (h.solves.both.solved, record { feasible = h.solves.feasible; costs = h.solves.costs; proved = h.proved }) in
+      subst (λ (q : Problem). SpellsTable q s h.solves.table × Certified q h.solves.table bytes c b) same
+      (h.solves.both.solved, record { feasible = h.solves.feasible; costs = h.solves.costs; proved = h.proved }) in
       at_table (λ (u : List Cell). Certified p u bytes c b) h.solves.table there.0 there.1
 
   broken_here : BreaksARule i s → 0 < hard p t
@@ -154,7 +158,13 @@ module _ (i s : List ℕ) (p : Problem) (t : List Cell) (spelled : Spells i p) (
 
     pub broken_found : (broken_by score ≡ 0 → ⊥) → IsBroken i s score
     broken_found broken = record {
-      breaks = record { problem = p; table = t; both = both; some = subst (λ n. 0 < n) (hard_is p t score is) (positive (broken_by score) broken) };
+      breaks = record {
+        problem = p;
+        table = t;
+        both = both;
+        some = subst (λ n. 0 < n) (hard_is p t score is)
+            (positive (broken_by score) broken);
+      };
       score_is = is;
     }
 
@@ -164,10 +174,12 @@ module _ (i s : List ℕ) (p : Problem) (t : List Cell) (spelled : Spells i p) (
     not_broken e k = omega (arith, e, hard_is p t score is, broken_here k)
 
     -- an error of the proof is the first error
-    pub bound_tells : (q : Option (List ℕ)) (f : CertifyFault) → broken_by score ≡ 0 → (IsFileFault f → ⊥) → ((bytes : List ℕ) → q ≡ Some bytes → IsBoundFault p bytes f) → IsFirstFault i s q f
+    pub bound_tells : (q : Option (List ℕ)) (f : CertifyFault) → broken_by score ≡ 0 → (IsFileFault f → ⊥)
+        → ((bytes : List ℕ) → q ≡ Some bytes → IsBoundFault p bytes f) → IsFirstFault i s q f
     bound_tells q (fault.Proof f) e own h = record { problem = p; table = t; both = both; feasible = is_feasible e; fails = reported q h }
       where
-        reported : (k : Option (List ℕ)) → ((bytes : List ℕ) → k ≡ Some bytes → IsProofFault p (stream_of bytes) f) → IfSome k (λ bytes. IsProofFault p (stream_of bytes) f)
+        reported : (k : Option (List ℕ)) → ((bytes : List ℕ) → k ≡ Some bytes → IsProofFault p (stream_of bytes) f)
+            → IfSome k (λ bytes. IsProofFault p (stream_of bytes) f)
         reported None h = tt
         reported (Some bytes) h = h bytes refl
     bound_tells q fault.OutOfMemory e own h = tt
@@ -183,13 +195,16 @@ module _ (i s : List ℕ) (p : Problem) (t : List Cell) (spelled : Spells i p) (
     abbrev solves_here : broken_by score ≡ 0 → Solves i s (costs_of score)
     solves_here e = record { problem = p; table = t; both = both; feasible = is_feasible e; costs = sym (cost_is p t score is) }
 
-    pub yes_found : (q : Option (List ℕ)) (b : ℕ) → broken_by score ≡ 0 → ((bytes : List ℕ) → q ≡ Some bytes → IsProved p bytes (AtLeast b)) → HoldsOfAll p (AtLeast b) → IsYes i s q (costs_of score) b
+    pub yes_found : (q : Option (List ℕ)) (b : ℕ) → broken_by score ≡ 0
+        → ((bytes : List ℕ) → q ≡ Some bytes → IsProved p bytes (AtLeast b)) → HoldsOfAll p (AtLeast b) → IsYes i s q (costs_of score) b
     yes_found q b e proved holds =
-        let all : BoundsAll i b = λ other spells. subst (λ (x : Problem). HoldsOfAll x (AtLeast b)) (spelled_once i p other spelled spells) holds in
+        let all : BoundsAll i b = λ other spells. subst (λ (x : Problem). HoldsOfAll x (AtLeast b))
+        (spelled_once i p other spelled spells) holds in
         let within : b ≤ costs_of score = subst (λ (n : ℕ). b ≤ n) (sym (cost_is p t score is)) (holds t (is_feasible e)) in
         record { solves = solves_here e; certified = reported q proved; bounds = all; within = within }
       where
-        reported : (k : Option (List ℕ)) → ((bytes : List ℕ) → k ≡ Some bytes → IsProved p bytes (AtLeast b)) → IfSome k (λ bytes. Certifies i s bytes (costs_of score) b)
+        reported : (k : Option (List ℕ)) → ((bytes : List ℕ) → k ≡ Some bytes → IsProved p bytes (AtLeast b))
+            → IfSome k (λ bytes. Certifies i s bytes (costs_of score) b)
         reported None h = tt
         reported (Some bytes) h = record { solves = solves_here e; proved = h bytes refl }
 
@@ -210,19 +225,24 @@ yes_with c b = Ok (Yes c b)
 
 module _ (i s : List ℕ) (q : Option (List ℕ)) where
   -- if memory doesn't run out and no read fails, the verdict is `Yes` with c and b if and only if they are certified
-  pub exactly_certified : (r : Result Verdict CertifyFault) (fails : Bool) (bytes : List ℕ) → q ≡ Some bytes → (r ≡ Err read_failed → fails ≡ true) → IfOk r (IsVerdict i s q)
-      → ((c b : ℕ) → Certifies i s bytes c b → AnswersYes r c b) → (c b : ℕ) → fails ≡ false → ¬ (r ≡ Err fault.OutOfMemory) → (r ≡ Ok (Yes c b)) ↔ Certifies i s bytes c b
+  pub exactly_certified : (r : Result Verdict CertifyFault) (fails : Bool) (bytes : List ℕ) → q ≡ Some bytes
+      → (r ≡ Err read_failed → fails ≡ true) → IfOk r (IsVerdict i s q)
+      → ((c b : ℕ) → Certifies i s bytes c b → AnswersYes r c b) → (c b : ℕ) → fails ≡ false → ¬ (r ≡ Err fault.OutOfMemory)
+      → (r ≡ Ok (Yes c b)) ↔ Certifies i s bytes c b
   exactly_certified (Ok (Yes n m)) fails bytes known failed found answers c b reads memory = (there, here)
     where
       there : yes_with n m ≡ yes_with c b → Certifies i s bytes c b
       there e =
           let x : n ≡ c = cc in
           let y : m ≡ b = cc in
-          subst (λ k. Certifies i s bytes k b) x (subst (λ k. Certifies i s bytes n k) y (subst (λ (k : Option (List ℕ)). IfSome k (λ z. Certifies i s z n m)) known found.certified))
+          subst (λ k. Certifies i s bytes k b) x
+          (subst (λ k. Certifies i s bytes n k) y
+          (subst (λ (k : Option (List ℕ)). IfSome k (λ z. Certifies i s z n m)) known found.certified))
 
       here : Certifies i s bytes c b → yes_with n m ≡ yes_with c b
       here h = let z = answers c b h in rw (z.0, z.1) refl
-  exactly_certified (Ok (Breaks score)) fails bytes known failed found answers c b reads memory = (λ e. absurd cc, λ h. absurd (answers c b h))
+  exactly_certified (Ok (Breaks score)) fails bytes known failed found answers c b reads memory =
+      (λ e. absurd cc, λ h. absurd (answers c b h))
   exactly_certified (Err f) fails bytes known failed found answers c b reads memory = (λ e. absurd cc, λ h. absurd (silent (answers c b h)))
     where
       silent : (f ≡ fault.OutOfMemory) ⊎ (f ≡ read_failed) → ⊥

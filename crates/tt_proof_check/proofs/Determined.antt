@@ -18,7 +18,8 @@ prefix_free (Fork g x y) (Tip l) xs ys e = cc
 prefix_free (Fork g a b) (Fork h c d) xs ys e =
     let root : g ≡ h = cc in
     let behind : (preorder a ++ preorder b) ++ xs ≡ (preorder c ++ preorder d) ++ ys = cc in
-    let first = prefix_free a c (preorder b ++ xs) (preorder d ++ ys) (sym (append_assoc (preorder a) (preorder b) xs) ∙ behind ∙ append_assoc (preorder c) (preorder d) ys) in
+    let first = prefix_free a c (preorder b ++ xs) (preorder d ++ ys) (sym (append_assoc (preorder a) (preorder b) xs) ∙ behind
+    ∙ append_assoc (preorder c) (preorder d) ys) in
     let second = prefix_free b d xs ys first.1 in
     (ap (λ q. Fork q a b) root ∙ ap (λ t. Fork h t b) first.0 ∙ ap (Fork h c) second.0, second.1)
 
@@ -39,7 +40,8 @@ pub same_header : (x y : (ℕ × Bound) × Stream) → ok_header x ≡ ok_header
 same_header x y e = cc
 
 -- of two readings of one stream, one continues where the other ends
-pub compare : (sizes : Sizes) (v count : ℕ) (s t u : Stream) (ms ns : List Node) → ReadsNodes sizes v count s ms t → ReadsNodes sizes v count s ns u
+pub compare : (sizes : Sizes) (v count : ℕ) (s t u : Stream) (ms ns : List Node) → ReadsNodes sizes v count s ms t
+    → ReadsNodes sizes v count s ns u
     → ((more : List Node) × (ms ++ more ≡ ns) × ReadsNodes sizes v (count + length ms) t more u)
     ⊎ ((more : List Node) × (ns ++ more ≡ ms) × ReadsNodes sizes v (count + length ns) u more t)
 compare sizes v count s t u [] ns r q =
@@ -47,7 +49,12 @@ compare sizes v count s t u [] ns r q =
     inl (ns, refl, subst (λ (n : ℕ). ReadsNodes sizes v n t ns u) k (subst (λ (x : Stream). ReadsNodes sizes v count x ns u) r q))
 compare sizes v count s t u (a ∷ ms) [] r q =
     let k : count ≡ count + 0 = omega arith in
-    inr (a ∷ ms, refl, subst (λ (n : ℕ). ReadsNodes sizes v n u (a ∷ ms) t) k (subst (λ (x : Stream). ReadsNodes sizes v count x (a ∷ ms) t) q r))
+    inr (
+      a ∷ ms,
+      refl,
+      subst (λ (n : ℕ). ReadsNodes sizes v n u (a ∷ ms) t) k
+          (subst (λ (x : Stream). ReadsNodes sizes v count x (a ∷ ms) t) q r),
+    )
 compare sizes v count s t u (a ∷ ms) (b ∷ ns) r q =
     let same = same_node (a, r.0) (b, q.0) (sym r.1 ∙ q.1) in
     let node : a ≡ b = ap (λ (x : Node × Stream). x.0) same in
@@ -58,14 +65,16 @@ compare sizes v count s t u (a ∷ ms) (b ∷ ns) r q =
       | inr m ↦ inr (m.0, ap (λ l. b ∷ l) m.1 ∙ ap (λ n. n ∷ ms) (sym node), subst (λ (n : ℕ). ReadsNodes sizes v n u m.0 t) (here ns) m.2)
     ]
 
-get_place : (stack : Stack) (nodes more : List Node) (i : ℕ) → i < length nodes → slice_get (places_of stack (nodes ++ more)) i ≡ slice_get (places_of stack nodes) i
+get_place : (stack : Stack) (nodes more : List Node) (i : ℕ) → i < length nodes → slice_get (places_of stack (nodes ++ more)) i
+    ≡ slice_get (places_of stack nodes) i
 get_place stack [] more i h = absurd (omega arith)
 get_place [] (n ∷ ns) more i h = refl
 get_place (path ∷ rest) (n ∷ ns) more zero h = refl
 get_place (path ∷ rest) (n ∷ ns) more (suc i) h = get_place (next_stack path rest n) ns more i (omega arith)
 
 -- two trees that begin with the same nodes have them on the same paths
-pub same_place : (x y : Tree) (nodes xs ys : List Node) (i : ℕ) → preorder x ≡ nodes ++ xs → preorder y ≡ nodes ++ ys → i < length nodes → slice_get (on_paths [] x) i ≡ slice_get (on_paths [] y) i
+pub same_place : (x y : Tree) (nodes xs ys : List Node) (i : ℕ) → preorder x ≡ nodes ++ xs → preorder y ≡ nodes ++ ys → i < length nodes
+    → slice_get (on_paths [] x) i ≡ slice_get (on_paths [] y) i
 same_place x y nodes xs ys i e d h =
     ap (λ l. slice_get l i) (sym (whole_places x (nodes ++ xs) e)) ∙ get_place root nodes xs i h
     ∙ sym (get_place root nodes ys i h) ∙ ap (λ l. slice_get l i) (whole_places y (nodes ++ ys) d)

@@ -42,9 +42,17 @@ gap_costs_five =
     let other = with_fact [] (when 0 0) false in
     let last = with_fact other (when 0 2) true in
     let right = right_of gap in (
-      (right (with_fact first (when 1 2) true) (AtLeast 5) five refl, right (with_fact first (when 1 2) false) (AtLeast 5) (Clique (1 ∷ [])) refl),
       (
-        (right (with_fact last (when 1 0) true) (AtLeast 5) five refl, right (with_fact last (when 1 0) false) (AtLeast 5) (Clique (1 ∷ [])) refl),
+        right (with_fact first (when 1 2) true) (AtLeast 5) five refl,
+        right (with_fact first (when 1 2) false) (AtLeast 5)
+            (Clique (1 ∷ [])) refl,
+      ),
+      (
+        (
+          right (with_fact last (when 1 0) true) (AtLeast 5) five refl,
+          right (with_fact last (when 1 0) false) (AtLeast 5)
+              (Clique (1 ∷ [])) refl,
+        ),
         right (with_fact other (when 0 2) false) (AtLeast 5) (Clique (0 ∷ [])) refl,
       ),
     )
@@ -82,7 +90,8 @@ abbrev second : Stream
 second = off_with (token (codes "S") 28 ∷ [])
 
 abbrev first : Stream
-first = off_with (token (codes "S") 15 ∷ token (codes "c0") 17 ∷ token (codes "*") 20 ∷ token (codes "d0") 22 ∷ token (codes "p0") 25 ∷ second.tokens)
+first = off_with (token (codes "S") 15 ∷ token (codes "c0") 17 ∷ token (codes "*") 20 ∷ token (codes "d0") 22 ∷ token
+    (codes "p0") 25 ∷ second.tokens)
 
 begun_header : header_at (cut_short (stream_of begun)) ≡ Ok ((1, AtLeast 5), first)
 unfolding stream_from fault_from tokens_from number_of token_at word_at version_at bound_of bound_at header_at
@@ -109,7 +118,8 @@ a_split_breaks_off = inr (
       reads = (second, begun_split, refl);
       tree = gap_tree;
       next = node.Split (when 1 2);
-      more = node.Leaf five ∷ node.Leaf (Clique (1 ∷ [])) ∷ node.Split (when 0 2) ∷ node.Split (when 1 0) ∷ node.Leaf five ∷ node.Leaf (Clique (1 ∷ [])) ∷ node.Leaf (Clique (0 ∷ [])) ∷ [];
+      more = node.Leaf five ∷ node.Leaf (Clique (1 ∷ [])) ∷ node.Split (when 0 2) ∷ node.Split (when 1 0) ∷ node.Leaf five ∷ node.Leaf
+          (Clique (1 ∷ [])) ∷ node.Leaf (Clique (0 ∷ [])) ∷ [];
       begins = refl;
       passed = All-from_recursion (Passes gap (AtLeast 5)) (take 1 (on_paths [] gap_tree)) ((lit≤ tt, tt), tt);
       fails = tt;

@@ -29,7 +29,8 @@ use Rattle.tt_lists.proofs.Tested.{each_append}
 abbrev pub Midway : Problem → Bound → List Node → ℕ → List Fact → Type 0
 Midway p b nodes i path = (due : Bool) × Walked p b (take i nodes) path due
 
-module _ (p : Problem) (b : Bound) (nodes : List Node) (tree : IsPreorder nodes) (i : ℕ) (n : Node) (inside : i < length nodes) (is : n ≡ get_or nodes i n) (path : List Fact) (m : Midway p b nodes i path) where
+module _ (p : Problem) (b : Bound) (nodes : List Node) (tree : IsPreorder nodes) (i : ℕ) (n : Node) (inside : i < length nodes)
+    (is : n ≡ get_or nodes i n) (path : List Fact) (m : Midway p b nodes i path) where
   split : preorder tree.0 ≡ take i nodes ++ n ∷ drop (i + 1) nodes
   split = tree.1 ∙ split_at nodes i n inside is
 
@@ -45,27 +46,40 @@ module _ (p : Problem) (b : Bound) (nodes : List Node) (tree : IsPreorder nodes)
       (h.0, subst (λ (l : List Node). Walked p b l next h.0) (sym (take_next nodes i n inside is)) h.1)
 
   pub midway_fails : (f : RuleFault) → Stops p b path n (Rule f) → Explains p b nodes (reported.Rule i f)
-  midway_fails f s =
-      (tree.0, tree.1, subst (λ (k : ℕ). FailsAt p b tree.0 k f) before (fails_at p b (take i nodes) (drop (i + 1) nodes) path n f tree.0 split due s))
+  midway_fails f s = (
+    tree.0,
+    tree.1,
+    subst (λ (k : ℕ). FailsAt p b tree.0 k f) before
+        (fails_at p b (take i nodes) (drop (i + 1) nodes) path n f tree.0 split due s),
+  )
 
   pub midway_deep : Stops p b path n TooDeep → Explains p b nodes (reported.TooDeep (i + 1))
   midway_deep s =
       let here = take_next nodes i n inside is in
       let rest : preorder tree.0 ≡ (take i nodes ++ n ∷ []) ++ drop (i + 1) nodes =
       tree.1 ∙ sym (take-append-drop (i + 1) nodes) ∙ ap (λ l. l ++ drop (i + 1) nodes) here in
-      let len : length (take i nodes ++ n ∷ []) ≡ i + 1 = ap length (sym here) ∙ length-take-le (i + 1) nodes (omega arith) in
-      (tree.0, tree.1, subst (IsDeepAt p b tree.0) len (deep_tree p b (take i nodes ++ n ∷ []) (drop (i + 1) nodes) tree.0 rest (too_deep p b (take i nodes) path n due s)))
+      let len : length (take i nodes ++ n ∷ []) ≡ i + 1 = ap length (sym here) ∙ length-take-le (i + 1) nodes (omega arith) in (
+        tree.0,
+        tree.1,
+        subst (IsDeepAt p b tree.0) len (deep_tree p b (take i nodes ++ n ∷ []) (drop (i + 1) nodes) tree.0 rest
+            (too_deep p b (take i nodes) path n due s)),
+      )
 
-pub midway_end : (p : Problem) (b : Bound) (nodes : List Node) → IsPreorder nodes → (i : ℕ) → length nodes ≤ i → (path : List Fact) → Midway p b nodes i path → Proves p b nodes
+pub midway_end : (p : Problem) (b : Bound) (nodes : List Node) → IsPreorder nodes → (i : ℕ) → length nodes ≤ i → (path : List Fact)
+    → Midway p b nodes i path → Proves p b nodes
 midway_end p b nodes tree i past path m =
     walked_tree p b nodes path tree.0 tree.1 m.0 (subst (λ (l : List Node). Walked p b l path m.0) (take_all i nodes past) m.1)
 
 -- -- the converse: if a tree derives the bound, each node passes
 
-right_on : (p : Problem) (b : Bound) (tree : Tree) (path : List Fact) → Derives p b path tree → AllByRecursion (λ x. IsRightOn p b x.path x.node) (on_paths path tree)
+right_on : (p : Problem) (b : Bound) (tree : Tree) (path : List Fact) → Derives p b path tree
+    → AllByRecursion (λ x. IsRightOn p b x.path x.node) (on_paths path tree)
 right_on p b (Tip leaf) path d = (d, tt)
-right_on p b (Fork g x y) path d =
-    (tt, each_append (λ z. IsRightOn p b z.path z.node) (on_paths (with_fact path g true) x) (on_paths (with_fact path g false) y) (right_on p b x (with_fact path g true) d.0) (right_on p b y (with_fact path g false) d.1))
+right_on p b (Fork g x y) path d = (
+  tt,
+  each_append (λ z. IsRightOn p b z.path z.node) (on_paths (with_fact path g true) x) (on_paths (with_fact path g false) y)
+      (right_on p b x (with_fact path g true) d.0) (right_on p b y (with_fact path g false) d.1),
+)
 
 pub tree_passes : (p : Problem) (b : Bound) (tree : Tree) → IsShallow tree → Derives p b [] tree → All (Passes p b) (on_paths [] tree)
 tree_passes p b tree shallow d =
@@ -79,33 +93,43 @@ at_place P (y ∷ ys) zero x e a = let same : y ≡ x = cc in subst P same a.0
 at_place P (y ∷ ys) (suc i) x e a = at_place P ys i x e a.1
 
 -- so no node has an error in another tree that has the same node there
-pub never_fails : (p : Problem) (b : Bound) (tree other : Tree) (i : ℕ) (f : RuleFault) → All (Passes p b) (on_paths [] tree) → slice_get (on_paths [] tree) i ≡ slice_get (on_paths [] other) i → ¬ (FailsAt p b other i f)
+pub never_fails : (p : Problem) (b : Bound) (tree other : Tree) (i : ℕ) (f : RuleFault) → All (Passes p b) (on_paths [] tree)
+    → slice_get (on_paths [] tree) i ≡ slice_get (on_paths [] other) i → ¬ (FailsAt p b other i f)
 never_fails p b tree other i f all same h =
-    let right = (at_place (Passes p b) (on_paths [] tree) i _ (same ∙ h.found) (recursion_from_All (Passes p b) (on_paths [] tree) all)).1 in
+    let right = (at_place (Passes p b) (on_paths [] tree) i _ (same ∙ h.found)
+    (recursion_from_All (Passes p b) (on_paths [] tree) all)).1 in
     let none = faultless p h.path b h.leaf right in
     let fault = h.fault in
     cc
 
-pub never_deep : (p : Problem) (b : Bound) (tree other : Tree) (i : ℕ) → All (Passes p b) (on_paths [] tree) → slice_get (on_paths [] tree) i ≡ slice_get (on_paths [] other) i → ¬ (IsDeepAt p b other i)
+pub never_deep : (p : Problem) (b : Bound) (tree other : Tree) (i : ℕ) → All (Passes p b) (on_paths [] tree)
+    → slice_get (on_paths [] tree) i ≡ slice_get (on_paths [] other) i → ¬ (IsDeepAt p b other i)
 never_deep p b tree other i all same h =
-    let within = (at_place (Passes p b) (on_paths [] tree) i _ (same ∙ h.found) (recursion_from_All (Passes p b) (on_paths [] tree) all)).0 in
+    let within = (at_place (Passes p b) (on_paths [] tree) i _ (same ∙ h.found)
+    (recursion_from_All (Passes p b) (on_paths [] tree) all)).0 in
     omega (arith, within, h.deep)
 
 -- in trees with the same nodes, the node at i has the same path
-pub same_at : (nodes : List Node) (x y : Tree) (i : ℕ) → preorder x ≡ nodes → preorder y ≡ nodes → slice_get (on_paths [] x) i ≡ slice_get (on_paths [] y) i
+pub same_at : (nodes : List Node) (x y : Tree) (i : ℕ) → preorder x ≡ nodes → preorder y ≡ nodes
+    → slice_get (on_paths [] x) i ≡ slice_get (on_paths [] y) i
 same_at nodes x y i e d = ap (λ (l : List OnPath). slice_get l i) (sym (whole_places x nodes e) ∙ whole_places y nodes d)
 
 -- the only error of nodes that prove the bound is being out of memory
-proves_only : (p : Problem) (b : Bound) (nodes : List Node) (e : NodesFault) → Explains p b nodes e → Proves p b nodes → e ≡ reported.OutOfMemory
+proves_only : (p : Problem) (b : Bound) (nodes : List Node) (e : NodesFault) → Explains p b nodes e → Proves p b nodes
+    → e ≡ reported.OutOfMemory
 proves_only p b nodes reported.NotATree t h = absurd (t (h.0, h.1))
-proves_only p b nodes (reported.Rule i f) t h = absurd (never_fails p b h.0 t.0 i f (tree_passes p b h.0 h.2 h.3) (same_at nodes h.0 t.0 i h.1 t.1) t.2)
-proves_only p b nodes (reported.TooDeep i) t h = absurd (never_deep p b h.0 t.0 i (tree_passes p b h.0 h.2 h.3) (same_at nodes h.0 t.0 i h.1 t.1) t.2)
+proves_only p b nodes (reported.Rule i f) t h =
+    absurd (never_fails p b h.0 t.0 i f (tree_passes p b h.0 h.2 h.3) (same_at nodes h.0 t.0 i h.1 t.1) t.2)
+proves_only p b nodes (reported.TooDeep i) t h =
+    absurd (never_deep p b h.0 t.0 i (tree_passes p b h.0 h.2 h.3) (same_at nodes h.0 t.0 i h.1 t.1) t.2)
 proves_only p b nodes reported.OutOfMemory t h = refl
 
-pub checked_only : (p : Problem) (b : Bound) (nodes : List Node) (r : Result (Unit {0}) NodesFault) → IfErr r (λ e. Explains p b nodes e) → Proves p b nodes → IsOkUnless r reported.OutOfMemory
+pub checked_only : (p : Problem) (b : Bound) (nodes : List Node) (r : Result (Unit {0}) NodesFault)
+    → IfErr r (λ e. Explains p b nodes e) → Proves p b nodes → IsOkUnless r reported.OutOfMemory
 checked_only p b nodes (Ok x) t h = tt
 checked_only p b nodes (Err e) t h = proves_only p b nodes e t h
 
-pub checked_holds : (p : Problem) (b : Bound) (nodes : List Node) (r : Result (Unit {0}) NodesFault) → OnOk r (Proves p b nodes) → OnOk r (HoldsOfAll p b)
+pub checked_holds : (p : Problem) (b : Bound) (nodes : List Node) (r : Result (Unit {0}) NodesFault) → OnOk r (Proves p b nodes)
+    → OnOk r (HoldsOfAll p b)
 checked_holds p b nodes (Ok x) h = proof_sound p b nodes h
 checked_holds p b nodes (Err e) h = tt

@@ -50,7 +50,8 @@ turned f g (inr (inl s)) = inr (inr s)
 turned f g (inr (inr s)) = inr (inl s)
 
 -- two errors of one reading
-one_reading : {Y : Type 0} (read : Result Y TextFault) (f g : TextFault) → ¬ (f ≡ text.OutOfMemory) → ¬ (g ≡ text.OutOfMemory) → Fails f read → Fails g read → AreOne (reported.Text f) (reported.Text g)
+one_reading : {Y : Type 0} (read : Result Y TextFault) (f g : TextFault) → ¬ (f ≡ text.OutOfMemory) → ¬ (g ≡ text.OutOfMemory)
+    → Fails f read → Fails g read → AreOne (reported.Text f) (reported.Text g)
 one_reading read f g n m h k = elim (on_false (is_environmental f) (read ≡ Err f) h) [
   | inl s ↦ inr (inl (silent_is f s n))
   | inr a ↦ elim (on_false (is_environmental g) (read ≡ Err g) k) [
@@ -87,16 +88,19 @@ stops_by_depth p b tree i h = record {
 }
 
 -- a property of each of the first elements holds for any of them
-at_first : {X : Type 0} (P : X → Type 0) (n : ℕ) (xs : List X) (i : ℕ) (x : X) → i < n → slice_get xs i ≡ Some x → AllByRecursion P (take n xs) → P x
+at_first : {X : Type 0} (P : X → Type 0) (n : ℕ) (xs : List X) (i : ℕ) (x : X) → i < n → slice_get xs i ≡ Some x
+    → AllByRecursion P (take n xs) → P x
 at_first P zero xs i x h e a = absurd (omega (arith, h))
 at_first P (suc n) [] i x h e a = cc
 at_first P (suc n) (y ∷ ys) zero x h e a = let same : y ≡ x = cc in subst P same a.0
 at_first P (suc n) (y ∷ ys) (suc i) x h e a = at_first P n ys i x (omega (arith, h)) e a.1
 
 -- if the first n nodes of a tree pass, another tree with the same node at i below n does not stop at i
-none_stops : (p : Problem) (b : Bound) (tree other : Tree) (n i : ℕ) → i < n → All (Passes p b) (take n (on_paths [] tree)) → slice_get (on_paths [] tree) i ≡ slice_get (on_paths [] other) i → ¬ (Stops p b other i)
+none_stops : (p : Problem) (b : Bound) (tree other : Tree) (n i : ℕ) → i < n → All (Passes p b) (take n (on_paths [] tree))
+    → slice_get (on_paths [] tree) i ≡ slice_get (on_paths [] other) i → ¬ (Stops p b other i)
 none_stops p b tree other n i h all same s =
-    s.stops (at_first (Passes p b) n (on_paths [] tree) i s.at h (same ∙ s.found) (recursion_from_All (Passes p b) (take n (on_paths [] tree)) all))
+    s.stops (at_first (Passes p b) n (on_paths [] tree) i s.at h (same ∙ s.found)
+    (recursion_from_All (Passes p b) (take n (on_paths [] tree)) all))
 
 -- ---- two trees that begin with nodes of one stream
 
@@ -113,11 +117,19 @@ abbrev begun_to : (p : Problem) (v : ℕ) (s : Stream) (i : ℕ) (P : Tree → T
 begun_to p v s i P h = record { nodes = h.nodes; rest = h.rest; reads = h.reads; tree = h.tree; more = h.more; begins = h.begins }
 
 abbrev begun_before : (p : Problem) (v : ℕ) (b : Bound) (s : Stream) (f : TextFault) → NodeFails p v b s f → Begun p v s
-begun_before p v b s f h = record { nodes = h.nodes; rest = h.rest; reads = h.reads; tree = h.tree; more = h.next ∷ h.more; begins = h.begins }
+begun_before p v b s f h = record {
+  nodes = h.nodes;
+  rest = h.rest;
+  reads = h.reads;
+  tree = h.tree;
+  more = h.next ∷ h.more;
+  begins = h.begins;
+}
 
 module _ (p : Problem) (v : ℕ) (b : Bound) (s : Stream) where
   -- a node that both trees have is on the same path in both
-  one_place : (x y : Begun p v s) (i : ℕ) → i < length x.nodes → i < length y.nodes → slice_get (on_paths [] x.tree) i ≡ slice_get (on_paths [] y.tree) i
+  one_place : (x y : Begun p v s) (i : ℕ) → i < length x.nodes → i < length y.nodes → slice_get (on_paths [] x.tree) i ≡ slice_get
+      (on_paths [] y.tree) i
   one_place x y i h k = elim (compare (sizes_of p) v 0 s x.rest y.rest x.nodes y.nodes x.reads y.reads) [
     | inl m ↦ same_place x.tree y.tree x.nodes x.more (m.0 ++ y.more) i x.begins (longer y x m.0 m.1) h
     | inr m ↦ same_place x.tree y.tree y.nodes (m.0 ++ x.more) y.more i (longer x y m.0 m.1) y.begins k
@@ -127,32 +139,38 @@ module _ (p : Problem) (v : ℕ) (b : Bound) (s : Stream) where
       longer z w more e = z.begins ∙ ap (λ l. l ++ z.more) (sym e) ∙ append_assoc w.nodes more z.more
 
   -- the first node that doesn't pass is the same
-  one_stop : (x y : Begun p v s) (i j : ℕ) → length x.nodes ≡ i + 1 → length y.nodes ≡ j + 1 → Stops p b x.tree i → Stops p b y.tree j → ¬ (i < j)
+  one_stop : (x y : Begun p v s) (i j : ℕ) → length x.nodes ≡ i + 1 → length y.nodes ≡ j + 1 → Stops p b x.tree i → Stops p b y.tree j
+      → ¬ (i < j)
   one_stop x y i j h k a c less =
       none_stops p b y.tree x.tree j i less c.before (one_place y x i (omega (arith, k, less)) (omega (arith, h))) a
 
   -- if a node has been read, an error in its text is silent
-  node_first : (f : TextFault) → ¬ (f ≡ text.OutOfMemory) → (k : ℕ) (nodes : List Node) (rest after : Stream) (x : Node) (xs : List Node) → length nodes ≡ k → ReadsNodes (sizes_of p) v (0 + length nodes) rest (x ∷ xs) after
+  node_first : (f : TextFault) → ¬ (f ≡ text.OutOfMemory) → (k : ℕ) (nodes : List Node) (rest after : Stream) (x : Node)
+      (xs : List Node) → length nodes ≡ k → ReadsNodes (sizes_of p) v (0 + length nodes) rest (x ∷ xs) after
       → Fails f (node_at (sizes_of p) v k rest) → IsEnvironmental (reported.Text f)
   node_first f n k nodes rest after x xs e r fails =
       let here : k ≡ 0 + length nodes = omega (arith, e) in
       fails_silently f (node_at (sizes_of p) v k rest) (x, r.0) (ap (λ (c : ℕ). node_at (sizes_of p) v c rest) here ∙ r.1) n fails
 
-  nodes_fail : (f g : TextFault) → ¬ (f ≡ text.OutOfMemory) → ¬ (g ≡ text.OutOfMemory) → NodeFails p v b s f → NodeFails p v b s g → AreOne (reported.Text f) (reported.Text g)
+  nodes_fail : (f g : TextFault) → ¬ (f ≡ text.OutOfMemory) → ¬ (g ≡ text.OutOfMemory) → NodeFails p v b s f → NodeFails p v b s g
+      → AreOne (reported.Text f) (reported.Text g)
   nodes_fail f g n m a c = elim (compare (sizes_of p) v 0 s a.rest c.rest a.nodes c.nodes a.reads c.reads) [
     | inl d ↦ onward f g n m a c d.0 d.1 d.2
     | inr d ↦ turned (reported.Text g) (reported.Text f) (onward g f m n c a d.0 d.1 d.2)
   ]
     where
-      onward : (f g : TextFault) → ¬ (f ≡ text.OutOfMemory) → ¬ (g ≡ text.OutOfMemory) → (a : NodeFails p v b s f) (c : NodeFails p v b s g) (more : List Node) → a.nodes ++ more ≡ c.nodes
+      onward : (f g : TextFault) → ¬ (f ≡ text.OutOfMemory) → ¬ (g ≡ text.OutOfMemory)
+          → (a : NodeFails p v b s f) (c : NodeFails p v b s g) (more : List Node) → a.nodes ++ more ≡ c.nodes
           → ReadsNodes (sizes_of p) v (0 + length a.nodes) a.rest more c.rest → AreOne (reported.Text f) (reported.Text g)
       onward f g n m a c [] e r =
           let len : length c.nodes ≡ length a.nodes = ap length (sym e ∙ append-nil a.nodes) in
           one_reading (node_at (sizes_of p) v (length a.nodes) a.rest) f g n m a.fails
-          (subst (λ (x : Stream). Fails g (node_at (sizes_of p) v (length a.nodes) x)) (sym r) (subst (λ (k : ℕ). Fails g (node_at (sizes_of p) v k c.rest)) len c.fails))
+          (subst (λ (x : Stream). Fails g (node_at (sizes_of p) v (length a.nodes) x)) (sym r)
+          (subst (λ (k : ℕ). Fails g (node_at (sizes_of p) v k c.rest)) len c.fails))
       onward f g n m a c (x ∷ xs) e r = inr (inl (node_first f n (length a.nodes) a.nodes a.rest c.rest x xs refl r a.fails))
 
-  ends_fail : (f g : TextFault) → ¬ (f ≡ text.OutOfMemory) → ¬ (g ≡ text.OutOfMemory) → EndFails p v b s f → EndFails p v b s g → AreOne (reported.Text f) (reported.Text g)
+  ends_fail : (f g : TextFault) → ¬ (f ≡ text.OutOfMemory) → ¬ (g ≡ text.OutOfMemory) → EndFails p v b s f → EndFails p v b s g
+      → AreOne (reported.Text f) (reported.Text g)
   ends_fail f g n m a c = one_reading (end_at a.rest) f g n m a.fails (subst (λ (x : Stream). Fails g (end_at x)) (sym same) c.fails)
     where
       none : (k : ℕ) (x y : Stream) (more : List Node) → [] ≡ more → ReadsNodes (sizes_of p) v k x more y → x ≡ y
@@ -164,17 +182,21 @@ module _ (p : Problem) (v : ℕ) (b : Bound) (s : Stream) where
         | inr d ↦ sym (none (0 + length (preorder c.tree)) c.rest a.rest d.0 (begins_whole a.tree c.tree d.0 (sym d.1)).1 d.2)
       ]
 
-  node_or_end : (f g : TextFault) → ¬ (f ≡ text.OutOfMemory) → NodeFails p v b s f → EndFails p v b s g → AreOne (reported.Text f) (reported.Text g)
-  node_or_end f g n a c = inr (inl (node_silent p v s c.rest c.tree c.reads f n a.nodes a.rest a.tree a.next a.more a.reads a.begins a.fails))
+  node_or_end : (f g : TextFault) → ¬ (f ≡ text.OutOfMemory) → NodeFails p v b s f → EndFails p v b s g
+      → AreOne (reported.Text f) (reported.Text g)
+  node_or_end f g n a c =
+      inr (inl (node_silent p v s c.rest c.tree c.reads f n a.nodes a.rest a.tree a.next a.more a.reads a.begins a.fails))
 
-  texts_fail : (f g : TextFault) → ¬ (f ≡ text.OutOfMemory) → ¬ (g ≡ text.OutOfMemory) → (NodeFails p v b s f ⊎ EndFails p v b s f) → (NodeFails p v b s g ⊎ EndFails p v b s g) → AreOne (reported.Text f) (reported.Text g)
+  texts_fail : (f g : TextFault) → ¬ (f ≡ text.OutOfMemory) → ¬ (g ≡ text.OutOfMemory) → (NodeFails p v b s f ⊎ EndFails p v b s f)
+      → (NodeFails p v b s g ⊎ EndFails p v b s g) → AreOne (reported.Text f) (reported.Text g)
   texts_fail f g n m (inl a) (inl c) = nodes_fail f g n m a c
   texts_fail f g n m (inl a) (inr c) = node_or_end f g n a c
   texts_fail f g n m (inr a) (inl c) = turned (reported.Text g) (reported.Text f) (node_or_end g f m c a)
   texts_fail f g n m (inr a) (inr c) = ends_fail f g n m a c
 
   -- before a node that doesn't pass, all texts are read, or fail silently
-  text_silent : (f : TextFault) → ¬ (f ≡ text.OutOfMemory) → (NodeFails p v b s f ⊎ EndFails p v b s f) → (i : ℕ) (P : Tree → Type 0) (c : IsReadTo p v s i P) → Stops p b c.tree i → IsEnvironmental (reported.Text f)
+  text_silent : (f : TextFault) → ¬ (f ≡ text.OutOfMemory) → (NodeFails p v b s f ⊎ EndFails p v b s f)
+      → (i : ℕ) (P : Tree → Type 0) (c : IsReadTo p v s i P) → Stops p b c.tree i → IsEnvironmental (reported.Text f)
   text_silent f n (inr a) i P c stops = absurd (stops.stops (passes (place_read p v s a.rest a.tree a.reads i P c ∙ stops.found)))
     where
       all : AllByRecursion (Passes p b) (on_paths [] a.tree)
@@ -191,7 +213,8 @@ module _ (p : Problem) (v : ℕ) (b : Bound) (s : Stream) where
       passed h = none_stops p b a.tree c.tree (length a.nodes) i h a.passed
           (one_place (begun_before p v b s f a) (begun_to p v s i P c) i h (omega (arith, c.last))) stops
 
-      onward : (more : List Node) → a.nodes ++ more ≡ c.nodes → ReadsNodes (sizes_of p) v (0 + length a.nodes) a.rest more c.rest → IsEnvironmental (reported.Text f)
+      onward : (more : List Node) → a.nodes ++ more ≡ c.nodes → ReadsNodes (sizes_of p) v (0 + length a.nodes) a.rest more c.rest
+          → IsEnvironmental (reported.Text f)
       onward [] e r = absurd (passed (omega (arith, ap length (sym (append-nil a.nodes) ∙ e), c.last)))
       onward (x ∷ xs) e r = node_first f n (length a.nodes) a.nodes a.rest c.rest x xs refl r a.fails
 
@@ -204,7 +227,8 @@ one_point : (x y : OnPath) → some_point x ≡ some_point y → x ≡ y
 one_point x y e = cc
 
 -- a leaf has only one first error on its path
-one_first : (p : Problem) (b : Bound) (x y : List Fact) (l m : Leaf) (f g : RuleFault) → node.Leaf l ≡ node.Leaf m → x ≡ y → fault_of p x b l ≡ Some f → fault_of p y b m ≡ Some g → f ≡ g
+one_first : (p : Problem) (b : Bound) (x y : List Fact) (l m : Leaf) (f g : RuleFault) → node.Leaf l ≡ node.Leaf m → x ≡ y
+    → fault_of p x b l ≡ Some f → fault_of p y b m ≡ Some g → f ≡ g
 one_first p b x y l m f g same path h k = cc
 
 module _ (p : Problem) (v : ℕ) (b : Bound) (s : Stream) where
@@ -219,35 +243,49 @@ module _ (p : Problem) (v : ℕ) (b : Bound) (s : Stream) where
   by_depth i tree h = stops_by_depth p b tree i h
 
   -- both trees stop at the same node, on the same path
-  meets : (i j : ℕ) (P Q : Tree → Type 0) → StopsAt i P → StopsAt j Q → (a : IsReadTo p v s i P) (c : IsReadTo p v s j Q) → (i ≡ j) × (slice_get (on_paths [] a.tree) i ≡ slice_get (on_paths [] c.tree) j)
+  meets : (i j : ℕ) (P Q : Tree → Type 0) → StopsAt i P → StopsAt j Q → (a : IsReadTo p v s i P) (c : IsReadTo p v s j Q)
+      → (i ≡ j) × (slice_get (on_paths [] a.tree) i ≡ slice_get (on_paths [] c.tree) j)
   meets i j P Q stops ends a c = elim (cases_order i j) [
-    | inl same ↦ (same, one_place p v b s (begun_to p v s i P a) (begun_to p v s j Q c) i (omega (arith, a.last)) (omega (arith, same, c.last)) ∙ ap (slice_get (on_paths [] c.tree)) same)
-    | inr (inl less) ↦ absurd (one_stop p v b s (begun_to p v s i P a) (begun_to p v s j Q c) i j a.last c.last (stops a.tree a.is) (ends c.tree c.is) less)
-    | inr (inr less) ↦ absurd (one_stop p v b s (begun_to p v s j Q c) (begun_to p v s i P a) j i c.last a.last (ends c.tree c.is) (stops a.tree a.is) less)
+    | inl same ↦ (
+      same,
+      one_place p v b s (begun_to p v s i P a) (begun_to p v s j Q c) i (omega (arith, a.last))
+          (omega (arith, same, c.last)) ∙ ap (slice_get (on_paths [] c.tree)) same,
+    )
+    | inr (inl less) ↦ absurd (one_stop p v b s (begun_to p v s i P a) (begun_to p v s j Q c) i j a.last c.last (stops a.tree a.is)
+        (ends c.tree c.is) less)
+    | inr (inr less) ↦ absurd (one_stop p v b s (begun_to p v s j Q c) (begun_to p v s i P a) j i c.last a.last (ends c.tree c.is)
+        (stops a.tree a.is) less)
   ]
 
-  rules_fail : (i j : ℕ) (f g : RuleFault) → IsReadTo p v s i (λ t. FailsAt p b t i f) → IsReadTo p v s j (λ t. FailsAt p b t j g) → AreOne (reported.Rule i f) (reported.Rule j g)
+  rules_fail : (i j : ℕ) (f g : RuleFault) → IsReadTo p v s i (λ t. FailsAt p b t i f) → IsReadTo p v s j (λ t. FailsAt p b t j g)
+      → AreOne (reported.Rule i f) (reported.Rule j g)
   rules_fail i j f g a c =
       let m = meets i j (λ t. FailsAt p b t i f) (λ t. FailsAt p b t j g) (by_fault i f) (by_fault j g) a c in
-      let point = one_point (record { path = a.is.path; node = node.Leaf a.is.leaf }) (record { path = c.is.path; node = node.Leaf c.is.leaf }) (sym a.is.found ∙ m.1 ∙ c.is.found) in
-      let same : f ≡ g = one_first p b a.is.path c.is.path a.is.leaf c.is.leaf f g (ap (λ (x : OnPath). x.node) point) (ap (λ (x : OnPath). x.path) point) a.is.fault c.is.fault in
+      let point = one_point (record { path = a.is.path; node = node.Leaf a.is.leaf })
+      (record { path = c.is.path; node = node.Leaf c.is.leaf }) (sym a.is.found ∙ m.1 ∙ c.is.found) in
+      let same : f ≡ g = one_first p b a.is.path c.is.path a.is.leaf c.is.leaf f g (ap (λ (x : OnPath). x.node) point)
+      (ap (λ (x : OnPath). x.path) point) a.is.fault c.is.fault in
       inl (ap (λ k. reported.Rule k f) m.0 ∙ ap (reported.Rule j) same)
 
-  depths_fail : (i j : ℕ) → IsReadTo p v s i (λ t. IsDeepAt p b t i) → IsReadTo p v s j (λ t. IsDeepAt p b t j) → AreOne (reported.TooDeep i) (reported.TooDeep j)
-  depths_fail i j a c = inl (ap reported.TooDeep (meets i j (λ t. IsDeepAt p b t i) (λ t. IsDeepAt p b t j) (by_depth i) (by_depth j) a c).0)
+  depths_fail : (i j : ℕ) → IsReadTo p v s i (λ t. IsDeepAt p b t i) → IsReadTo p v s j (λ t. IsDeepAt p b t j)
+      → AreOne (reported.TooDeep i) (reported.TooDeep j)
+  depths_fail i j a c =
+      inl (ap reported.TooDeep (meets i j (λ t. IsDeepAt p b t i) (λ t. IsDeepAt p b t j) (by_depth i) (by_depth j) a c).0)
 
   -- a leaf whose rule is checked isn't too deep
   rule_or_depth : (i j : ℕ) (f : RuleFault) → IsReadTo p v s i (λ t. FailsAt p b t i f) → IsReadTo p v s j (λ t. IsDeepAt p b t j) → ⊥
   rule_or_depth i j f a c =
       let m = meets i j (λ t. FailsAt p b t i f) (λ t. IsDeepAt p b t j) (by_fault i f) (by_depth j) a c in
-      let point = one_point (record { path = a.is.path; node = node.Leaf a.is.leaf }) (record { path = c.is.path; node = c.is.node }) (sym a.is.found ∙ m.1 ∙ c.is.found) in
+      let point = one_point (record { path = a.is.path; node = node.Leaf a.is.leaf }) (record { path = c.is.path; node = c.is.node })
+      (sym a.is.found ∙ m.1 ∙ c.is.found) in
       let len : length a.is.path ≡ length c.is.path = ap (λ (x : OnPath). length x.path) point in
       omega (arith, len, a.is.within, c.is.deep)
 
 -- ---- whole texts
 
 -- a conclusion from two headers of one stream needs only the case of one header
-one_header : (P Q : ℕ → Bound → Stream → Type 0) (Z : Type 0) (s : Stream) → ((v : ℕ) (b : Bound) (rest : Stream) → P v b rest → Q v b rest → Z) → HasHeader s P → HasHeader s Q → Z
+one_header : (P Q : ℕ → Bound → Stream → Type 0) (Z : Type 0) (s : Stream)
+    → ((v : ℕ) (b : Bound) (rest : Stream) → P v b rest → Q v b rest → Z) → HasHeader s P → HasHeader s Q → Z
 one_header P Q Z s f h k =
     let same = same_header ((k.0, k.1), k.2) ((h.0, h.1), h.2) (sym k.3 ∙ h.3) in
     f h.0 h.1 h.2 h.4 (subst (λ (x : (ℕ × Bound) × Stream). Q x.0.0 x.0.1 x.1) same k.4)
@@ -256,20 +294,26 @@ abbrev FailsAfter : Problem → TextFault → ℕ → Bound → Stream → Type 
 FailsAfter p f v b rest = NodeFails p v b rest f ⊎ EndFails p v b rest f
 
 -- a header is read, or its text fails silently
-header_silent : (P : ℕ → Bound → Stream → Type 0) (s : Stream) (f : TextFault) → ¬ (f ≡ text.OutOfMemory) → Fails f (header_at s) → HasHeader s P → IsEnvironmental (reported.Text f)
+header_silent : (P : ℕ → Bound → Stream → Type 0) (s : Stream) (f : TextFault) → ¬ (f ≡ text.OutOfMemory) → Fails f (header_at s)
+    → HasHeader s P → IsEnvironmental (reported.Text f)
 header_silent P s f n h k = fails_silently f (header_at s) ((k.0, k.1), k.2) k.3 n h
 
-texts_one : (p : Problem) (s : Stream) (f g : TextFault) → IsProofFault p s (reported.Text f) → IsProofFault p s (reported.Text g) → AreOne (reported.Text f) (reported.Text g)
+texts_one : (p : Problem) (s : Stream) (f g : TextFault) → IsProofFault p s (reported.Text f) → IsProofFault p s (reported.Text g)
+    → AreOne (reported.Text f) (reported.Text g)
 texts_one p s f g (n, inl h) (m, inl k) = one_reading (header_at s) f g n m h k
 texts_one p s f g (n, inl h) (m, inr k) = inr (inl (header_silent (FailsAfter p g) s f n h k))
 texts_one p s f g (n, inr h) (m, inl k) = inr (inr (header_silent (FailsAfter p f) s g m k h))
-texts_one p s f g (n, inr h) (m, inr k) = one_header (FailsAfter p f) (FailsAfter p g) (AreOne (reported.Text f) (reported.Text g)) s (λ v b rest x y. texts_fail p v b rest f g n m x y) h k
+texts_one p s f g (n, inr h) (m, inr k) = one_header (FailsAfter p f) (FailsAfter p g) (AreOne (reported.Text f) (reported.Text g)) s
+    (λ v b rest x y. texts_fail p v b rest f g n m x y) h k
 
-text_one : (p : Problem) (s : Stream) (f : TextFault) (i : ℕ) (P : Bound → Tree → Type 0) → ((b : Bound) (tree : Tree) → P b tree → Stops p b tree i) → IsProofFault p s (reported.Text f) → HasHeader s (λ v b rest. IsReadTo p v rest i (P b))
+text_one : (p : Problem) (s : Stream) (f : TextFault) (i : ℕ) (P : Bound → Tree → Type 0)
+    → ((b : Bound) (tree : Tree) → P b tree → Stops p b tree i) → IsProofFault p s (reported.Text f)
+    → HasHeader s (λ v b rest. IsReadTo p v rest i (P b))
     → IsEnvironmental (reported.Text f)
 text_one p s f i P stops (n, inl h) k = header_silent (λ v b rest. IsReadTo p v rest i (P b)) s f n h k
 text_one p s f i P stops (n, inr h) k =
-    one_header (FailsAfter p f) (λ v b rest. IsReadTo p v rest i (P b)) (IsEnvironmental (reported.Text f)) s (λ v b rest x y. text_silent p v b rest f n x i (P b) y (stops b y.tree y.is)) h k
+    one_header (FailsAfter p f) (λ v b rest. IsReadTo p v rest i (P b)) (IsEnvironmental (reported.Text f)) s
+    (λ v b rest x y. text_silent p v b rest f n x i (P b) y (stops b y.tree y.is)) h k
 
 -- two errors of one text are equal, or one of them is silent
 pub one_fault : (p : Problem) (s : Stream) (f g : CheckFault) → IsProofFault p s f → IsProofFault p s g → AreOne f g
@@ -278,21 +322,29 @@ one_fault p s (reported.Text f) reported.OutOfMemory h k = inr (inr (inl refl))
 one_fault p s (reported.Rule i f) reported.OutOfMemory h k = inr (inr (inl refl))
 one_fault p s (reported.TooDeep i) reported.OutOfMemory h k = inr (inr (inl refl))
 one_fault p s (reported.Text f) (reported.Text g) h k = texts_one p s f g h k
-one_fault p s (reported.Text f) (reported.Rule j g) h k = inr (inl (text_one p s f j (λ b t. FailsAt p b t j g) (λ b t x. stops_by_fault p b t j g x) h k))
-one_fault p s (reported.Text f) (reported.TooDeep j) h k = inr (inl (text_one p s f j (λ b t. IsDeepAt p b t j) (λ b t x. stops_by_depth p b t j x) h k))
-one_fault p s (reported.Rule i f) (reported.Text g) h k = inr (inr (text_one p s g i (λ b t. FailsAt p b t i f) (λ b t x. stops_by_fault p b t i f x) k h))
-one_fault p s (reported.TooDeep i) (reported.Text g) h k = inr (inr (text_one p s g i (λ b t. IsDeepAt p b t i) (λ b t x. stops_by_depth p b t i x) k h))
+one_fault p s (reported.Text f) (reported.Rule j g) h k =
+    inr (inl (text_one p s f j (λ b t. FailsAt p b t j g) (λ b t x. stops_by_fault p b t j g x) h k))
+one_fault p s (reported.Text f) (reported.TooDeep j) h k =
+    inr (inl (text_one p s f j (λ b t. IsDeepAt p b t j) (λ b t x. stops_by_depth p b t j x) h k))
+one_fault p s (reported.Rule i f) (reported.Text g) h k =
+    inr (inr (text_one p s g i (λ b t. FailsAt p b t i f) (λ b t x. stops_by_fault p b t i f x) k h))
+one_fault p s (reported.TooDeep i) (reported.Text g) h k =
+    inr (inr (text_one p s g i (λ b t. IsDeepAt p b t i) (λ b t x. stops_by_depth p b t i x) k h))
 one_fault p s (reported.Rule i f) (reported.Rule j g) h k =
-    one_header (λ v b rest. IsReadTo p v rest i (λ t. FailsAt p b t i f)) (λ v b rest. IsReadTo p v rest j (λ t. FailsAt p b t j g)) (AreOne (reported.Rule i f) (reported.Rule j g)) s
+    one_header (λ v b rest. IsReadTo p v rest i (λ t. FailsAt p b t i f)) (λ v b rest. IsReadTo p v rest j (λ t. FailsAt p b t j g))
+    (AreOne (reported.Rule i f) (reported.Rule j g)) s
     (λ v b rest x y. rules_fail p v b rest i j f g x y) h k
 one_fault p s (reported.TooDeep i) (reported.TooDeep j) h k =
-    one_header (λ v b rest. IsReadTo p v rest i (λ t. IsDeepAt p b t i)) (λ v b rest. IsReadTo p v rest j (λ t. IsDeepAt p b t j)) (AreOne (reported.TooDeep i) (reported.TooDeep j)) s
+    one_header (λ v b rest. IsReadTo p v rest i (λ t. IsDeepAt p b t i)) (λ v b rest. IsReadTo p v rest j (λ t. IsDeepAt p b t j))
+    (AreOne (reported.TooDeep i) (reported.TooDeep j)) s
     (λ v b rest x y. depths_fail p v b rest i j x y) h k
 one_fault p s (reported.Rule i f) (reported.TooDeep j) h k =
-    one_header (λ v b rest. IsReadTo p v rest i (λ t. FailsAt p b t i f)) (λ v b rest. IsReadTo p v rest j (λ t. IsDeepAt p b t j)) (AreOne (reported.Rule i f) (reported.TooDeep j)) s
+    one_header (λ v b rest. IsReadTo p v rest i (λ t. FailsAt p b t i f)) (λ v b rest. IsReadTo p v rest j (λ t. IsDeepAt p b t j))
+    (AreOne (reported.Rule i f) (reported.TooDeep j)) s
     (λ v b rest x y. absurd (rule_or_depth p v b rest i j f x y)) h k
 one_fault p s (reported.TooDeep i) (reported.Rule j g) h k =
-    one_header (λ v b rest. IsReadTo p v rest i (λ t. IsDeepAt p b t i)) (λ v b rest. IsReadTo p v rest j (λ t. FailsAt p b t j g)) (AreOne (reported.TooDeep i) (reported.Rule j g)) s
+    one_header (λ v b rest. IsReadTo p v rest i (λ t. IsDeepAt p b t i)) (λ v b rest. IsReadTo p v rest j (λ t. FailsAt p b t j g))
+    (AreOne (reported.TooDeep i) (reported.Rule j g)) s
     (λ v b rest x y. absurd (rule_or_depth p v b rest j i g y x)) h k
 
 -- -- the errors of `certify`
@@ -300,7 +352,8 @@ one_fault p s (reported.TooDeep i) (reported.Rule j g) h k =
 abbrev AreOneRefusal : CertifyFault → CertifyFault → Type 0
 AreOneRefusal f g = (f ≡ g) ⊎ (IsEnvironmentalRefusal f ⊎ IsEnvironmentalRefusal g)
 
-proofs_refused : (i s bytes : List ℕ) (f g : CheckFault) → FailsProof i s (Some bytes) f → FailsProof i s (Some bytes) g → AreOneRefusal (fault.Proof f) (fault.Proof g)
+proofs_refused : (i s bytes : List ℕ) (f g : CheckFault) → FailsProof i s (Some bytes) f → FailsProof i s (Some bytes) g
+    → AreOneRefusal (fault.Proof f) (fault.Proof g)
 proofs_refused i s bytes f g h k =
     let same : k.problem ≡ h.problem = spelled_once i k.problem h.problem k.both.spelled h.both.spelled in
     elim (one_fault h.problem (stream_of bytes) f g h.fails (subst (λ (q : Problem). IsProofFault q (stream_of bytes) g) same k.fails)) [
@@ -320,7 +373,8 @@ spelled_or_refused : (i : List ℕ) (p : Problem) (f : InstanceFault) → instan
 spelled_or_refused i p f h spelled = let e = is_read i p spelled in cc
 
 -- two errors that `certify` may report for its bytes are equal, or one says nothing about them
-pub one_refusal : (i s bytes : List ℕ) (f g : CertifyFault) → IsFirstFault i s (Some bytes) f → IsFirstFault i s (Some bytes) g → AreOneRefusal f g
+pub one_refusal : (i s bytes : List ℕ) (f g : CertifyFault) → IsFirstFault i s (Some bytes) f → IsFirstFault i s (Some bytes) g
+    → AreOneRefusal f g
 one_refusal i s bytes fault.OutOfMemory g h k = inr (inl tt)
 one_refusal i s bytes (fault.Instance f) fault.OutOfMemory h k = inr (inr tt)
 one_refusal i s bytes (fault.Solution f) fault.OutOfMemory h k = inr (inr tt)
@@ -331,6 +385,8 @@ one_refusal i s bytes (fault.Instance f) (fault.Proof g) h k = absurd (spelled_o
 one_refusal i s bytes (fault.Solution f) (fault.Instance g) h k = absurd (spelled_or_refused i h.problem g k h.spelled)
 one_refusal i s bytes (fault.Proof f) (fault.Instance g) h k = absurd (spelled_or_refused i h.problem g k h.both.spelled)
 one_refusal i s bytes (fault.Solution f) (fault.Solution g) h k = inl (solutions_refused i s f g h k)
-one_refusal i s bytes (fault.Solution f) (fault.Proof g) h k = absurd (let e = only_memory i s k.problem k.table (fault.Solution f) k.both h in cc)
-one_refusal i s bytes (fault.Proof f) (fault.Solution g) h k = absurd (let e = only_memory i s h.problem h.table (fault.Solution g) h.both k in cc)
+one_refusal i s bytes (fault.Solution f) (fault.Proof g) h k =
+    absurd (let e = only_memory i s k.problem k.table (fault.Solution f) k.both h in cc)
+one_refusal i s bytes (fault.Proof f) (fault.Solution g) h k =
+    absurd (let e = only_memory i s h.problem h.table (fault.Solution g) h.both k in cc)
 one_refusal i s bytes (fault.Proof f) (fault.Proof g) h k = proofs_refused i s bytes f g h k

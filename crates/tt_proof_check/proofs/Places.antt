@@ -4,7 +4,8 @@ use Rattle.tt_facts_path.specs.declared.facts.Fact.{Fact}
 use Rattle.tt_proof_read.specs.Trees.{with_fact}
 use Rattle.tt_proof_check.specs.Inner.Pending.{other_side, pending_after, pending}
 
-pending_after-push : (before path : List Fact) (f : Fact) → pending_after before (path ++ f ∷ []) ≡ other_side (before ++ path) f ++ pending_after before path
+pending_after-push : (before path : List Fact) (f : Fact) → pending_after before (path ++ f ∷ []) ≡ other_side
+    (before ++ path) f ++ pending_after before path
 pending_after-push before [] f = ap (λ l. other_side l f) (sym (append-nil before)) ∙ sym (append-nil (other_side (before ++ []) f))
 pending_after-push before (x ∷ xs) f =
     ap (λ l. l ++ other_side before x) (pending_after-push (before ++ x ∷ []) xs f)
@@ -16,7 +17,8 @@ pub pending-push : (path : List Fact) (f : Fact) → pending (path ++ f ∷ []) 
 pending-push path f = pending_after-push [] path f
 
 -- if a yes-fact is replaced by its no-fact, the new path is the next place
-pub pending-turned : (now before after : List Fact) (f : Fact) → now ≡ before ++ f ∷ [] → f.holds ≡ true → after ≡ with_fact before f.pattern false → pending now ≡ after ∷ pending after
+pub pending-turned : (now before after : List Fact) (f : Fact) → now ≡ before ++ f ∷ [] → f.holds ≡ true
+    → after ≡ with_fact before f.pattern false → pending now ≡ after ∷ pending after
 pending-turned now before after f e h a =
     let opened : other_side before f ≡ with_fact before f.pattern false ∷ [] = rw h in
     let now_is = ap pending e ∙ pending-push before f ∙ ap (λ l. l ++ pending before) opened in

@@ -36,7 +36,8 @@ places_of (path ∷ rest) (n ∷ ns) = at path n ∷ places_of (next_stack path 
 
 -- ---- more nodes
 
-pub stack_after-append : (stack after : Stack) (nodes more : List Node) → stack_after stack nodes ≡ Some after → stack_after stack (nodes ++ more) ≡ stack_after after more
+pub stack_after-append : (stack after : Stack) (nodes more : List Node) → stack_after stack nodes ≡ Some after
+    → stack_after stack (nodes ++ more) ≡ stack_after after more
 stack_after-append stack after [] more e = let same : stack ≡ after = cc in ap (λ (s : Stack). stack_after s more) same
 stack_after-append [] after (n ∷ ns) more e = cc
 stack_after-append (path ∷ rest) after (n ∷ ns) more e = stack_after-append (next_stack path rest n) after ns more e
@@ -45,29 +46,36 @@ nothing_placed : (stack : Stack) → places_of stack [] ≡ []
 nothing_placed [] = refl
 nothing_placed (path ∷ rest) = refl
 
-pub places_of-append : (stack after : Stack) (nodes more : List Node) → stack_after stack nodes ≡ Some after → places_of stack (nodes ++ more) ≡ places_of stack nodes ++ places_of after more
+pub places_of-append : (stack after : Stack) (nodes more : List Node) → stack_after stack nodes ≡ Some after
+    → places_of stack (nodes ++ more) ≡ places_of stack nodes ++ places_of after more
 places_of-append stack after [] more e =
-    let same : stack ≡ after = cc in ap (λ (s : Stack). places_of s more) same ∙ ap (λ l. l ++ places_of after more) (sym (nothing_placed stack))
+    let same : stack ≡ after = cc in ap (λ (s : Stack). places_of s more) same ∙ ap (λ l. l ++ places_of after more)
+    (sym (nothing_placed stack))
 places_of-append [] after (n ∷ ns) more e = cc
 places_of-append (path ∷ rest) after (n ∷ ns) more e = ap (λ l. at path n ∷ l) (places_of-append (next_stack path rest n) after ns more e)
 
-pub length-places_of : (stack after : Stack) (nodes : List Node) → stack_after stack nodes ≡ Some after → length (places_of stack nodes) ≡ length nodes
+pub length-places_of : (stack after : Stack) (nodes : List Node) → stack_after stack nodes ≡ Some after
+    → length (places_of stack nodes) ≡ length nodes
 length-places_of [] after [] e = refl
 length-places_of (path ∷ rest) after [] e = refl
 length-places_of [] after (n ∷ ns) e = cc
 length-places_of (path ∷ rest) after (n ∷ ns) e = ap (λ k. suc k) (length-places_of (next_stack path rest n) after ns e)
 
 -- another node
-pub stack_after-push : (path : List Fact) (rest : Stack) (nodes : List Node) (n : Node) → stack_after root nodes ≡ Some (path ∷ rest) → stack_after root (nodes ++ n ∷ []) ≡ Some (next_stack path rest n)
+pub stack_after-push : (path : List Fact) (rest : Stack) (nodes : List Node) (n : Node) → stack_after root nodes ≡ Some (path ∷ rest)
+    → stack_after root (nodes ++ n ∷ []) ≡ Some (next_stack path rest n)
 stack_after-push path rest nodes n e = stack_after-append root (path ∷ rest) nodes (n ∷ []) e
 
-pub places_of-push : (path : List Fact) (rest : Stack) (nodes : List Node) (n : Node) → stack_after root nodes ≡ Some (path ∷ rest) → places_of root (nodes ++ n ∷ []) ≡ places_of root nodes ++ at path n ∷ []
+pub places_of-push : (path : List Fact) (rest : Stack) (nodes : List Node) (n : Node) → stack_after root nodes ≡ Some (path ∷ rest)
+    → places_of root (nodes ++ n ∷ []) ≡ places_of root nodes ++ at path n ∷ []
 places_of-push path rest nodes n e =
-    places_of-append root (path ∷ rest) nodes (n ∷ []) e ∙ ap (λ l. places_of root nodes ++ at path n ∷ l) (nothing_placed (next_stack path rest n))
+    places_of-append root (path ∷ rest) nodes (n ∷ []) e ∙ ap (λ l. places_of root nodes ++ at path n ∷ l)
+    (nothing_placed (next_stack path rest n))
 
 -- ---- a whole tree
 
-stack_after-tree : (tree : Tree) (path : List Fact) (rest : Stack) (ns : List Node) → stack_after (path ∷ rest) (preorder tree ++ ns) ≡ stack_after rest ns
+stack_after-tree : (tree : Tree) (path : List Fact) (rest : Stack) (ns : List Node) → stack_after (path ∷ rest) (preorder tree ++ ns)
+    ≡ stack_after rest ns
 stack_after-tree (Tip leaf) path rest ns = refl
 stack_after-tree (Fork g x y) path rest ns =
     let a = with_fact path g true in
@@ -75,13 +83,15 @@ stack_after-tree (Fork g x y) path rest ns =
     ap (λ l. stack_after (a ∷ b ∷ rest) l) (append_assoc (preorder x) (preorder y) ns)
     ∙ stack_after-tree x a (b ∷ rest) (preorder y ++ ns) ∙ stack_after-tree y b rest ns
 
-places_of-tree : (tree : Tree) (path : List Fact) (rest : Stack) (ns : List Node) → places_of (path ∷ rest) (preorder tree ++ ns) ≡ on_paths path tree ++ places_of rest ns
+places_of-tree : (tree : Tree) (path : List Fact) (rest : Stack) (ns : List Node) → places_of (path ∷ rest) (preorder tree ++ ns)
+    ≡ on_paths path tree ++ places_of rest ns
 places_of-tree (Tip leaf) path rest ns = refl
 places_of-tree (Fork g x y) path rest ns =
     let a = with_fact path g true in
     let b = with_fact path g false in
     ap (λ l. at path (Split g) ∷ places_of (a ∷ b ∷ rest) l) (append_assoc (preorder x) (preorder y) ns)
-    ∙ ap (λ l. at path (Split g) ∷ l) (places_of-tree x a (b ∷ rest) (preorder y ++ ns) ∙ ap (λ l. on_paths a x ++ l) (places_of-tree y b rest ns) ∙ sym (append_assoc (on_paths a x) (on_paths b y) (places_of rest ns)))
+    ∙ ap (λ l. at path (Split g) ∷ l) (places_of-tree x a (b ∷ rest) (preorder y ++ ns)
+    ∙ ap (λ l. on_paths a x ++ l) (places_of-tree y b rest ns) ∙ sym (append_assoc (on_paths a x) (on_paths b y) (places_of rest ns)))
 
 -- the nodes of a tree leave no place open
 pub whole_stack : (tree : Tree) (nodes : List Node) → preorder tree ≡ nodes → stack_after root nodes ≡ Some []
@@ -89,7 +99,8 @@ whole_stack tree nodes e = ap (stack_after root) (sym e ∙ sym (append-nil (pre
 
 -- the nodes of a tree are on the paths of the tree
 pub whole_places : (tree : Tree) (nodes : List Node) → preorder tree ≡ nodes → places_of root nodes ≡ on_paths [] tree
-whole_places tree nodes e = ap (places_of root) (sym e ∙ sym (append-nil (preorder tree))) ∙ places_of-tree tree [] [] [] ∙ append-nil (on_paths [] tree)
+whole_places tree nodes e = ap (places_of root) (sym e ∙ sym (append-nil (preorder tree))) ∙ places_of-tree tree [] [] []
+    ∙ append-nil (on_paths [] tree)
 
 -- a tree at the beginning of the nodes
 record Begins (rest : Stack) (nodes : List Node) : Type 0 where
@@ -99,7 +110,8 @@ record Begins (rest : Stack) (nodes : List Node) : Type 0 where
   others : stack_after rest behind ≡ Some []
   shorter : length behind < length nodes
 
-first_tree : (n : ℕ) (nodes : List Node) (path : List Fact) (rest : Stack) → length nodes ≤ n → stack_after (path ∷ rest) nodes ≡ Some [] → Begins rest nodes
+first_tree : (n : ℕ) (nodes : List Node) (path : List Fact) (rest : Stack) → length nodes ≤ n → stack_after (path ∷ rest) nodes ≡ Some
+    [] → Begins rest nodes
 first_tree n [] path rest h e = cc
 first_tree zero (x ∷ xs) path rest h e = absurd (omega arith)
 first_tree (suc n) (Leaf leaf ∷ ns) path rest h e =
@@ -110,7 +122,8 @@ first_tree (suc n) (Split g ∷ ns) path rest h e =
     record {
       tree = Fork g a.tree b.tree;
       behind = b.behind;
-      split = ap (λ l. Split g ∷ l) (append_assoc (preorder a.tree) (preorder b.tree) b.behind ∙ ap (λ l. preorder a.tree ++ l) b.split ∙ a.split);
+      split = ap (λ l. Split g ∷ l) (append_assoc (preorder a.tree) (preorder b.tree) b.behind ∙ ap (λ l. preorder a.tree ++ l) b.split
+          ∙ a.split);
       others = b.others;
       shorter = omega (arith, a.shorter, b.shorter);
     }
@@ -136,23 +149,29 @@ stack_after-closing [] = refl
 stack_after-closing (path ∷ rest) = stack_after-closing rest
 
 -- some tree continues any nodes that each had an open place, with a node for each place that is open
-pub some_tree : (nodes : List Node) (stack : Stack) → stack_after root nodes ≡ Some stack → (tree : Tree) × (preorder tree ≡ nodes ++ closing stack)
-some_tree nodes stack e = stack_whole (nodes ++ closing stack) (stack_after-append root stack nodes (closing stack) e ∙ stack_after-closing stack)
+pub some_tree : (nodes : List Node) (stack : Stack) → stack_after root nodes ≡ Some stack
+    → (tree : Tree) × (preorder tree ≡ nodes ++ closing stack)
+some_tree nodes stack e = stack_whole (nodes ++ closing stack) (stack_after-append root stack nodes (closing stack) e
+    ∙ stack_after-closing stack)
 
 -- a tree that continues the nodes has them on these paths
-pub tree_goes_on : (tree : Tree) (path : List Fact) (others : Stack) (nodes : List Node) (n : Node) (rest : List Node) → preorder tree ≡ nodes ++ n ∷ rest → stack_after root nodes ≡ Some (path ∷ others)
+pub tree_goes_on : (tree : Tree) (path : List Fact) (others : Stack) (nodes : List Node) (n : Node) (rest : List Node)
+    → preorder tree ≡ nodes ++ n ∷ rest → stack_after root nodes ≡ Some (path ∷ others)
     → on_paths [] tree ≡ places_of root nodes ++ at path n ∷ places_of (next_stack path others n) rest
-tree_goes_on tree path others nodes n rest s e = sym (whole_places tree (nodes ++ n ∷ rest) s) ∙ places_of-append root (path ∷ others) nodes (n ∷ rest) e
+tree_goes_on tree path others nodes n rest s e = sym (whole_places tree (nodes ++ n ∷ rest) s)
+    ∙ places_of-append root (path ∷ others) nodes (n ∷ rest) e
 
 -- if no place is open, no tree continues the nodes
-pub no_tree_goes_on : (tree : Tree) (nodes : List Node) (n : Node) (rest : List Node) → preorder tree ≡ nodes ++ n ∷ rest → stack_after root nodes ≡ Some [] → ⊥
+pub no_tree_goes_on : (tree : Tree) (nodes : List Node) (n : Node) (rest : List Node) → preorder tree ≡ nodes ++ n ∷ rest
+    → stack_after root nodes ≡ Some [] → ⊥
 no_tree_goes_on tree nodes n rest s e =
     let none : stack_after root (nodes ++ n ∷ rest) ≡ None = stack_after-append root [] nodes (n ∷ rest) e in
     let some = whole_stack tree (nodes ++ n ∷ rest) s in
     cc
 
 -- if a place is open, the nodes are no tree
-pub no_tree_yet : (tree : Tree) (path : List Fact) (others : Stack) (nodes : List Node) → preorder tree ≡ nodes → stack_after root nodes ≡ Some (path ∷ others) → ⊥
+pub no_tree_yet : (tree : Tree) (path : List Fact) (others : Stack) (nodes : List Node) → preorder tree ≡ nodes
+    → stack_after root nodes ≡ Some (path ∷ others) → ⊥
 no_tree_yet tree path others nodes s e = let some = whole_stack tree nodes s in cc
 
 -- an element after others

@@ -6,7 +6,13 @@ use Rattle.tt_proof_read.specs.declared.sizes.Sizes.{Sizes}
 use Rattle.tt_proof_check.specs.Streams.{sizes_of}
 
 abbrev make_sizes : ℕ → ℕ → ℕ → ℕ → ℕ → Sizes
-make_sizes courses curricula rooms days periods = record { courses = courses; curricula = curricula; rooms = rooms; days = days; periods = periods }
+make_sizes courses curricula rooms days periods = record {
+  courses = courses;
+  curricula = curricula;
+  rooms = rooms;
+  days = days;
+  periods = periods;
+}
 
 pub sizes_are : (p : Problem) (sizes : Sizes) → AreSizes p sizes → sizes ≡ sizes_of p
 sizes_are p sizes a =

@@ -16,11 +16,13 @@ use Rattle.tt_proof_read.specs.declared.node.Node.{Node}
 use Rattle.tt_proof_check.specs.Derives.{Derives, HoldsOfAll, Proves}
 
 -- by induction on the tree: a timetable meets the pattern of a split or it doesn't
-pub tree_sound : (p : Problem) (t : List Cell) (ok : IsFeasible p t) (b : Bound) (path : List Fact) (tree : Tree) → Derives p b path tree → Fits p t path → Respects b (cost p t)
+pub tree_sound : (p : Problem) (t : List Cell) (ok : IsFeasible p t) (b : Bound) (path : List Fact) (tree : Tree)
+    → Derives p b path tree → Fits p t path → Respects b (cost p t)
 tree_sound p t ok b path (Tip leaf) d fits = leaf_sound p t ok path fits b leaf d
 tree_sound p t ok b path (Fork g first second) d fits = elim (cases_Bool (list_any (matches p g) t)) [
   | inl h ↦ tree_sound p t ok b (with_fact path g true) first d.0 (All-push (Holds p t) path (record { pattern = g; holds = true }) fits h)
-  | inr h ↦ tree_sound p t ok b (with_fact path g false) second d.1 (All-push (Holds p t) path (record { pattern = g; holds = false }) fits h)
+  | inr h ↦ tree_sound p t ok b (with_fact path g false) second d.1
+      (All-push (Holds p t) path (record { pattern = g; holds = false }) fits h)
 ]
 
 -- a bound that a tree derives from no fact holds for every feasible timetable

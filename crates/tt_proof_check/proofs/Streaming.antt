@@ -34,15 +34,21 @@ use Rattle.tt_proof_check.proofs.Sizes.{sizes_are}
 use Rattle.tt_proof_check.proofs.TextFaults.{text_cases}
 use Rattle.tt_proof_check.proofs.Walking.{stack_of, Walked, walked_start, walked_next, walked_end, fails_at, IsDeepNext, too_deep, deep_at}
 
-pub reads_push : (sizes : Sizes) (v count : ℕ) (s t u : Stream) (nodes : List Node) (n : Node) → ReadsNodes sizes v count s nodes t → node_at sizes v (count + length nodes) t ≡ Ok (n, u) → ReadsNodes sizes v count s (nodes ++ n ∷ []) u
-reads_push sizes v count s t u [] n r e =
-    (u, subst (λ (x : Stream). node_at sizes v count x ≡ Ok (n, u)) (sym r) (ap (λ (k : ℕ). node_at sizes v k t) (sym (add-zero count)) ∙ e), refl)
+pub reads_push : (sizes : Sizes) (v count : ℕ) (s t u : Stream) (nodes : List Node) (n : Node) → ReadsNodes sizes v count s nodes t
+    → node_at sizes v (count + length nodes) t ≡ Ok (n, u) → ReadsNodes sizes v count s (nodes ++ n ∷ []) u
+reads_push sizes v count s t u [] n r e = (
+  u,
+  subst (λ (x : Stream). node_at sizes v count x ≡ Ok (n, u)) (sym r) (ap (λ (k : ℕ). node_at sizes v k t) (sym (add-zero count))
+      ∙ e),
+  refl,
+)
 reads_push sizes v count s t u (m ∷ ms) n r e =
     let here : count + length (m ∷ ms) ≡ (count + 1) + length ms = omega arith in
     (r.0, r.1, reads_push sizes v (count + 1) r.0 t u ms n r.2 (ap (λ (k : ℕ). node_at sizes v k t) (sym here) ∙ e))
 
 -- another node is visited
-pub visited_push : {X : Type 0} (visits : X → ℕ → Node → X → Type 0) (i : ℕ) (old mid new : X) (k : ℕ) (n : Node) → visits mid k n new → (nodes : List Node) → k ≡ i + length nodes → Visited visits i old mid nodes → Visited visits i old new (nodes ++ n ∷ [])
+pub visited_push : {X : Type 0} (visits : X → ℕ → Node → X → Type 0) (i : ℕ) (old mid new : X) (k : ℕ) (n : Node) → visits mid k n new
+    → (nodes : List Node) → k ≡ i + length nodes → Visited visits i old mid nodes → Visited visits i old new (nodes ++ n ∷ [])
 visited_push visits i old mid new k n h [] c e =
     let here : k ≡ i = omega (arith, c) in
     (new, subst (λ x. visits x i n new) e (subst (λ j. visits mid j n new) here h), refl)
@@ -50,8 +56,10 @@ visited_push visits i old mid new k n h (m ∷ ms) c e =
     let here : k ≡ (i + 1) + length ms = omega (arith, c) in
     (e.0, e.1, visited_push visits (i + 1) e.0 mid new k n h ms here e.2)
 
--- The nodes that have been read, checked and visited, in this state of the reader, with this stream after them and the path of the due node.
-pub record Sofar (p : Problem) (v : ℕ) (b : Bound) (known : Bool) (H : List Node → Type 0) (s : Stream) (reader : Reader) (t : Stream) (path : List Fact) : Type 0 where
+-- The nodes that have been read, checked and visited, in this state of the reader, with this stream after them and the path of the due
+-- node.
+pub record Sofar (p : Problem) (v : ℕ) (b : Bound) (known : Bool) (H : List Node → Type 0) (s : Stream) (reader : Reader) (t : Stream)
+    (path : List Fact) : Type 0 where
   pub nodes : List Node
   pub due : Bool
   pub walked : Walked p b nodes path due
@@ -63,7 +71,8 @@ pub record Sofar (p : Problem) (v : ℕ) (b : Bound) (known : Bool) (H : List No
   pub sound : reader.fault ≡ None
   pub visited : H nodes
 
-pub sofar_start : (p : Problem) (b : Bound) (known : Bool) (H : List Node → Type 0) (s : Stream) (reader : Reader) (path : List Fact) → path ≡ [] → reader.count ≡ 0 → reader.places ≡ 1 → AreSizes p reader.sizes → reader.fault ≡ None → H []
+pub sofar_start : (p : Problem) (b : Bound) (known : Bool) (H : List Node → Type 0) (s : Stream) (reader : Reader) (path : List Fact)
+    → path ≡ [] → reader.count ≡ 0 → reader.places ≡ 1 → AreSizes p reader.sizes → reader.fault ≡ None → H []
     → Sofar p reader.version b known H s reader s path
 sofar_start p b known H s reader path e c d sizes sound visited = record {
   nodes = [];
@@ -82,7 +91,8 @@ pub same_length : (x y : Stack) → Some x ≡ Some y → length x ≡ length y
 same_length x y e = let same : x ≡ y = cc in ap length same
 
 -- after nodes that pass, a node is due, and its text fails
-node_fails : (p : Problem) (v : ℕ) (b : Bound) (s t : Stream) (f : TextFault) (nodes : List Node) (path : List Fact) (others : Stack) → stack_after root nodes ≡ Some (path ∷ others) → All (Passes p b) (places_of root nodes)
+node_fails : (p : Problem) (v : ℕ) (b : Bound) (s t : Stream) (f : TextFault) (nodes : List Node) (path : List Fact) (others : Stack)
+    → stack_after root nodes ≡ Some (path ∷ others) → All (Passes p b) (places_of root nodes)
     → ReadsNodes (sizes_of p) v 0 s nodes t → Fails f (node_at (sizes_of p) v (length nodes) t) → NodeFails p v b s f
 node_fails p v b s t f nodes path others stack passed reads fails =
     let h = some_tree nodes (path ∷ others) stack in
@@ -96,29 +106,39 @@ node_fails p v b s t f nodes path others stack passed reads fails =
       next = Leaf (Many 0);
       more = closing others;
       begins = h.1;
-      passed = subst (λ (l : List OnPath). All (Passes p b) l) (sym (ap (take (length nodes)) all ∙ take_at (places_of root nodes) behind (length nodes) (length-places_of root (path ∷ others) nodes stack))) passed;
+      passed = subst (λ (l : List OnPath). All (Passes p b) l)
+          (sym (ap (take (length nodes)) all ∙ take_at (places_of root nodes) behind (length nodes)
+          (length-places_of root (path ∷ others) nodes stack))) passed;
       fails = fails;
     }
 
 -- after nodes that pass, a node is due, and the failure of a read cuts it off
-node_breaks : (p : Problem) (v : ℕ) (b : Bound) (s t : Stream) (nodes : List Node) (path : List Fact) (others : Stack) → stack_after root nodes ≡ Some (path ∷ others) → All (Passes p b) (places_of root nodes)
+node_breaks : (p : Problem) (v : ℕ) (b : Bound) (s t : Stream) (nodes : List Node) (path : List Fact) (others : Stack)
+    → stack_after root nodes ≡ Some (path ∷ others) → All (Passes p b) (places_of root nodes)
     → ReadsNodes (sizes_of p) v 0 s nodes t → node_at (sizes_of p) v (length nodes) t ≡ Err read_failed → NodeIsCutOff p v b s
 unfolding node_fails
-node_breaks p v b s t nodes path others stack passed reads breaks = (node_fails p v b s t read_failed nodes path others stack passed reads tt, breaks)
+node_breaks p v b s t nodes path others stack passed reads breaks =
+    (node_fails p v b s t read_failed nodes path others stack passed reads tt, breaks)
 
-node_as : (a c : Sizes) (v w count : ℕ) (s : Stream) (P : Result (Node × Stream) TextFault → Type 0) → a ≡ c → v ≡ w → P (node_at a v count s) → P (node_at c w count s)
+node_as : (a c : Sizes) (v w count : ℕ) (s : Stream) (P : Result (Node × Stream) TextFault → Type 0) → a ≡ c → v ≡ w
+    → P (node_at a v count s) → P (node_at c w count s)
 node_as a c v w count s P e d h = subst (λ (k : ℕ). P (node_at c k count s)) d (subst (λ (x : Sizes). P (node_at x v count s)) e h)
 
-child_as : (a c : Sizes) (v w count more : ℕ) (s : Stream) (i : ℕ) (e : CheckFault) → a ≡ c → v ≡ w → count ≡ more → ExplainsChild a v count s i e → ExplainsChild c w more s i e
+child_as : (a c : Sizes) (v w count more : ℕ) (s : Stream) (i : ℕ) (e : CheckFault) → a ≡ c → v ≡ w → count ≡ more
+    → ExplainsChild a v count s i e → ExplainsChild c w more s i e
 child_as a c v w count more s i e same_sizes same_version same_count h =
     subst (λ (k : ℕ). ExplainsChild c w k s i e) same_count
     (subst (λ (k : ℕ). ExplainsChild c k count s i e) same_version (subst (λ (x : Sizes). ExplainsChild x v count s i e) same_sizes h))
 
 -- after nodes that pass, a node is due on a path that is too long; it has been read, or its text fails
-reported_child : (p : Problem) (v : ℕ) (b : Bound) (s t : Stream) (nodes : List Node) (i : ℕ) → IsDeepNext p b nodes → length nodes ≡ i → ReadsNodes (sizes_of p) v 0 s nodes t → (e : CheckFault) → ExplainsChild (sizes_of p) v i t i e
+reported_child : (p : Problem) (v : ℕ) (b : Bound) (s t : Stream) (nodes : List Node) (i : ℕ) → IsDeepNext p b nodes → length nodes ≡ i
+    → ReadsNodes (sizes_of p) v 0 s nodes t → (e : CheckFault) → ExplainsChild (sizes_of p) v i t i e
     → ExplainsNodes p v b s e
-reported_child p v b s t nodes i d len reads (reported.Text f) c =
-    (c.0, node_fails p v b s t f nodes d.path d.others d.stack d.passed reads (subst (λ (k : ℕ). Fails f (node_at (sizes_of p) v k t)) (sym len) c.1))
+reported_child p v b s t nodes i d len reads (reported.Text f) c = (
+  c.0,
+  node_fails p v b s t f nodes d.path d.others d.stack d.passed reads
+      (subst (λ (k : ℕ). Fails f (node_at (sizes_of p) v k t)) (sym len) c.1),
+)
 reported_child p v b s t nodes i d len reads (reported.Rule j f) c = absurd c
 reported_child p v b s t nodes i d len reads (reported.TooDeep j) c =
     let stack = next_stack d.path d.others c.1 in
@@ -138,12 +158,14 @@ reported_child p v b s t nodes i d len reads (reported.TooDeep j) c =
     }
 reported_child p v b s t nodes i d len reads reported.OutOfMemory c = tt
 
-module _ (p : Problem) (v : ℕ) (b : Bound) (known : Bool) (H : List Node → Type 0) (s : Stream) (old : Reader) (t : Stream) (path : List Fact) (m : Sofar p v b known H s old t path) where
+module _ (p : Problem) (v : ℕ) (b : Bound) (known : Bool) (H : List Node → Type 0) (s : Stream) (old : Reader) (t : Stream)
+    (path : List Fact) (m : Sofar p v b known H s old t path) where
   -- if a place is open, a node is due
   is_due : 0 < old.places → Walked p b m.nodes path true × (length (path ∷ pending path) ≡ old.places)
   is_due some = on m.due m.walked m.places
     where
-      on : (due : Bool) → Walked p b m.nodes path due → length (stack_of due path) ≡ old.places → Walked p b m.nodes path true × (length (path ∷ pending path) ≡ old.places)
+      on : (due : Bool) → Walked p b m.nodes path due → length (stack_of due path) ≡ old.places → Walked p b m.nodes path true
+          × (length (path ∷ pending path) ≡ old.places)
       on true w e = (w, e)
       on false w e = absurd (omega (arith, e, some))
 
@@ -154,14 +176,16 @@ module _ (p : Problem) (v : ℕ) (b : Bound) (known : Bool) (H : List Node → T
   same_sizes = sizes_are p old.sizes m.sizes
 
   -- a node was read, which is checked next
-  module _ (new : Reader) (u : Stream) (n : Node) (goes : IsReaderAfter old (Ok (Some n)) new) (says : known ≡ true → IsReadingOf old t (Ok (Some n)) u) where
+  module _ (new : Reader) (u : Stream) (n : Node) (goes : IsReaderAfter old (Ok (Some n)) new)
+      (says : known ≡ true → IsReadingOf old t (Ok (Some n)) u) where
     read_one : known ≡ true → ReadsNodes (sizes_of p) v 0 s (m.nodes ++ n ∷ []) u
     read_one k =
         let here : 0 + length m.nodes ≡ old.count = omega (arith, m.count) in
         let text = node_as old.sizes (sizes_of p) old.version v old.count t (λ r. r ≡ Ok (n, u)) same_sizes m.version (says k) in
         reads_push (sizes_of p) v 0 s t u m.nodes n (m.reads k) (ap (λ (i : ℕ). node_at (sizes_of p) v i t) here ∙ text)
 
-    pub sofar_next : (G : List Node → Type 0) → ((nodes : List Node) → length nodes ≡ old.count → H nodes → G (nodes ++ n ∷ [])) → (next : List Fact) → Steps p b path n next → length next ≤ 65536 → Sofar p v b known G s new u next
+    pub sofar_next : (G : List Node → Type 0) → ((nodes : List Node) → length nodes ≡ old.count → H nodes → G (nodes ++ n ∷ []))
+        → (next : List Fact) → Steps p b path n next → length next ≤ 65536 → Sofar p v b known G s new u next
     sofar_next G visit next step within =
         let w = is_due goes.0 in
         let h = walked_next p b m.nodes path next n w.0 step within in
@@ -171,7 +195,8 @@ module _ (p : Problem) (v : ℕ) (b : Bound) (known : Bool) (H : List Node → T
           walked = h.1;
           reads = read_one;
           count = one_more n ∙ ap (λ (r : Reader). r.count) (sym goes.1);
-          places = same_length (stack_of h.0 next) (next_stack path (pending path) n) (sym h.1.stack ∙ stack_after-push path (pending path) m.nodes n w.0.stack)
+          places = same_length (stack_of h.0 next) (next_stack path (pending path) n)
+              (sym h.1.stack ∙ stack_after-push path (pending path) m.nodes n w.0.stack)
               ∙ next_places path (pending path) n old.places w.1 ∙ ap (λ (r : Reader). r.places) (sym goes.1);
           sizes = subst (AreSizes p) (ap (λ (r : Reader). r.sizes) (sym goes.1)) m.sizes;
           version = ap (λ (r : Reader). r.version) goes.1 ∙ m.version;
@@ -180,7 +205,8 @@ module _ (p : Problem) (v : ℕ) (b : Bound) (known : Bool) (H : List Node → T
         }
 
     -- the node is a leaf that is not right
-    pub sofar_wrong : (i : ℕ) (f : RuleFault) → i ≡ old.count → Stops p b path n (Rule f) → known ≡ true → ExplainsNodes p v b s (reported.Rule i f)
+    pub sofar_wrong : (i : ℕ) (f : RuleFault) → i ≡ old.count → Stops p b path n (Rule f) → known ≡ true
+        → ExplainsNodes p v b s (reported.Rule i f)
     sofar_wrong i f number stops k =
         let w = (is_due goes.0).0 in
         let stack = next_stack path (pending path) n in
@@ -198,22 +224,29 @@ module _ (p : Problem) (v : ℕ) (b : Bound) (known : Bool) (H : List Node → T
         }
 
     -- the node is a split whose children are too deep
-    pub sofar_deep : (i : ℕ) (e : CheckFault) → i ≡ old.count → Stops p b path n TooDeep → known ≡ true → ExplainsChild new.sizes new.version new.count u (i + 1) e → ExplainsNodes p v b s e
+    pub sofar_deep : (i : ℕ) (e : CheckFault) → i ≡ old.count → Stops p b path n TooDeep → known ≡ true
+        → ExplainsChild new.sizes new.version new.count u (i + 1) e → ExplainsNodes p v b s e
     sofar_deep i e number stops k child =
         let here : new.count ≡ i + 1 = ap (λ (r : Reader). r.count) goes.1 ∙ ap (λ (j : ℕ). j + 1) (sym number) in
-        reported_child p v b s u (m.nodes ++ n ∷ []) (i + 1) (too_deep p b m.nodes path n (is_due goes.0).0 stops) (one_more n ∙ ap (λ (j : ℕ). j + 1) (sym number)) (read_one k) e
-        (child_as new.sizes (sizes_of p) new.version v new.count (i + 1) u (i + 1) e (ap (λ (r : Reader). r.sizes) goes.1 ∙ same_sizes) (ap (λ (r : Reader). r.version) goes.1 ∙ m.version) here child)
+        reported_child p v b s u (m.nodes ++ n ∷ []) (i + 1) (too_deep p b m.nodes path n (is_due goes.0).0 stops)
+        (one_more n ∙ ap (λ (j : ℕ). j + 1) (sym number)) (read_one k) e
+        (child_as new.sizes (sizes_of p) new.version v new.count (i + 1) u (i + 1) e (ap (λ (r : Reader). r.sizes) goes.1 ∙ same_sizes)
+        (ap (λ (r : Reader). r.version) goes.1 ∙ m.version) here child)
 
     -- the node is a split whose children are too deep, and the failure of a read cuts off the first of them
-    pub sofar_deep_breaks : Stops p b path n TooDeep → known ≡ true → node_at new.sizes new.version new.count u ≡ Err read_failed → NodeIsCutOff p v b s
+    pub sofar_deep_breaks : Stops p b path n TooDeep → known ≡ true → node_at new.sizes new.version new.count u ≡ Err read_failed
+        → NodeIsCutOff p v b s
     sofar_deep_breaks stops k breaks =
         let d = too_deep p b m.nodes path n (is_due goes.0).0 stops in
         let count : length (m.nodes ++ n ∷ []) ≡ new.count = one_more n ∙ ap (λ (r : Reader). r.count) (sym goes.1) in
-        let fails = node_as new.sizes (sizes_of p) new.version v new.count u (λ r. r ≡ Err read_failed) (ap (λ (r : Reader). r.sizes) goes.1 ∙ same_sizes) (ap (λ (r : Reader). r.version) goes.1 ∙ m.version) breaks in
-        node_breaks p v b s u (m.nodes ++ n ∷ []) d.path d.others d.stack d.passed (read_one k) (ap (λ (i : ℕ). node_at (sizes_of p) v i u) count ∙ fails)
+        let fails = node_as new.sizes (sizes_of p) new.version v new.count u (λ r. r ≡ Err read_failed)
+        (ap (λ (r : Reader). r.sizes) goes.1 ∙ same_sizes) (ap (λ (r : Reader). r.version) goes.1 ∙ m.version) breaks in
+        node_breaks p v b s u (m.nodes ++ n ∷ []) d.path d.others d.stack d.passed (read_one k)
+        (ap (λ (i : ℕ). node_at (sizes_of p) v i u) count ∙ fails)
 
   -- the tree is whole: it derives the bound
-  pub sofar_end : (new : Reader) (u : Stream) → IsReaderAfter old (Ok None) new → (known ≡ true → IsReadingOf old t (Ok None) u) → CheckedPart p v b known H s u
+  pub sofar_end : (new : Reader) (u : Stream) → IsReaderAfter old (Ok None) new → (known ≡ true → IsReadingOf old t (Ok None) u)
+      → CheckedPart p v b known H s u
   sofar_end new u goes says = on m.due m.walked m.places
     where
       on : (due : Bool) → Walked p b m.nodes path due → length (stack_of due path) ≡ old.places → CheckedPart p v b known H s u
@@ -222,23 +255,30 @@ module _ (p : Problem) (v : ℕ) (b : Bound) (known : Bool) (H : List Node → T
           let h = walked_end p b m.nodes path w in
           record {
             tree = h.0;
-            reads = λ k. subst (λ (x : Stream). ReadsNodes (sizes_of p) v 0 s (preorder h.0) x) (sym (says k)) (subst (λ (l : List Node). ReadsNodes (sizes_of p) v 0 s l t) (sym h.1) (m.reads k));
+            reads = λ k. subst (λ (x : Stream). ReadsNodes (sizes_of p) v 0 s (preorder h.0) x) (sym (says k))
+                (subst (λ (l : List Node). ReadsNodes (sizes_of p) v 0 s l t) (sym h.1) (m.reads k));
             shallow = h.2;
             derives = h.3;
             visited = subst H (sym h.1) m.visited;
           }
 
   -- the text of the due node fails
-  pub sofar_unread : (new : Reader) (u : Stream) (f : TextFault) → IsReaderAfter old (Err f) new → known ≡ true → IsReadingOf old t (Err f) u → ExplainsNodes p v b s (fault_from_text f)
+  pub sofar_unread : (new : Reader) (u : Stream) (f : TextFault) → IsReaderAfter old (Err f) new → known ≡ true
+      → IsReadingOf old t (Err f) u → ExplainsNodes p v b s (fault_from_text f)
   sofar_unread new u f goes k says =
       let w = (is_due goes.0).0 in
       let fails = node_as old.sizes (sizes_of p) old.version v old.count t (Fails f) same_sizes m.version says in
       text_cases f (ExplainsNodes p v b s) tt
-      (λ n. (n, node_fails p v b s t f m.nodes path (pending path) w.stack w.passed (m.reads k) (subst (λ (i : ℕ). Fails f (node_at (sizes_of p) v i t)) (sym m.count) fails)))
+      (λ n. (
+        n,
+        node_fails p v b s t f m.nodes path (pending path) w.stack w.passed (m.reads k)
+            (subst (λ (i : ℕ). Fails f (node_at (sizes_of p) v i t)) (sym m.count) fails),
+      ))
 
   -- the failure of a read cuts off the due node
   pub sofar_breaks : 0 < old.places → known ≡ true → node_at old.sizes old.version old.count t ≡ Err read_failed → NodeIsCutOff p v b s
   sofar_breaks some k breaks =
       let w = (is_due some).0 in
       let fails = node_as old.sizes (sizes_of p) old.version v old.count t (λ r. r ≡ Err read_failed) same_sizes m.version breaks in
-      node_breaks p v b s t m.nodes path (pending path) w.stack w.passed (m.reads k) (ap (λ (i : ℕ). node_at (sizes_of p) v i t) m.count ∙ fails)
+      node_breaks p v b s t m.nodes path (pending path) w.stack w.passed (m.reads k) (ap (λ (i : ℕ). node_at (sizes_of p) v i t) m.count
+      ∙ fails)

@@ -14,7 +14,8 @@ use Rattle.tt_proof_check.specs.Faults.{fault_from_text, is_failed_read, OutOfMe
 use Rattle.tt_proof_check.specs.Streams.{Fails, IsEnvironmental}
 
 -- an error of the text is either being out of memory or becomes a text error of the check
-pub text_cases : (f : TextFault) (Q : CheckFault → Type 0) → Q reported.OutOfMemory → (¬ (f ≡ text.OutOfMemory) → Q (reported.Text f)) → Q (fault_from_text f)
+pub text_cases : (f : TextFault) (Q : CheckFault → Type 0) → Q reported.OutOfMemory → (¬ (f ≡ text.OutOfMemory) → Q (reported.Text f))
+    → Q (fault_from_text f)
 text_cases (text.Ended at) Q a b = b (λ e. cc)
 text_cases (text.Expected w at) Q a b = b (λ e. cc)
 text_cases (text.UnknownWord at) Q a b = b (λ e. cc)
@@ -36,7 +37,8 @@ read_reported text.OutOfMemory e = cc
 read_reported f e = cc
 
 -- an error made from a text error that is reported as a failed read: the text error is a failed read
-pub err_read : {A : Type 0} (r : Result A CheckFault) (f : TextFault) → IsErrAnd r (λ e. e ≡ fault_from_text f) → r ≡ Err (reported.Text read_failed) → f ≡ read_failed
+pub err_read : {A : Type 0} (r : Result A CheckFault) (f : TextFault) → IsErrAnd r (λ e. e ≡ fault_from_text f)
+    → r ≡ Err (reported.Text read_failed) → f ≡ read_failed
 err_read (Ok x) f e h = absurd cc
 err_read (Err x) f e h = read_reported f (let same : x ≡ reported.Text read_failed = cc in sym e ∙ same)
 
@@ -51,19 +53,24 @@ text_reads text.OutOfMemory = refl
 text_reads f = refl
 
 -- whether a read has failed, after an error that was passed on
-pub same_reads : {A E : Type 0} (r : Result A E) (f : E) (passes : E → Bool) (before middle after : Bool) → IsErrAnd r (λ e. e ≡ f) → after ≡ (if passes f then true else middle) → middle ≡ before
+pub same_reads : {A E : Type 0} (r : Result A E) (f : E) (passes : E → Bool) (before middle after : Bool) → IsErrAnd r (λ e. e ≡ f)
+    → after ≡ (if passes f then true else middle) → middle ≡ before
     → after ≡ (if is_err_and r passes then true else before)
 same_reads (Ok x) f passes before middle after e h same = absurd e
-same_reads (Err x) f passes before middle after e h same = h ∙ ap (λ (b : Bool). if passes f then true else b) same ∙ ap (λ y. if passes y then true else before) (sym e)
+same_reads (Err x) f passes before middle after e h same = h ∙ ap (λ (b : Bool). if passes f then true else b) same
+    ∙ ap (λ y. if passes y then true else before) (sym e)
 
 -- whether a read has failed, after an error made from a text error
-pub err_reads : {A : Type 0} (r : Result A CheckFault) (f : TextFault) (before middle after : Bool) → IsErrAnd r (λ e. e ≡ fault_from_text f) → after ≡ (if read.is_failed_read f then true else middle)
+pub err_reads : {A : Type 0} (r : Result A CheckFault) (f : TextFault) (before middle after : Bool)
+    → IsErrAnd r (λ e. e ≡ fault_from_text f) → after ≡ (if read.is_failed_read f then true else middle)
     → middle ≡ before → after ≡ (if is_err_and r is_failed_read then true else before)
 err_reads r f before middle after e h same =
-    same_reads r (fault_from_text f) is_failed_read before middle after e (h ∙ ap (λ (b : Bool). if b then true else middle) (sym (text_reads f))) same
+    same_reads r (fault_from_text f) is_failed_read before middle after e
+    (h ∙ ap (λ (b : Bool). if b then true else middle) (sym (text_reads f))) same
 
 -- a property of a check error made from a text error
-pub err_gives : {A : Type 0} (r : Result A CheckFault) (f : TextFault) (Q : CheckFault → Type 0) → IsErrAnd r (λ e. e ≡ fault_from_text f) → Q (fault_from_text f) → IfErr r Q
+pub err_gives : {A : Type 0} (r : Result A CheckFault) (f : TextFault) (Q : CheckFault → Type 0)
+    → IsErrAnd r (λ e. e ≡ fault_from_text f) → Q (fault_from_text f) → IfErr r Q
 err_gives (Ok x) f Q e h = tt
 err_gives (Err x) f Q e h = subst Q (sym e) h
 
@@ -91,7 +98,8 @@ abbrev read_fault : {Y : Type 0} → TextFault → Result Y TextFault
 read_fault f = Err f
 
 -- an error of a text that can be read is silent
-pub fails_silently : {Y : Type 0} (f : TextFault) (read : Result Y TextFault) (y : Y) → read ≡ Ok y → ¬ (f ≡ text.OutOfMemory) → Fails f read → IsEnvironmental (reported.Text f)
+pub fails_silently : {Y : Type 0} (f : TextFault) (read : Result Y TextFault) (y : Y) → read ≡ Ok y → ¬ (f ≡ text.OutOfMemory)
+    → Fails f read → IsEnvironmental (reported.Text f)
 fails_silently f read y e n h = elim (on_false (is_environmental f) (read ≡ Err f) h) [
   | inl s ↦ silent_is f s n
   | inr err ↦ absurd cc

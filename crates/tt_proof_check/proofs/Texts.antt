@@ -31,30 +31,38 @@ use Rattle.tt_proof_check.proofs.TextFaults.{fails_silently}
 
 module _ (p : Problem) (v : ℕ) (s noded : Stream) (tree : Tree) (reads : ReadsNodes (sizes_of p) v 0 s (preorder tree) noded) where
   -- no node is due after a whole tree
-  none_due : (nodes more : List Node) (other : Tree) (next : Node) (behind : List Node) → preorder tree ++ more ≡ nodes → preorder other ≡ nodes ++ next ∷ behind → ⊥
+  none_due : (nodes more : List Node) (other : Tree) (next : Node) (behind : List Node) → preorder tree ++ more ≡ nodes
+      → preorder other ≡ nodes ++ next ∷ behind → ⊥
   none_due nodes more other next behind e begins =
-      nothing more (begins_whole other tree (more ++ next ∷ behind) (begins ∙ ap (λ l. l ++ next ∷ behind) (sym e) ∙ append_assoc (preorder tree) more (next ∷ behind))).1
+      nothing more (begins_whole other tree (more ++ next ∷ behind) (begins ∙ ap (λ l. l ++ next ∷ behind) (sym e)
+      ∙ append_assoc (preorder tree) more (next ∷ behind))).1
     where
       nothing : (xs : List Node) → [] ≡ xs ++ next ∷ behind → ⊥
       nothing [] h = cc
       nothing (x ∷ xs) h = cc
 
   -- after nodes that some tree continues, an error in the text of a node is silent
-  pub node_silent : (f : TextFault) → ¬ (f ≡ text.OutOfMemory) → (nodes : List Node) (rest : Stream) (other : Tree) (next : Node) (behind : List Node) → ReadsNodes (sizes_of p) v 0 s nodes rest → preorder other ≡ nodes ++ next ∷ behind
+  pub node_silent : (f : TextFault) → ¬ (f ≡ text.OutOfMemory) → (nodes : List Node) (rest : Stream) (other : Tree) (next : Node)
+      (behind : List Node) → ReadsNodes (sizes_of p) v 0 s nodes rest → preorder other ≡ nodes ++ next ∷ behind
       → Fails f (node_at (sizes_of p) v (length nodes) rest) → IsEnvironmental (reported.Text f)
-  node_silent f n nodes rest other next behind reads_these begins fails = elim (compare (sizes_of p) v 0 s rest noded nodes (preorder tree) reads_these reads) [
-    | inl m ↦ onward m.0 m.1 m.2
-    | inr m ↦ absurd (none_due nodes m.0 other next behind m.1 begins)
-  ]
+  node_silent f n nodes rest other next behind reads_these begins fails =
+      elim (compare (sizes_of p) v 0 s rest noded nodes (preorder tree) reads_these reads) [
+        | inl m ↦ onward m.0 m.1 m.2
+        | inr m ↦ absurd (none_due nodes m.0 other next behind m.1 begins)
+      ]
     where
-      onward : (more : List Node) → nodes ++ more ≡ preorder tree → ReadsNodes (sizes_of p) v (0 + length nodes) rest more noded → IsEnvironmental (reported.Text f)
+      onward : (more : List Node) → nodes ++ more ≡ preorder tree → ReadsNodes (sizes_of p) v (0 + length nodes) rest more noded
+          → IsEnvironmental (reported.Text f)
       onward [] e r = absurd (none_due nodes [] other next behind (append-nil (preorder tree) ∙ sym e ∙ append-nil nodes) begins)
       onward (x ∷ xs) e r =
           let here : length nodes ≡ 0 + length nodes = omega arith in
-          fails_silently f (node_at (sizes_of p) v (length nodes) rest) (x, r.0) (ap (λ (k : ℕ). node_at (sizes_of p) v k rest) here ∙ r.1) n fails
+          fails_silently f (node_at (sizes_of p) v (length nodes) rest) (x, r.0) (ap (λ (k : ℕ). node_at (sizes_of p) v k rest) here
+          ∙ r.1) n fails
 
   -- after a whole tree, an error in the text of the end is silent
-  pub end_silent : (ended : Stream) → end_at noded ≡ Ok ended → (f : TextFault) → ¬ (f ≡ text.OutOfMemory) → (other : Tree) (rest : Stream) → ReadsNodes (sizes_of p) v 0 s (preorder other) rest → Fails f (end_at rest) → IsEnvironmental (reported.Text f)
+  pub end_silent : (ended : Stream) → end_at noded ≡ Ok ended → (f : TextFault) → ¬ (f ≡ text.OutOfMemory)
+      → (other : Tree) (rest : Stream) → ReadsNodes (sizes_of p) v 0 s (preorder other) rest → Fails f (end_at rest)
+      → IsEnvironmental (reported.Text f)
   end_silent ended finish f n other rest reads_these fails = fails_silently f (end_at rest) ended (ap end_at same ∙ finish) n fails
     where
       none : (k : ℕ) (x y : Stream) (more : List Node) → [] ≡ more → ReadsNodes (sizes_of p) v k x more y → x ≡ y
@@ -72,16 +80,19 @@ module _ (p : Problem) (v : ℕ) (s noded : Stream) (tree : Tree) (reads : Reads
       elim (compare (sizes_of p) v 0 s h.rest noded h.nodes (preorder tree) h.reads reads) [
         | inl m ↦ same_place tree h.tree h.nodes m.0 h.more i (sym m.1) h.begins inside
         | inr m ↦ ap (λ (t : Tree). slice_get (on_paths [] t) i)
-            (sym (begins_whole h.tree tree (m.0 ++ h.more) (h.begins ∙ ap (λ l. l ++ h.more) (sym m.1) ∙ append_assoc (preorder tree) m.0 h.more)).0)
+            (sym (begins_whole h.tree tree (m.0 ++ h.more) (h.begins ∙ ap (λ l. l ++ h.more) (sym m.1)
+            ∙ append_assoc (preorder tree) m.0 h.more)).0)
       ]
 
 module _ (p : Problem) (s : Stream) (v : ℕ) (b : Bound) (tree : Tree) (r : Reads (sizes_of p) s v b tree) where
   -- any header of the stream is this one
   header_is : (P : ℕ → Bound → Stream → Type 0) → HasHeader s P → P v b r.headed
-  header_is P h = subst (λ (x : (ℕ × Bound) × Stream). P x.0.0 x.0.1 x.1) (same_header ((h.0, h.1), h.2) ((v, b), r.headed) (sym h.3 ∙ r.header)) h.4
+  header_is P h = subst (λ (x : (ℕ × Bound) × Stream). P x.0.0 x.0.1 x.1)
+      (same_header ((h.0, h.1), h.2) ((v, b), r.headed) (sym h.3 ∙ r.header)) h.4
 
   pub bound_is : (known : Bool) (H : List Node → Type 0) (c : Bound) → known ≡ true → Proved p known H s c → c ≡ b
-  bound_is known H c k h = ap (λ (x : (ℕ × Bound) × Stream). x.0.1) (same_header ((h.version, c), (h.reads k).headed) ((v, b), r.headed) (sym (h.reads k).header ∙ r.header))
+  bound_is known H c k h = ap (λ (x : (ℕ × Bound) × Stream). x.0.1) (same_header ((h.version, c), (h.reads k).headed) ((v, b), r.headed)
+      (sym (h.reads k).header ∙ r.header))
 
   pub only_silent : IsShallow tree → Derives p b [] tree → (e : CheckFault) → IsProofFault p s e → IsEnvironmental e
   only_silent shallow d (reported.Text f) (n, inl h) = fails_silently f (header_at s) ((v, b), r.headed) r.header n h
@@ -91,31 +102,38 @@ module _ (p : Problem) (s : Stream) (v : ℕ) (b : Bound) (tree : Tree) (r : Rea
   ]
   only_silent shallow d (reported.Rule i f) h =
       let a = header_is (λ w c rest. IsReadTo p w rest i (λ t. FailsAt p c t i f)) h in
-      absurd (never_fails p b tree a.tree i f (tree_passes p b tree shallow d) (place_read p v r.headed r.noded tree r.nodes i (λ t. FailsAt p b t i f) a) a.is)
+      absurd (never_fails p b tree a.tree i f (tree_passes p b tree shallow d)
+      (place_read p v r.headed r.noded tree r.nodes i (λ t. FailsAt p b t i f) a) a.is)
   only_silent shallow d (reported.TooDeep i) h =
       let a = header_is (λ w c rest. IsReadTo p w rest i (λ t. IsDeepAt p c t i)) h in
-      absurd (never_deep p b tree a.tree i (tree_passes p b tree shallow d) (place_read p v r.headed r.noded tree r.nodes i (λ t. IsDeepAt p b t i) a) a.is)
+      absurd (never_deep p b tree a.tree i (tree_passes p b tree shallow d)
+      (place_read p v r.headed r.noded tree r.nodes i (λ t. IsDeepAt p b t i) a) a.is)
   only_silent shallow d reported.OutOfMemory h = inl refl
 
 -- ---- the bytes
 
 module _ (p : Problem) (remaining : Option (List ℕ)) (H : List Node → Type 0) where
-  proved_in : (bytes : List ℕ) → remaining ≡ Some bytes → (b : Bound) → Proved p (is_some remaining) H (stream_at fresh remaining) b → Proved p true H (stream_of bytes) b
+  proved_in : (bytes : List ℕ) → remaining ≡ Some bytes → (b : Bound) → Proved p (is_some remaining) H (stream_at fresh remaining) b
+      → Proved p true H (stream_of bytes) b
   proved_in bytes e b h = subst (λ (k : Option (List ℕ)). Proved p (is_some k) H (stream_at fresh k) b) e h
 
-  found_in : (bytes : List ℕ) → remaining ≡ Some bytes → (b : Bound) → Proved p (is_some remaining) H (stream_at fresh remaining) b → IsProved p bytes b
+  found_in : (bytes : List ℕ) → remaining ≡ Some bytes → (b : Bound) → Proved p (is_some remaining) H (stream_at fresh remaining) b
+      → IsProved p bytes b
   found_in bytes e b h =
       let k = proved_in bytes e b h in
       (k.version, k.tree, reads_spelled p (sizes_of p) (are_sizes_of p) bytes k.version b k.tree k.shallow (k.reads refl), k.derives)
 
-  reported_in : (bytes : List ℕ) → remaining ≡ Some bytes → (x : CheckFault) → IsProofFault p (stream_at fresh remaining) x → IsProofFault p (stream_of bytes) x
+  reported_in : (bytes : List ℕ) → remaining ≡ Some bytes → (x : CheckFault) → IsProofFault p (stream_at fresh remaining) x
+      → IsProofFault p (stream_of bytes) x
   reported_in bytes e x h = subst (λ (k : Option (List ℕ)). IsProofFault p (stream_at fresh k) x) e h
 
-  pub proof_found : (r : Result Bound CheckFault) → IfOk r (λ b. Proved p (is_some remaining) H (stream_at fresh remaining) b) → IfOk r (λ b. (bytes : List ℕ) → remaining ≡ Some bytes → IsProved p bytes b)
+  pub proof_found : (r : Result Bound CheckFault) → IfOk r (λ b. Proved p (is_some remaining) H (stream_at fresh remaining) b)
+      → IfOk r (λ b. (bytes : List ℕ) → remaining ≡ Some bytes → IsProved p bytes b)
   proof_found (Ok b) h = λ bytes e. found_in bytes e b h
   proof_found (Err x) h = tt
 
-  pub proof_visited : (r : Result Bound CheckFault) → IfOk r (λ b. Proved p (is_some remaining) H (stream_at fresh remaining) b) → IfOk r (IsVisitedProof p remaining H)
+  pub proof_visited : (r : Result Bound CheckFault) → IfOk r (λ b. Proved p (is_some remaining) H (stream_at fresh remaining) b)
+      → IfOk r (IsVisitedProof p remaining H)
   proof_visited (Ok b) h = record {
     version = h.version;
     tree = h.tree;
@@ -126,28 +144,37 @@ module _ (p : Problem) (remaining : Option (List ℕ)) (H : List Node → Type 0
   }
   proof_visited (Err x) h = tt
 
-  pub proof_holds : (r : Result Bound CheckFault) → IfOk r (λ b. Proved p (is_some remaining) H (stream_at fresh remaining) b) → IfOk r (HoldsOfAll p)
+  pub proof_holds : (r : Result Bound CheckFault) → IfOk r (λ b. Proved p (is_some remaining) H (stream_at fresh remaining) b)
+      → IfOk r (HoldsOfAll p)
   proof_holds (Ok b) h = root_sound p b h.tree h.derives
   proof_holds (Err x) h = tt
 
-  pub proof_only : IsInstance p → (r : Result Bound CheckFault) → IfOk r (λ b. Proved p (is_some remaining) H (stream_at fresh remaining) b) → (is_some remaining ≡ true → IfErr r (λ x. IsProofFault p (stream_at fresh remaining) x))
+  pub proof_only : IsInstance p → (r : Result Bound CheckFault)
+      → IfOk r (λ b. Proved p (is_some remaining) H (stream_at fresh remaining) b)
+      → (is_some remaining ≡ true → IfErr r (λ x. IsProofFault p (stream_at fresh remaining) x))
       → (bytes : List ℕ) (b : Bound) → remaining ≡ Some bytes → IsProved p bytes b → MatchResult r (λ c. c ≡ b) IsEnvironmental
   proof_only is r proved fault bytes b e h =
       let reads = spelled_reads p (sizes_of p) (are_sizes_of p) (are_small p (sizes_of p) is (are_sizes_of p)) bytes h.0 b h.1 h.2 in
       on r proved fault reads
     where
-      on : (x : Result Bound CheckFault) → IfOk x (λ c. Proved p (is_some remaining) H (stream_at fresh remaining) c) → (is_some remaining ≡ true → IfErr x (λ y. IsProofFault p (stream_at fresh remaining) y))
+      on : (x : Result Bound CheckFault) → IfOk x (λ c. Proved p (is_some remaining) H (stream_at fresh remaining) c)
+          → (is_some remaining ≡ true → IfErr x (λ y. IsProofFault p (stream_at fresh remaining) y))
           → Reads (sizes_of p) (stream_of bytes) h.0 b h.1 → MatchResult x (λ c. c ≡ b) IsEnvironmental
       on (Ok c) done reported reads = bound_is p (stream_of bytes) h.0 b h.1 reads true H c refl (proved_in bytes e c done)
-      on (Err x) done reported reads = only_silent p (stream_of bytes) h.0 b h.1 reads h.2.within.depth h.3 x (reported_in bytes e x (reported (ap is_some e)))
+      on (Err x) done reported reads = only_silent p (stream_of bytes) h.0 b h.1 reads h.2.within.depth h.3 x
+          (reported_in bytes e x (reported (ap is_some e)))
 
 -- an error of bytes that spell a proof is silent
-pub proved_silent : (p : Problem) → IsInstance p → (bytes : List ℕ) (b : Bound) → IsProved p bytes b → (e : CheckFault) → IsProofFault p (stream_of bytes) e → IsEnvironmental e
+pub proved_silent : (p : Problem) → IsInstance p → (bytes : List ℕ) (b : Bound) → IsProved p bytes b → (e : CheckFault)
+    → IsProofFault p (stream_of bytes) e → IsEnvironmental e
 proved_silent p is bytes b h e reported =
-    only_silent p (stream_of bytes) h.0 b h.1 (spelled_reads p (sizes_of p) (are_sizes_of p) (are_small p (sizes_of p) is (are_sizes_of p)) bytes h.0 b h.1 h.2) h.2.within.depth h.3 e reported
+    only_silent p (stream_of bytes) h.0 b h.1
+    (spelled_reads p (sizes_of p) (are_sizes_of p) (are_small p (sizes_of p) is (are_sizes_of p)) bytes h.0 b h.1 h.2)
+    h.2.within.depth h.3 e reported
 
 -- bytes spell at most one version, one bound and one tree
-pub spelled_once : (p : Problem) → IsInstance p → (bytes : List ℕ) (v w : ℕ) (b c : Bound) (x y : Tree) → SpellsProof p bytes v b x → SpellsProof p bytes w c y → ((v ≡ w) × (b ≡ c)) × (x ≡ y)
+pub spelled_once : (p : Problem) → IsInstance p → (bytes : List ℕ) (v w : ℕ) (b c : Bound) (x y : Tree) → SpellsProof p bytes v b x
+    → SpellsProof p bytes w c y → ((v ≡ w) × (b ≡ c)) × (x ≡ y)
 spelled_once p is bytes v w b c x y h k =
     let small = are_small p (sizes_of p) is (are_sizes_of p) in
     let r = spelled_reads p (sizes_of p) (are_sizes_of p) small bytes v b x h in
@@ -156,7 +183,8 @@ spelled_once p is bytes v w b c x y h k =
     let version : v ≡ w = ap (λ (z : (ℕ × Bound) × Stream). z.0.0) same in
     let headed : r.headed ≡ q.headed = ap (λ (z : (ℕ × Bound) × Stream). z.1) same in
     let nodes : ReadsNodes (sizes_of p) w 0 q.headed (preorder x) r.noded =
-    subst (λ (s : Stream). ReadsNodes (sizes_of p) w 0 s (preorder x) r.noded) headed (subst (λ (u : ℕ). ReadsNodes (sizes_of p) u 0 r.headed (preorder x) r.noded) version r.nodes) in (
+    subst (λ (s : Stream). ReadsNodes (sizes_of p) w 0 s (preorder x) r.noded) headed
+    (subst (λ (u : ℕ). ReadsNodes (sizes_of p) u 0 r.headed (preorder x) r.noded) version r.nodes) in (
       (version, ap (λ (z : (ℕ × Bound) × Stream). z.0.1) same),
       elim (compare (sizes_of p) w 0 q.headed r.noded q.noded (preorder x) (preorder y) nodes q.nodes) [
         | inl m ↦ sym (begins_whole y x m.0 (sym m.1)).0

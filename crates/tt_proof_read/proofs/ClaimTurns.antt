@@ -8,6 +8,8 @@ use Rattle.tt_proof_read.specs.declared.sizes.Sizes.{Sizes}
 use Rattle.tt_proof_read.proofs.Loops.{IsLeft, all_left}
 
 -- all claims are left
-pub claims_left : (sizes : Sizes) (version : ℕ) (items : List Claim) (s : Stream) → items ≡ [] → IsLeft push (λ _ rest. claim_at sizes version rest) items s (claims_at sizes version s)
+pub claims_left : (sizes : Sizes) (version : ℕ) (items : List Claim) (s : Stream) → items ≡ []
+    → IsLeft push (λ _ rest. claim_at sizes version rest) items s (claims_at sizes version s)
 unfolding claims_at
-claims_left sizes version items s e = subst (λ l. IsLeft push (λ _ rest. claim_at sizes version rest) l s (claims_at sizes version s)) (sym e) (all_left push (λ _ rest. claim_at sizes version rest) [] s)
+claims_left sizes version items s e = subst (λ l. IsLeft push (λ _ rest. claim_at sizes version rest) l s (claims_at sizes version s))
+    (sym e) (all_left push (λ _ rest. claim_at sizes version rest) [] s)

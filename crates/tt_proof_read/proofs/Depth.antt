@@ -33,7 +33,8 @@ module _ (n : ℕ) where
   low_nodes (Tip leaf) path h = (h, tt)
   low_nodes (Fork g first second) path h = (
     root_low (Fork g first second) path h,
-    each_append IsLowNode (on_paths (with_fact path g true) first) (on_paths (with_fact path g false) second) (low_nodes first (with_fact path g true) h.0) (low_nodes second (with_fact path g false) h.1),
+    each_append IsLowNode (on_paths (with_fact path g true) first) (on_paths (with_fact path g false) second)
+        (low_nodes first (with_fact path g true) h.0) (low_nodes second (with_fact path g false) h.1),
   )
 
   -- if no node is too deep, no leaf is

@@ -31,7 +31,8 @@ unfolding tokens_from number_of token_at word_at version_at bound_of bound_at he
 a_header = refl
 
 -- a curriculum in any room
-a_split : node_at sizes 1 0 (behind (codes "S q0 * d0 p2")) ≡ Ok (node.Split (record { who = Curriculum 0; room = None; day = Some 0; period = Some 2 }), stopped (Ok 99))
+a_split : node_at sizes 1 0 (behind (codes "S q0 * d0 p2")) ≡ Ok
+    (node.Split (record { who = Curriculum 0; room = None; day = Some 0; period = Some 2 }), stopped (Ok 99))
 unfolding tokens_from number_of token_at numbered_below index_of who_at given_of given_at pattern_at node_after_word node_at
 a_split = refl
 
@@ -51,8 +52,10 @@ unfolding tokens_from number_of token_at numbered_below index_of up_to_end liste
 endless = refl
 
 -- prices of courses and rooms in any order
-some_prices : node_at sizes 2 0 (behind (codes "B P c0 5 r1 3 c1 4 / D c0 ;")) ≡ Ok (node.Leaf (leaf.Cost (claim.Prices ((0, 5) ∷ (1, 4) ∷ []) ((1, 3) ∷ []) ∷ claim.Days 0 ∷ [])), stopped (Ok 99))
-unfolding tokens_from number_of token_at numbered_below index_of course_at price_at up_to_end pair_at prices_at claim_after_word claim_at claims_at node_after_word node_at
+some_prices : node_at sizes 2 0 (behind (codes "B P c0 5 r1 3 c1 4 / D c0 ;")) ≡ Ok
+    (node.Leaf (leaf.Cost (claim.Prices ((0, 5) ∷ (1, 4) ∷ []) ((1, 3) ∷ []) ∷ claim.Days 0 ∷ [])), stopped (Ok 99))
+unfolding tokens_from number_of token_at numbered_below index_of course_at price_at up_to_end pair_at prices_at claim_after_word
+    claim_at claims_at node_after_word node_at
 some_prices = refl
 
 -- a word of version 2 in version 1

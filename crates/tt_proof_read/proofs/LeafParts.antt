@@ -31,7 +31,11 @@ module _ (p : Problem) (v : ℕ) where
   leaf_parts (Many c) h = (h, tt, tt)
   leaf_parts (Clique cs) h = (h.0, h.1, tt)
   leaf_parts (Slots cs) h = (h.0, h.1, tt)
-  leaf_parts (Cost claims) h = (λ k c e. (claim_parts _ (h k c e)).0, λ k c e. (claim_parts _ (h k c e)).1, λ k c e. (claim_parts _ (h k c e)).2)
+  leaf_parts (Cost claims) h = (
+    λ k c e. (claim_parts _ (h k c e)).0,
+    λ k c e. (claim_parts _ (h k c e)).1,
+    λ k c e. (claim_parts _ (h k c e)).2,
+  )
 
   pub leaf_whole : (leaf : Leaf) → IsLeafOf p leaf → IsShortLeaf leaf → IsLeafIn v leaf → IsLeaf p v leaf
   leaf_whole (Empty g) numbers short fits = numbers

@@ -18,7 +18,8 @@ HasLong a (t ∷ ts) = ((t.at ≡ a) × (32 < length t.text)) ⊎ HasLong a ts
 -- ---- what a fault from some byte on says
 
 -- the first byte is a separator
-fault_gap : {F : Type 0} (a b c : Bool) (x y f : F) (r s : Option F) → b ≡ true → cond a (Some x) (cond b r (cond c (Some y) s)) ≡ Some f → (x ≡ f) ⊎ (r ≡ Some f)
+fault_gap : {F : Type 0} (a b c : Bool) (x y f : F) (r s : Option F) → b ≡ true → cond a (Some x) (cond b r (cond c (Some y) s))
+    ≡ Some f → (x ≡ f) ⊎ (r ≡ Some f)
 fault_gap true b c x y f r s e h = inl cc
 fault_gap false true c x y f r s e h = inr h
 fault_gap false false c x y f r s e h = absurd cc
@@ -40,11 +41,13 @@ IsLong false n k a bs = HasLong a (tokens_from false n bs)
 not_many : (n a : ℕ) (f : Fault) → (let x : Fault = record { byte = n; fault = TooManyBytes } in x) ≡ f → f.fault ≡ TokenTooLong a → ⊥
 not_many n a f e reported = cc
 
-long_at : (n m a : ℕ) (f : Fault) → (let x : Fault = record { byte = n; fault = TokenTooLong m } in x) ≡ f → f.fault ≡ TokenTooLong a → m ≡ a
+long_at : (n m a : ℕ) (f : Fault) → (let x : Fault = record { byte = n; fault = TokenTooLong m } in x) ≡ f → f.fault ≡ TokenTooLong a
+    → m ≡ a
 long_at n m a f e reported = cc
 
 -- a separator, and then the others
-long_gap : (n k a b : ℕ) (inside : Bool) (bs : List ℕ) → is_separator b ≡ true → HasLong a (tokens_from false (n + 1) bs) → IsLong inside n k a (b ∷ bs)
+long_gap : (n k a b : ℕ) (inside : Bool) (bs : List ℕ) → is_separator b ≡ true → HasLong a (tokens_from false (n + 1) bs)
+    → IsLong inside n k a (b ∷ bs)
 unfolding tokens_from
 long_gap n k a b true bs e h = inr (rw e h)
 long_gap n k a b false bs e h = rw e h
@@ -82,7 +85,8 @@ Carries true n k = k ≤ n
 Carries false n k = k ≡ 0
 
 -- one byte, and then the others
-long_step : (most n k a b : ℕ) (inside : Bool) (bs : List ℕ) (f : Fault) (v : Bool) → is_separator b ≡ v → Carries inside n k → fault_from most n k (b ∷ bs) ≡ Some f → f.fault ≡ TokenTooLong a
+long_step : (most n k a b : ℕ) (inside : Bool) (bs : List ℕ) (f : Fault) (v : Bool) → is_separator b ≡ v → Carries inside n k
+    → fault_from most n k (b ∷ bs) ≡ Some f → f.fault ≡ TokenTooLong a
     → (fault_from most (n + 1) 0 bs ≡ Some f → HasLong a (tokens_from false (n + 1) bs))
     → (k ≤ n → fault_from most (n + 1) (k + 1) bs ≡ Some f → IsLong true (n + 1) (k + 1) a bs) → IsLong inside n k a (b ∷ bs)
 unfolding fault_from
@@ -101,19 +105,23 @@ long_step most n k a b false bs f false e carries fails reported gap more =
     elim (fault_token (nat_le most n) (is_separator b) (nat_le 32 k) _ _ f _ _ e fails) [
       | inl many ↦ absurd (not_many n a f many reported)
       | inr (inl long) ↦ absurd (omega (arith, carries, leb-true _ _ long.0))
-      | inr (inr later) ↦ long_first n a b bs e (subst (λ (m : ℕ). IsLong true (n + 1) (m + 1) a bs) carries (more (omega (arith, carries)) later))
+      | inr (inr later) ↦
+          long_first n a b bs e (subst (λ (m : ℕ). IsLong true (n + 1) (m + 1) a bs) carries (more (omega (arith, carries)) later))
     ]
 
-long_from : (most n k a : ℕ) (inside : Bool) (bs : List ℕ) (f : Fault) → Carries inside n k → fault_from most n k bs ≡ Some f → f.fault ≡ TokenTooLong a → IsLong inside n k a bs
+long_from : (most n k a : ℕ) (inside : Bool) (bs : List ℕ) (f : Fault) → Carries inside n k → fault_from most n k bs ≡ Some f
+    → f.fault ≡ TokenTooLong a → IsLong inside n k a bs
 unfolding fault_from
 long_from most n k a inside [] f carries fails reported = absurd cc
 long_from most n k a inside (b ∷ bs) f carries fails reported =
-    long_step most n k a b inside bs f (is_separator b) refl carries fails reported (λ later. long_from most (n + 1) 0 a false bs f refl later reported)
+    long_step most n k a b inside bs f (is_separator b) refl carries fails reported
+    (λ later. long_from most (n + 1) 0 a false bs f refl later reported)
     (λ less later. long_from most (n + 1) (k + 1) a true bs f (omega (arith, less)) later reported)
 
 -- ---- streams
 
-stop_fault : (fault : Option Fault) (n a : ℕ) → stop_of fault n ≡ Err (TokenTooLong a) → (f : Fault) × (fault ≡ Some f) × (f.fault ≡ TokenTooLong a)
+stop_fault : (fault : Option Fault) (n a : ℕ) → stop_of fault n ≡ Err (TokenTooLong a) → (f : Fault) × (fault ≡ Some f)
+    × (f.fault ≡ TokenTooLong a)
 stop_fault None n a e = absurd cc
 stop_fault (Some f) n a e = (f, refl, cc)
 

@@ -22,12 +22,14 @@ module _ {S X : Type 0} (add : S → X → S) (part : S → Stream → Result (O
   all_left kept s = record { most = suc (length s.tokens); enough = omega arith; is = refl }
 
   -- one part and then the others
-  step : (n : ℕ) (kept : S) (s rest : Stream) (x : Option X) → part kept s ≡ Ok (x, rest) → up_to_end add part (suc n) kept s ≡ collected_then add kept rest (λ now. up_to_end add part n now rest) x
+  step : (n : ℕ) (kept : S) (s rest : Stream) (x : Option X) → part kept s ≡ Ok (x, rest)
+      → up_to_end add part (suc n) kept s ≡ collected_then add kept rest (λ now. up_to_end add part n now rest) x
   unfolding up_to_end
   step n kept s rest x e = rw e refl
 
   -- a part was read
-  pub left_then : TakesTokens → (kept : S) (s rest : Stream) (o : Option X) (x : X) (total : Result (S × Stream) TextFault) → part kept s ≡ Ok (o, rest) → o ≡ Some x → IsLeft kept s total
+  pub left_then : TakesTokens → (kept : S) (s rest : Stream) (o : Option X) (x : X) (total : Result (S × Stream) TextFault)
+      → part kept s ≡ Ok (o, rest) → o ≡ Some x → IsLeft kept s total
       → IsLeft (add kept x) rest total
   left_then takes kept s rest o x total e some left = by_most left.most left.enough left.is
     where
@@ -43,22 +45,26 @@ module _ {S X : Type 0} (add : S → X → S) (part : S → Stream → Result (O
       }
 
   -- the end was read
-  pub left_end : (kept : S) (s rest : Stream) (o : Option X) (total : Result (S × Stream) TextFault) → part kept s ≡ Ok (o, rest) → o ≡ None → IsLeft kept s total → total ≡ Ok (kept, rest)
+  pub left_end : (kept : S) (s rest : Stream) (o : Option X) (total : Result (S × Stream) TextFault) → part kept s ≡ Ok (o, rest)
+      → o ≡ None → IsLeft kept s total → total ≡ Ok (kept, rest)
   left_end kept s rest o total e none left = by_most left.most left.enough left.is
     where
       by_most : (n : ℕ) → length s.tokens < n → up_to_end add part n kept s ≡ total → total ≡ Ok (kept, rest)
       by_most zero enough is = absurd (omega arith)
-      by_most (suc n) enough is = sym is ∙ step n kept s rest o e ∙ ap (collected_then add kept rest (λ now. up_to_end add part n now rest)) none
+      by_most (suc n) enough is = sym is ∙ step n kept s rest o e
+          ∙ ap (collected_then add kept rest (λ now. up_to_end add part n now rest)) none
 
   -- a part is refused
-  pub left_fails : (silent : TextFault → Bool) (f : TextFault) (kept : S) (s : Stream) (total : Result (S × Stream) TextFault) → FailsUnless silent f (part kept s) → IsLeft kept s total → FailsUnless silent f total
+  pub left_fails : (silent : TextFault → Bool) (f : TextFault) (kept : S) (s : Stream) (total : Result (S × Stream) TextFault)
+      → FailsUnless silent f (part kept s) → IsLeft kept s total → FailsUnless silent f total
   unfolding up_to_end
   left_fails silent f kept s total fails left = by_most left.most left.enough left.is
     where
       by_most : (n : ℕ) → length s.tokens < n → up_to_end add part n kept s ≡ total → FailsUnless silent f total
       by_most zero enough is = absurd (omega arith)
       by_most (suc n) enough is =
-          fails_as silent f _ _ is (fails_then silent f (part kept s) (λ x. collected_then add kept x.1 (λ now. up_to_end add part n now x.1) x.0) fails)
+          fails_as silent f _ _ is
+          (fails_then silent f (part kept s) (λ x. collected_then add kept x.1 (λ now. up_to_end add part n now x.1) x.0) fails)
 
   -- one part and then the others, if each takes a token
   rest_less : (n : ℕ) (kept : S) (s rest : Stream) (o : Option X) (x : S × Stream) → length rest.tokens < length s.tokens
@@ -68,7 +74,8 @@ module _ {S X : Type 0} (add : S → X → S) (part : S → Stream → Result (O
   rest_less n kept s rest (Some a) x less more e = let later = more (add kept a) e in omega (arith, less, later)
 
   -- parts up to their end take at least a token
-  pub total_less : TakesTokens → (n : ℕ) (kept : S) (s : Stream) (x : S × Stream) → up_to_end add part n kept s ≡ Ok x → length x.1.tokens < length s.tokens
+  pub total_less : TakesTokens → (n : ℕ) (kept : S) (s : Stream) (x : S × Stream) → up_to_end add part n kept s ≡ Ok x
+      → length x.1.tokens < length s.tokens
   unfolding up_to_end
   total_less takes zero kept s x e = absurd cc
   total_less takes (suc n) kept s x e =

@@ -95,7 +95,9 @@ module _ (p : Problem) (sizes : Sizes) (are : AreSizes p sizes) where
       let g : Pattern = record { who = w.0.0; room = r.0.0; day = d.0.0; period = t.0.0 } in
       let made : (g, t.0.1) ≡ x = ok_is (g, t.0.1) x t.2 in
       subst (PatternTook s) made (record {
-        took = took_then s w.0.1 t.0.1 (who_piece w.0.0 ∷ []) _ who.0 (took_then w.0.1 r.0.1 t.0.1 (given_piece ROOM_LETTER r.0.0 ∷ []) _ room.0 (took_then r.0.1 d.0.1 t.0.1 (given_piece DAY_LETTER d.0.0 ∷ []) (given_piece PERIOD_LETTER t.0.0 ∷ []) day.0 period.0));
+        took = took_then s w.0.1 t.0.1 (who_piece w.0.0 ∷ []) _ who.0
+            (took_then w.0.1 r.0.1 t.0.1 (given_piece ROOM_LETTER r.0.0 ∷ []) _ room.0
+            (took_then r.0.1 d.0.1 t.0.1 (given_piece DAY_LETTER d.0.0 ∷ []) (given_piece PERIOD_LETTER t.0.0 ∷ []) day.0 period.0));
         is = record {
           who = who_is w.0.0 who.1;
           room = subst (λ n. IfSome r.0.0 (λ k. k < n)) are.rooms room.1;
@@ -105,16 +107,22 @@ module _ (p : Problem) (sizes : Sizes) (are : AreSizes p sizes) where
       })
 
   -- a pattern that is spelled is read
-  pub pattern_reads : AreSmall sizes → (g : Pattern) (s after : Stream) → IsPattern p g → Took s (pattern_pieces g) after → pattern_at sizes s ≡ Ok (g, after)
+  pub pattern_reads : AreSmall sizes → (g : Pattern) (s after : Stream) → IsPattern p g → Took s (pattern_pieces g) after
+      → pattern_at sizes s ≡ Ok (g, after)
   unfolding pattern_at
   pattern_reads small g s after is took =
-      let a = took_split (who_piece g.who ∷ []) (given_piece ROOM_LETTER g.room ∷ given_piece DAY_LETTER g.day ∷ given_piece PERIOD_LETTER g.period ∷ []) s after took in
-      let b = took_split (given_piece ROOM_LETTER g.room ∷ []) (given_piece DAY_LETTER g.day ∷ given_piece PERIOD_LETTER g.period ∷ []) a.0 after a.2 in
+      let a = took_split (who_piece g.who ∷ [])
+      (given_piece ROOM_LETTER g.room ∷ given_piece DAY_LETTER g.day ∷ given_piece PERIOD_LETTER g.period ∷ []) s after took in
+      let b = took_split (given_piece ROOM_LETTER g.room ∷ []) (given_piece DAY_LETTER g.day ∷ given_piece PERIOD_LETTER g.period ∷ [])
+      a.0 after a.2 in
       let c = took_split (given_piece DAY_LETTER g.day ∷ []) (given_piece PERIOD_LETTER g.period ∷ []) b.0 after b.2 in
       let who = who_reads sizes g.who s a.0 small (is_who g.who is.who) a.1 in
-      let room = given_reads ROOM_LETTER sizes.rooms g.room a.0 b.0 small.rooms (subst (λ n. IfSome g.room (λ k. k < n)) (sym are.rooms) is.room) b.1 in
-      let day = given_reads DAY_LETTER sizes.days g.day b.0 c.0 small.days (subst (λ n. IfSome g.day (λ k. k < n)) (sym are.days) is.day) c.1 in
-      let period = given_reads PERIOD_LETTER sizes.periods g.period c.0 after small.periods (subst (λ n. IfSome g.period (λ k. k < n)) (sym are.periods) is.period) c.2 in
+      let room = given_reads ROOM_LETTER sizes.rooms g.room a.0 b.0 small.rooms
+      (subst (λ n. IfSome g.room (λ k. k < n)) (sym are.rooms) is.room) b.1 in
+      let day = given_reads DAY_LETTER sizes.days g.day b.0 c.0 small.days
+      (subst (λ n. IfSome g.day (λ k. k < n)) (sym are.days) is.day) c.1 in
+      let period = given_reads PERIOD_LETTER sizes.periods g.period c.0 after small.periods
+      (subst (λ n. IfSome g.period (λ k. k < n)) (sym are.periods) is.period) c.2 in
       rw (who, room, day, period) refl
 
   -- ---- nodes
@@ -133,11 +141,13 @@ module _ (p : Problem) (sizes : Sizes) (are : AreSizes p sizes) where
     behind_took word.Split s x e =
         let g = bind_ok (pattern_at sizes s) (λ g. Ok (node.Split g.0, g.1)) x e in
         let a = pattern_took s g.0 g.1 in
-        subst (Behind word.Split s) (ok_is (node.Split g.0.0, g.0.1) x g.2) (record { rest = pattern_pieces g.0.0; spells = refl; took = a.took; is = a.is })
+        subst (Behind word.Split s) (ok_is (node.Split g.0.0, g.0.1) x g.2)
+        (record { rest = pattern_pieces g.0.0; spells = refl; took = a.took; is = a.is })
     behind_took word.Empty s x e =
         let g = bind_ok (pattern_at sizes s) (λ g. Ok (node.Leaf (leaf.Empty g.0), g.1)) x e in
         let a = pattern_took s g.0 g.1 in
-        subst (Behind word.Empty s) (ok_is (node.Leaf (leaf.Empty g.0.0), g.0.1) x g.2) (record { rest = pattern_pieces g.0.0; spells = refl; took = a.took; is = a.is })
+        subst (Behind word.Empty s) (ok_is (node.Leaf (leaf.Empty g.0.0), g.0.1) x g.2)
+        (record { rest = pattern_pieces g.0.0; spells = refl; took = a.took; is = a.is })
     behind_took word.Many s x e =
         let c = bind_ok (course_at sizes s) (λ c. Ok (node.Leaf (leaf.Many c.0), c.1)) x e in
         let a = course_took sizes s c.0 c.1 in
@@ -147,16 +157,27 @@ module _ (p : Problem) (sizes : Sizes) (are : AreSizes p sizes) where
         let l = bind_ok (list_at sizes s) (λ l. Ok (node.Leaf (leaf.Clique l.0), l.1)) x e in
         let a = list_took sizes s l.0 l.1 in
         subst (Behind word.Clique s) (ok_is (node.Leaf (leaf.Clique l.0.0), l.0.1) x l.2)
-        (record { rest = listed_pieces l.0.0; spells = refl; took = a.took; is = (subst (λ n. AreBelow n l.0.0) are.courses a.below, a.once) })
+        (record {
+          rest = listed_pieces l.0.0;
+          spells = refl;
+          took = a.took;
+          is = (subst (λ n. AreBelow n l.0.0) are.courses a.below, a.once);
+        })
     behind_took word.Slots s x e =
         let l = bind_ok (list_at sizes s) (λ l. Ok (node.Leaf (leaf.Slots l.0), l.1)) x e in
         let a = list_took sizes s l.0 l.1 in
         subst (Behind word.Slots s) (ok_is (node.Leaf (leaf.Slots l.0.0), l.0.1) x l.2)
-        (record { rest = listed_pieces l.0.0; spells = refl; took = a.took; is = (subst (λ n. AreBelow n l.0.0) are.courses a.below, a.once) })
+        (record {
+          rest = listed_pieces l.0.0;
+          spells = refl;
+          took = a.took;
+          is = (subst (λ n. AreBelow n l.0.0) are.courses a.below, a.once);
+        })
     behind_took word.Cost s x e =
         let l = bind_ok (claims_at sizes version s) (λ l. Ok (node.Leaf (leaf.Cost l.0), l.1)) x e in
         let a = claims_took p sizes are version s l.0 l.1 in
-        subst (Behind word.Cost s) (ok_is (node.Leaf (leaf.Cost l.0.0), l.0.1) x l.2) (record { rest = a.body ++ Text (codes ";") ∷ []; spells = (a.body, a.spells, refl); took = a.took; is = a.all })
+        subst (Behind word.Cost s) (ok_is (node.Leaf (leaf.Cost l.0.0), l.0.1) x l.2)
+        (record { rest = a.body ++ Text (codes ";") ∷ []; spells = (a.body, a.spells, refl); took = a.took; is = a.all })
 
     pub record NodeTook (count : ℕ) (s : Stream) (x : Node × Stream) : Type 0 where
       pub pieces : List Piece
@@ -170,19 +191,22 @@ module _ (p : Problem) (sizes : Sizes) (are : AreSizes p sizes) where
     unfolding node_at
     node_took count s x e =
         let t = bind_ok (token_at s) _ x e in
-        let u = bind_ok (counted t.0.0.at count) (λ (_ : Unit {0}). node_word_of t.0.0 >>= λ w. node_after_word sizes version w t.0.1) x t.2 in
+        let u = bind_ok (counted t.0.0.at count) (λ (_ : Unit {0}). node_word_of t.0.0 >>= λ w. node_after_word sizes version w t.0.1) x
+        t.2 in
         let w = bind_ok (node_word_of t.0.0) (λ w. node_after_word sizes version w t.0.1) x u.2 in
         let b = behind_took w.0 t.0.1 x w.2 in
         let at_most = test_ok (nat_lt count MAX_PROOF_NODES) (fault.TooManyNodes t.0.0.at) (Ok tt) u.0 u.1 in
         record {
           pieces = Text (code_of w.0) ∷ b.rest;
           spells = b.spells;
-          took = took_then s t.0.1 x.1 (Text (code_of w.0) ∷ []) b.rest (took_piece s t.0 (Text (code_of w.0)) t.1 (word_took t.0.0 w.0 w.1)) b.took;
+          took = took_then s t.0.1 x.1 (Text (code_of w.0) ∷ []) b.rest
+              (took_piece s t.0 (Text (code_of w.0)) t.1 (word_took t.0.0 w.0 w.1)) b.took;
           is = b.is;
           room = omega (arith, leb-true _ _ at_most.0);
         }
 
-    by_word : (w : NodeWord) (n : Node) (rest : List Piece) (count : ℕ) (s after : Stream) → count < MAX_PROOF_NODES → ((mid : Stream) → Took mid rest after → node_after_word sizes version w mid ≡ Ok (n, after))
+    by_word : (w : NodeWord) (n : Node) (rest : List Piece) (count : ℕ) (s after : Stream) → count < MAX_PROOF_NODES
+        → ((mid : Stream) → Took mid rest after → node_after_word sizes version w mid ≡ Ok (n, after))
         → Took s (Text (code_of w) ∷ rest) after → node_at sizes version count s ≡ Ok (n, after)
     unfolding node_at
     by_word w n rest count s after room more took =
@@ -191,22 +215,29 @@ module _ (p : Problem) (sizes : Sizes) (are : AreSizes p sizes) where
         rw (f.is, at_most, word_reads w f.token f.piece, more f.mid f.rest) refl
 
     -- a node that is spelled is read
-    pub node_reads : AreSmall sizes → (count : ℕ) (n : Node) (ps : List Piece) (s after : Stream) → count < MAX_PROOF_NODES → SpellsNode n ps → IsNode p version n → Took s ps after
+    pub node_reads : AreSmall sizes → (count : ℕ) (n : Node) (ps : List Piece) (s after : Stream) → count < MAX_PROOF_NODES
+        → SpellsNode n ps → IsNode p version n → Took s ps after
         → node_at sizes version count s ≡ Ok (n, after)
     unfolding node_after_word
     node_reads small count (node.Split g) ps s after room spell is took =
-        by_word word.Split (node.Split g) (pattern_pieces g) count s after room (λ mid t. rw (pattern_reads small g mid after is t) refl) (subst (λ qs. Took s qs after) spell took)
+        by_word word.Split (node.Split g) (pattern_pieces g) count s after room
+        (λ mid t. rw (pattern_reads small g mid after is t) refl) (subst (λ qs. Took s qs after) spell took)
     node_reads small count (node.Leaf (leaf.Empty g)) ps s after room spell is took =
-        by_word word.Empty (node.Leaf (leaf.Empty g)) (pattern_pieces g) count s after room (λ mid t. rw (pattern_reads small g mid after is t) refl) (subst (λ qs. Took s qs after) spell took)
+        by_word word.Empty (node.Leaf (leaf.Empty g)) (pattern_pieces g) count s after room
+        (λ mid t. rw (pattern_reads small g mid after is t) refl) (subst (λ qs. Took s qs after) spell took)
     node_reads small count (node.Leaf (leaf.Many c)) ps s after room spell is took =
-        by_word word.Many (node.Leaf (leaf.Many c)) (course_piece c ∷ []) count s after room (λ mid t. rw (course_reads sizes c mid after small.courses (omega (arith, are.courses, is)) t) refl)
+        by_word word.Many (node.Leaf (leaf.Many c)) (course_piece c ∷ []) count s after room
+        (λ mid t. rw (course_reads sizes c mid after small.courses (omega (arith, are.courses, is)) t) refl)
         (subst (λ qs. Took s qs after) spell took)
     node_reads small count (node.Leaf (leaf.Clique cs)) ps s after room spell is took =
         by_word word.Clique (node.Leaf (leaf.Clique cs)) (listed_pieces cs) count s after room
-        (λ mid t. rw (list_reads sizes cs mid after small (subst (λ n. AreBelow n cs) (sym are.courses) is.0) is.1 t) refl) (subst (λ qs. Took s qs after) spell took)
+        (λ mid t. rw (list_reads sizes cs mid after small (subst (λ n. AreBelow n cs) (sym are.courses) is.0) is.1 t) refl)
+        (subst (λ qs. Took s qs after) spell took)
     node_reads small count (node.Leaf (leaf.Slots cs)) ps s after room spell is took =
         by_word word.Slots (node.Leaf (leaf.Slots cs)) (listed_pieces cs) count s after room
-        (λ mid t. rw (list_reads sizes cs mid after small (subst (λ n. AreBelow n cs) (sym are.courses) is.0) is.1 t) refl) (subst (λ qs. Took s qs after) spell took)
+        (λ mid t. rw (list_reads sizes cs mid after small (subst (λ n. AreBelow n cs) (sym are.courses) is.0) is.1 t) refl)
+        (subst (λ qs. Took s qs after) spell took)
     node_reads small count (node.Leaf (leaf.Cost cs)) ps s after room spell is took =
-        by_word word.Cost (node.Leaf (leaf.Cost cs)) (spell.0 ++ Text (codes ";") ∷ []) count s after room (λ mid t. rw (claims_read p sizes are version small cs spell.0 mid after spell.1 is t) refl)
+        by_word word.Cost (node.Leaf (leaf.Cost cs)) (spell.0 ++ Text (codes ";") ∷ []) count s after room
+        (λ mid t. rw (claims_read p sizes are version small cs spell.0 mid after spell.1 is t) refl)
         (subst (λ qs. Took s qs after) spell.2 took)

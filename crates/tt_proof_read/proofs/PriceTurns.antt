@@ -26,14 +26,17 @@ any_number [] n = refl
 any_number (k ∷ ks) n = ap (λ b. (k.0 == n) || b) (any_number ks n)
 
 -- another price
-prices_push : (count : ℕ) (prices : List (ℕ × ℕ)) (n u : ℕ) → ArePrices count prices → n < count → has_number (map (λ k. k.0) prices) n ≡ false → ArePrices count (prices ++ (n, u) ∷ [])
+prices_push : (count : ℕ) (prices : List (ℕ × ℕ)) (n u : ℕ) → ArePrices count prices → n < count
+    → has_number (map (λ k. k.0) prices) n ≡ false → ArePrices count (prices ++ (n, u) ∷ [])
 prices_push count prices n u are below new = record {
-  within = subst (AreBelow count) (sym (map-append (λ k. k.0) prices ((n, u) ∷ []))) (All-push (λ m. m < count) (map (λ k. k.0) prices) n are.within below);
+  within = subst (AreBelow count) (sym (map-append (λ k. k.0) prices ((n, u) ∷ [])))
+      (All-push (λ m. m < count) (map (λ k. k.0) prices) n are.within below);
   once = each_two_push (λ a b. a.0 == b.0) prices (n, u) are.once (any_number prices n ∙ new);
 }
 
 -- another pair
-pub kept_push : (sizes : Sizes) (kept : PriceLists) (x : Priced) (u : ℕ) → ArePriceLists sizes kept → IsUnseen sizes (seen_in kept) x → u ≤ MAX_PRICE → ArePriceLists sizes (with_priced kept x u)
+pub kept_push : (sizes : Sizes) (kept : PriceLists) (x : Priced) (u : ℕ) → ArePriceLists sizes kept → IsUnseen sizes (seen_in kept) x
+    → u ≤ MAX_PRICE → ArePriceLists sizes (with_priced kept x u)
 kept_push sizes kept (Course c) u are new within = record {
   courses = prices_push sizes.courses kept.0 c u are.courses new.0 new.1;
   rooms = are.rooms;
@@ -57,9 +60,11 @@ kept_nothing sizes kept e = subst (ArePriceLists sizes) (sym e) (record {
 })
 
 -- before the first pair
-pub prices_left : (sizes : Sizes) (kept : PriceLists) (s : Stream) → kept ≡ ([], []) → IsLeft with_pair (next_pair_at sizes) kept s (prices_at sizes s)
+pub prices_left : (sizes : Sizes) (kept : PriceLists) (s : Stream) → kept ≡ ([], []) → IsLeft with_pair (next_pair_at sizes) kept s
+    (prices_at sizes s)
 unfolding prices_at
-prices_left sizes kept s e = subst (λ k. IsLeft with_pair (next_pair_at sizes) k s (prices_at sizes s)) (sym e) (all_left with_pair (next_pair_at sizes) ([], []) s)
+prices_left sizes kept s e = subst (λ k. IsLeft with_pair (next_pair_at sizes) k s (prices_at sizes s)) (sym e)
+    (all_left with_pair (next_pair_at sizes) ([], []) s)
 
 -- -- the properties of the prices
 
@@ -68,14 +73,18 @@ middle : {X : Type 0} (P : X → Type 0) (before : List X) (x : X) (xs : List X)
 middle P before x xs all = (each_of_append P before (x ∷ xs) (recursion_from_All P (before ++ x ∷ xs) all)).1.0
 
 -- if a price is followed by others, its number is below the count and has no price before it
-price_before : (count : ℕ) (before : List (ℕ × ℕ)) (n u : ℕ) (xs : List (ℕ × ℕ)) → ArePrices count (before ++ (n, u) ∷ xs) → (n < count) × (has_number (map (λ k. k.0) before) n ≡ false)
+price_before : (count : ℕ) (before : List (ℕ × ℕ)) (n u : ℕ) (xs : List (ℕ × ℕ)) → ArePrices count (before ++ (n, u) ∷ xs)
+    → (n < count) × (has_number (map (λ k. k.0) before) n ≡ false)
 price_before count before n u xs are = (
-  middle (λ m. m < count) (map (λ k. k.0) before) n (map (λ k. k.0) xs) (subst (AreBelow count) (map-append (λ k. k.0) before ((n, u) ∷ xs)) are.within),
+  middle (λ m. m < count) (map (λ k. k.0) before) n (map (λ k. k.0) xs)
+      (subst (AreBelow count) (map-append (λ k. k.0) before ((n, u) ∷ xs)) are.within),
   sym (any_number before n) ∙ is_new (λ a b. a.0 == b.0) before (n, u) xs are.once,
 )
 
 -- if more prices follow, the next one is for a number without a price, and within the limit
-pub kept_before : (sizes : Sizes) (kept : PriceLists) (x : Priced) (u : ℕ) (courses rooms : List (ℕ × ℕ)) → ArePriceLists sizes ((with_priced kept x u).0 ++ courses, (with_priced kept x u).1 ++ rooms) → IsUnseen sizes (seen_in kept) x × (u ≤ MAX_PRICE)
+pub kept_before : (sizes : Sizes) (kept : PriceLists) (x : Priced) (u : ℕ) (courses rooms : List (ℕ × ℕ))
+    → ArePriceLists sizes ((with_priced kept x u).0 ++ courses, (with_priced kept x u).1 ++ rooms) → IsUnseen sizes (seen_in kept) x
+    × (u ≤ MAX_PRICE)
 kept_before sizes kept (Course c) u courses rooms are =
     let grouped : (kept.0 ++ (c, u) ∷ []) ++ courses ≡ kept.0 ++ (c, u) ∷ courses = append_assoc kept.0 ((c, u) ∷ []) courses in (
       price_before sizes.courses kept.0 c u courses (subst (ArePrices sizes.courses) grouped are.courses),
@@ -99,6 +108,7 @@ seen_push kept (Room r) u = ap (λ (l : List ℕ). seen (map (λ k. k.0) kept.0)
 -- -- one iteration
 
 -- reading a pair after the numbers seen is reading the next part after the stored pairs
-pub pair_kept : (sizes : Sizes) (now next : State) (result : Result (Option (Priced × ℕ)) TextFault) (listed : Seen) (kept : PriceLists) → listed ≡ seen_in kept → IsReading now next (λ o s. (o, s)) result (pair_at sizes listed)
+pub pair_kept : (sizes : Sizes) (now next : State) (result : Result (Option (Priced × ℕ)) TextFault) (listed : Seen) (kept : PriceLists)
+    → listed ≡ seen_in kept → IsReading now next (λ o s. (o, s)) result (pair_at sizes listed)
     → ReadsPart with_pair (next_pair_at sizes) (prices_at sizes) now next result kept
 pair_kept sizes now next result listed kept same read = subst (λ l. IsReading now next (λ o s. (o, s)) result (pair_at sizes l)) same read

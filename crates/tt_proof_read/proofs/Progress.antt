@@ -30,7 +30,8 @@ one_less make s x e =
     subst (IsLess s) (ok_is (a.0, t.0.1) x a.2) (token_less s t.0 t.1)
 
 -- a value made of another value that was read
-made_less : {A B : Type 0} (read : Result (A × Stream) TextFault) (make : A → B) (s : Stream) (x : B × Stream) → ((y : A × Stream) → read ≡ Ok y → IsLess s y)
+made_less : {A B : Type 0} (read : Result (A × Stream) TextFault) (make : A → B) (s : Stream) (x : B × Stream)
+    → ((y : A × Stream) → read ≡ Ok y → IsLess s y)
     → (read >>= λ y. Ok (make y.0, y.1)) ≡ Ok x → IsLess s x
 made_less read make s x less e =
     let a = bind_ok read (λ y. Ok (make y.0, y.1)) x e in
@@ -59,8 +60,10 @@ unfolding listed_at
 listed_takes sizes = record { less = λ before s x e. one_less (listed_of sizes before) s x e }
 
 -- reading the price takes no token back
-with_price_less : (s : Stream) (o : Option Priced) (x : Option (Priced × ℕ) × Stream) → with_price o s ≡ Ok x → length x.1.tokens ≤ length s.tokens
-with_price_less s None x e = subst (λ (y : Option (Priced × ℕ) × Stream). length y.1.tokens ≤ length s.tokens) (ok_is (None, s) x e) (omega arith)
+with_price_less : (s : Stream) (o : Option Priced) (x : Option (Priced × ℕ) × Stream) → with_price o s ≡ Ok x
+    → length x.1.tokens ≤ length s.tokens
+with_price_less s None x e = subst (λ (y : Option (Priced × ℕ) × Stream). length y.1.tokens ≤ length s.tokens) (ok_is (None, s) x e)
+    (omega arith)
 with_price_less s (Some a) x e = let less = made_less (price_at s) (λ u. Some (a, u)) s x (price_less s) e in omega (arith, less)
 
 -- a price, or the end of the prices
@@ -92,9 +95,12 @@ behind_less sizes claim_word.Prices s x e = made_less (prices_at sizes s) (λ k.
 behind_less sizes claim_word.Stacked s x e = made_less (course_at sizes s) claim.Stacked s x (course_less sizes s) e
 
 -- a claim, or the end
-claim_then_less : (sizes : Sizes) (s : Stream) (o : Option ClaimWord) (x : Option Claim × Stream) → claim_then sizes o s ≡ Ok x → length x.1.tokens ≤ length s.tokens
-claim_then_less sizes s None x e = subst (λ (y : Option Claim × Stream). length y.1.tokens ≤ length s.tokens) (ok_is (None, s) x e) (omega arith)
-claim_then_less sizes s (Some w) x e = let less = made_less (claim_after_word sizes w s) (λ c. Some c) s x (behind_less sizes w s) e in omega (arith, less)
+claim_then_less : (sizes : Sizes) (s : Stream) (o : Option ClaimWord) (x : Option Claim × Stream) → claim_then sizes o s ≡ Ok x
+    → length x.1.tokens ≤ length s.tokens
+claim_then_less sizes s None x e = subst (λ (y : Option Claim × Stream). length y.1.tokens ≤ length s.tokens) (ok_is (None, s) x e)
+    (omega arith)
+claim_then_less sizes s (Some w) x e = let less = made_less (claim_after_word sizes w s) (λ c. Some c) s x (behind_less sizes w s) e in
+    omega (arith, less)
 
 -- a claim, or the end of the claims
 pub claim_takes : (sizes : Sizes) (version : ℕ) → TakesTokens push (λ _ rest. claim_at sizes version rest)

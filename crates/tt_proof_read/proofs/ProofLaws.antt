@@ -50,22 +50,30 @@ header_took s x e =
     let version = version_took w1.0 v.0 v.1 in
     let second = word_took word.Bound v.0.1 w2.0 w2.1 in
     let bound = bound_took w2.0 b.0 b.1 in
-    let whole : Took s (header_pieces v.0.0 b.0.0) b.0.1 = took_then _ _ _ _ _ first (took_then _ _ _ _ _ version.0 (took_then _ _ _ _ _ second bound.0)) in
+    let whole : Took s (header_pieces v.0.0 b.0.0) b.0.1 =
+    took_then _ _ _ _ _ first (took_then _ _ _ _ _ version.0 (took_then _ _ _ _ _ second bound.0)) in
     subst (HeaderTook s) (ok_is ((v.0.0, b.0.0), b.0.1) x b.2) (record { took = whole; version = version.1; bound = bound.1 })
 
 -- a header that is spelled is read
-pub header_reads : (v : ℕ) (b : Bound) (s after : Stream) → 1 ≤ v → v ≤ 2 → IsBound b → Took s (header_pieces v b) after → header_at s ≡ Ok ((v, b), after)
+pub header_reads : (v : ℕ) (b : Bound) (s after : Stream) → 1 ≤ v → v ≤ 2 → IsBound b → Took s (header_pieces v b) after
+    → header_at s ≡ Ok ((v, b), after)
 unfolding header_at
 header_reads v b s after low high within took =
     let a1 = took_split (fixed word.Cttp ∷ []) (Text (version_text v) ∷ fixed word.Bound ∷ bound_piece b ∷ []) s after took in
     let a2 = took_split (Text (version_text v) ∷ []) (fixed word.Bound ∷ bound_piece b ∷ []) a1.0 after a1.2 in
     let a3 = took_split (fixed word.Bound ∷ []) (bound_piece b ∷ []) a2.0 after a2.2 in
-    rw (word_reads word.Cttp s a1.0 a1.1, version_reads v a1.0 a2.0 low high a2.1, word_reads word.Bound a2.0 a3.0 a3.1, bound_reads b a3.0 after within a3.2) refl
+    rw (
+      word_reads word.Cttp s a1.0 a1.1,
+      version_reads v a1.0 a2.0 low high a2.1,
+      word_reads word.Bound a2.0 a3.0 a3.1,
+      bound_reads b a3.0 after within a3.2,
+    ) refl
 
 -- ---- the end
 
 -- if no token is refused, none is left
-pub no_more_took : (ts : List Placed) (stop : Result ℕ FeedFault) (x : Stream) → no_more ts stop ≡ Ok x → (ts ≡ []) × ((m : ℕ) × (stop ≡ Ok m))
+pub no_more_took : (ts : List Placed) (stop : Result ℕ FeedFault) (x : Stream) → no_more ts stop ≡ Ok x
+    → (ts ≡ []) × ((m : ℕ) × (stop ≡ Ok m))
 no_more_took [] (Ok m) x e = (refl, (m, refl))
 no_more_took [] (Err f) x e = absurd cc
 no_more_took (t ∷ ts) stop x e = absurd cc
@@ -101,7 +109,8 @@ module _ (p : Problem) (sizes : Sizes) (are : AreSizes p sizes) (version : ℕ) 
     pub at_most : count + length nodes ≤ MAX_PROOF_NODES
 
   -- nodes that were read are spelled
-  pub nodes_took : (count : ℕ) (s : Stream) (nodes : List Node) (after : Stream) → count ≤ MAX_PROOF_NODES → ReadsNodes sizes version count s nodes after → NodesTook count s nodes after
+  pub nodes_took : (count : ℕ) (s : Stream) (nodes : List Node) (after : Stream) → count ≤ MAX_PROOF_NODES
+      → ReadsNodes sizes version count s nodes after → NodesTook count s nodes after
   nodes_took count s [] after at_most reads = record {
     body = [];
     spells = refl;
@@ -121,13 +130,15 @@ module _ (p : Problem) (sizes : Sizes) (are : AreSizes p sizes) (version : ℕ) 
       }
 
   -- nodes that are spelled are read
-  pub nodes_read : AreSmall sizes → (count : ℕ) (nodes : List Node) (body : List Piece) (s after : Stream) → count + length nodes ≤ MAX_PROOF_NODES → SpellsEach SpellsNode nodes body → All (IsNode p version) nodes
+  pub nodes_read : AreSmall sizes → (count : ℕ) (nodes : List Node) (body : List Piece) (s after : Stream)
+      → count + length nodes ≤ MAX_PROOF_NODES → SpellsEach SpellsNode nodes body → All (IsNode p version) nodes
       → Took s body after → ReadsNodes sizes version count s nodes after
   nodes_read small count [] body s after at_most spells each took = took_same s after (subst (λ ps. Took s ps after) spells took)
   nodes_read small count (n ∷ ns) body s after at_most spells each took =
       let parts = took_split spells.0 spells.1 s after (subst (λ ps. Took s ps after) spells.4 took) in (
         parts.0,
-        node_reads p sizes are version small count n spells.0 s parts.0 (omega arith) spells.2 (All-head (IsNode p version) n ns each) parts.1,
+        node_reads p sizes are version small count n spells.0 s parts.0 (omega arith) spells.2
+            (All-head (IsNode p version) n ns each) parts.1,
         nodes_read small (count + 1) ns spells.1 parts.0 after (omega arith) spells.3 (All-tail (IsNode p version) n ns each) parts.2,
       )
 
@@ -135,16 +146,19 @@ module _ (p : Problem) (sizes : Sizes) (are : AreSizes p sizes) (version : ℕ) 
 
 module _ (p : Problem) (sizes : Sizes) (are : AreSizes p sizes) where
   -- a proof that was read is spelled, if no path is too long
-  pub reads_spelled : (bytes : List ℕ) (v : ℕ) (b : Bound) (tree : Tree) → AllLeaves (λ path _. length path ≤ MAX_FACTS) [] tree → Reads sizes (stream_of_bytes bytes) v b tree → SpellsProof p bytes v b tree
+  pub reads_spelled : (bytes : List ℕ) (v : ℕ) (b : Bound) (tree : Tree) → AllLeaves (λ path _. length path ≤ MAX_FACTS) [] tree
+      → Reads sizes (stream_of_bytes bytes) v b tree → SpellsProof p bytes v b tree
   reads_spelled bytes v b tree depth r =
       let s = stream_of_bytes bytes in
       let header = header_took s ((v, b), r.headed) r.header in
       let nodes = nodes_took p sizes are v 0 r.headed (preorder tree) r.noded (omega arith) r.nodes in
       let last = end_took r.noded r.ended r.finish in
-      let whole = took_then s r.headed last.rest (header_pieces v b) (nodes.body ++ fixed word.End ∷ []) header.took (took_then r.headed r.noded last.rest nodes.body (fixed word.End ∷ []) nodes.took last.took) in
+      let whole = took_then s r.headed last.rest (header_pieces v b) (nodes.body ++ fixed word.End ∷ []) header.took
+      (took_then r.headed r.noded last.rest nodes.body (fixed word.End ∷ []) nodes.took last.took) in
       let within = limited MAX_BYTES last.bytes bytes (whole.stop ∙ last.stop) in
       let same = unlimited MAX_BYTES 0 bytes (omega (arith, within.0)) within.1 in
-      let tokens = subst (λ (ts : List Placed). Begins (header_pieces v b ++ (nodes.body ++ fixed word.End ∷ [])) ts []) (ap (λ (x : Stream). x.tokens) same)
+      let tokens = subst (λ (ts : List Placed). Begins (header_pieces v b ++ (nodes.body ++ fixed word.End ∷ [])) ts [])
+      (ap (λ (x : Stream). x.tokens) same)
       (subst (Begins (header_pieces v b ++ (nodes.body ++ fixed word.End ∷ [])) s.tokens) last.none whole.begins) in
       record {
         version = header.version;
@@ -153,18 +167,26 @@ module _ (p : Problem) (sizes : Sizes) (are : AreSizes p sizes) where
         nodes = nodes.spells;
         tokens = tokens;
         each = nodes.each;
-        within = record { size = within.0; tokens = All-from_recursion (λ t. length t.text ≤ 32) (tokens_of bytes) within.1; nodes = omega (arith, nodes.at_most); depth = depth };
+        within = record {
+          size = within.0;
+          tokens = All-from_recursion (λ t. length t.text ≤ 32) (tokens_of bytes) within.1;
+          nodes = omega (arith, nodes.at_most);
+          depth = depth;
+        };
       }
 
   -- a proof that is spelled is read
-  pub spelled_reads : AreSmall sizes → (bytes : List ℕ) (v : ℕ) (b : Bound) (tree : Tree) → SpellsProof p bytes v b tree → Reads sizes (stream_of_bytes bytes) v b tree
+  pub spelled_reads : AreSmall sizes → (bytes : List ℕ) (v : ℕ) (b : Bound) (tree : Tree) → SpellsProof p bytes v b tree
+      → Reads sizes (stream_of_bytes bytes) v b tree
   spelled_reads small bytes v b tree spelled =
       let s = stream_of_bytes bytes in
       let size = spelled.within.size in
-      let same = unlimited MAX_BYTES 0 bytes (omega (arith, size)) (recursion_from_All (λ t. length t.text ≤ 32) (tokens_of bytes) spelled.within.tokens) in
+      let same = unlimited MAX_BYTES 0 bytes (omega (arith, size))
+      (recursion_from_All (λ t. length t.text ≤ 32) (tokens_of bytes) spelled.within.tokens) in
       let after = stopped (Ok (0 + length bytes)) in
       let tail = spelled.body ++ fixed word.End ∷ [] in
-      let whole : Took s (header_pieces v b ++ tail) after = subst (λ (x : Stream). Took x (header_pieces v b ++ tail) after) (sym same) (record { begins = spelled.tokens; stop = refl }) in
+      let whole : Took s (header_pieces v b ++ tail) after = subst (λ (x : Stream). Took x (header_pieces v b ++ tail) after) (sym same)
+      (record { begins = spelled.tokens; stop = refl }) in
       let headed = took_split (header_pieces v b) tail s after whole in
       let noded = took_split spelled.body (fixed word.End ∷ []) headed.0 after headed.2 in
       record {
@@ -172,6 +194,7 @@ module _ (p : Problem) (sizes : Sizes) (are : AreSizes p sizes) where
         noded = noded.0;
         ended = after;
         header = header_reads v b s headed.0 spelled.version.0 spelled.version.1 spelled.bound headed.1;
-        nodes = nodes_read p sizes are v small 0 (preorder tree) spelled.body headed.0 noded.0 (omega (arith, spelled.within.nodes)) spelled.nodes spelled.each noded.1;
+        nodes = nodes_read p sizes are v small 0 (preorder tree) spelled.body headed.0 noded.0
+            (omega (arith, spelled.within.nodes)) spelled.nodes spelled.each noded.1;
         finish = end_reads noded.0 (0 + length bytes) noded.2;
       }

@@ -21,8 +21,10 @@ reads_value s last y = record {
 
 module _ {Y Z W : Type 0} (last : Y → Stream → W) where
   -- a value was read, and then the rest
-  pub reads_then : {X : Type 0} (view : X → Stream → Z) (first : Stream → Result Z TextFault) (next : Z → Result W TextFault) (old mid new : State) (x : X) (r : Result Y TextFault)
-      → IsReading old mid view (Ok x) first → IsReading mid new last r (λ s. next (view x s)) → IsReading old new last r (λ s. first s >>= next)
+  pub reads_then : {X : Type 0} (view : X → Stream → Z) (first : Stream → Result Z TextFault) (next : Z → Result W TextFault)
+      (old mid new : State) (x : X) (r : Result Y TextFault)
+      → IsReading old mid view (Ok x) first → IsReading mid new last r (λ s. next (view x s))
+      → IsReading old new last r (λ s. first s >>= next)
   reads_then view first next old mid new x (Ok y) a b = record {
     known = λ k. b.known (a.known k);
     failed = λ sound. let was = a.failed sound in let is = b.failed was.0 in (is.0, is.1 ∙ was.1);
@@ -43,7 +45,8 @@ module _ {Y Z W : Type 0} (last : Y → Stream → W) where
   }
 
   -- a fault was read, and is passed on
-  pub reads_fault : {X : Type 0} (view : X → Stream → Z) (first : Stream → Result Z TextFault) (next : Z → Result W TextFault) (old new : State) (f : TextFault)
+  pub reads_fault : {X : Type 0} (view : X → Stream → Z) (first : Stream → Result Z TextFault) (next : Z → Result W TextFault)
+      (old new : State) (f : TextFault)
       → IsReading old new view (Err f) first → IsReading old new last (Err f) (λ s. first s >>= next)
   reads_fault view first next old new f a = record {
     known = a.known;

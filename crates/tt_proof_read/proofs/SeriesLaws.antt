@@ -10,7 +10,8 @@ use Rattle.tt_proof_read.specs.declared.fault.TextFault.{TextFault}
 use Rattle.tt_proof_read.proofs.Loops.{TakesTokens}
 use Rattle.tt_proof_read.proofs.Taking.{Took, took_then, took_split}
 
-module _ {S X : Type 0} (add : S → X → S) (part : S → Stream → Result (Option X × Stream) TextFault) (Spell : X → List Piece → Type 0) (Next : S → X → Type 0) (last : Piece) where
+module _ {S X : Type 0} (add : S → X → S) (part : S → Stream → Result (Option X × Stream) TextFault) (Spell : X → List Piece → Type 0)
+    (Next : S → X → Type 0) (last : Piece) where
   -- each part satisfies its condition, given the stored value of the parts before it
   abbrev pub EachNext : S → List X → Type 0
   EachNext kept [] = Unit {0}
@@ -31,10 +32,12 @@ module _ {S X : Type 0} (add : S → X → S) (part : S → Stream → Result (O
     pub each : EachNext kept items
 
   -- one part and then the others
-  then_took : (n : ℕ) (kept : S) (s rest : Stream) (o : Option X) (y : S × Stream) → PartTook kept s o rest → ((now : S) → up_to_end add part n now rest ≡ Ok y → SeriesTook now rest y)
+  then_took : (n : ℕ) (kept : S) (s rest : Stream) (o : Option X) (y : S × Stream) → PartTook kept s o rest
+      → ((now : S) → up_to_end add part n now rest ≡ Ok y → SeriesTook now rest y)
       → collected_then add kept rest (λ now. up_to_end add part n now rest) o ≡ Ok y → SeriesTook kept s y
   then_took n kept s rest None y took more e =
-      subst (SeriesTook kept s) (ok_is (kept, rest) y e) (record { items = []; list = refl; body = []; spells = refl; took = took; each = tt })
+      subst (SeriesTook kept s) (ok_is (kept, rest) y e)
+      (record { items = []; list = refl; body = []; spells = refl; took = took; each = tt })
   then_took n kept s rest (Some x) y took more e =
       let r = more (add kept x) e in
       record {
@@ -42,7 +45,8 @@ module _ {S X : Type 0} (add : S → X → S) (part : S → Stream → Result (O
         list = r.list;
         body = took.0 ++ r.body;
         spells = (took.0, r.body, took.1, r.spells, refl);
-        took = subst (λ ps. Took s ps y.1) (sym (append_assoc took.0 r.body (last ∷ []))) (took_then s rest y.1 took.0 (r.body ++ last ∷ []) took.2 r.took);
+        took = subst (λ ps. Took s ps y.1) (sym (append_assoc took.0 r.body (last ∷ [])))
+            (took_then s rest y.1 took.0 (r.body ++ last ∷ []) took.2 r.took);
         each = (took.3, r.each);
       }
 
@@ -56,17 +60,20 @@ module _ {S X : Type 0} (add : S → X → S) (part : S → Stream → Result (O
       then_took n kept s x.0.1 x.0.0 y (law kept s x.0 x.1) (λ now h. series_took law n now x.0.1 y h) x.2
 
   module _ (takes : TakesTokens add part)
-      (part_reads : (kept : S) (x : X) (ps : List Piece) (s after : Stream) → Spell x ps → Next kept x → Took s ps after → part kept s ≡ Ok (Some x, after))
+      (part_reads : (kept : S) (x : X) (ps : List Piece) (s after : Stream) → Spell x ps → Next kept x → Took s ps after
+      → part kept s ≡ Ok (Some x, after))
       (last_reads : (kept : S) (s after : Stream) → Took s (last ∷ []) after → part kept s ≡ Ok (None, after)) where
     -- parts that are spelled are read
-    pub series_reads : (n : ℕ) (kept : S) (items : List X) (body : List Piece) (s after : Stream) → length s.tokens < n → EachNext kept items → SpellsEach Spell items body → Took s (body ++ last ∷ []) after
+    pub series_reads : (n : ℕ) (kept : S) (items : List X) (body : List Piece) (s after : Stream) → length s.tokens < n
+        → EachNext kept items → SpellsEach Spell items body → Took s (body ++ last ∷ []) after
         → up_to_end add part n kept s ≡ Ok (fold add kept items, after)
     unfolding up_to_end
     series_reads zero kept items body s after enough each spells took = absurd (omega arith)
     series_reads (suc n) kept [] body s after enough each spells took =
         rw (last_reads kept s after (subst (λ b. Took s (b ++ last ∷ []) after) spells took)) refl
     series_reads (suc n) kept (x ∷ xs) body s after enough each spells took =
-        let grouped : body ++ last ∷ [] ≡ spells.0 ++ (spells.1 ++ last ∷ []) = ap (λ b. b ++ last ∷ []) spells.4 ∙ append_assoc spells.0 spells.1 (last ∷ []) in
+        let grouped : body ++ last ∷ [] ≡ spells.0 ++ (spells.1 ++ last ∷ []) = ap (λ b. b ++ last ∷ []) spells.4
+        ∙ append_assoc spells.0 spells.1 (last ∷ []) in
         let parts = took_split spells.0 (spells.1 ++ last ∷ []) s after (subst (λ ps. Took s ps after) grouped took) in
         let first = part_reads kept x spells.0 s parts.0 spells.2 each.0 parts.1 in
         let less = takes.less kept s (Some x, parts.0) first in

@@ -35,7 +35,10 @@ module _ (at : ℕ) where
 
   pub word_alike : (w : Word) → SkipsAlike at (Unit {0}) (word_at w) (word_at w)
   unfolding word_at
-  word_alike w = then_token _ _ (λ t n. if_reads (is_text (word_text w) t.text) left_skips (err_reads (fault.Expected w t.at) (fault.Expected w n) (other_offset at t.at)))
+  word_alike w =
+      then_token _ _
+      (λ t n. if_reads (is_text (word_text w) t.text) left_skips
+      (err_reads (fault.Expected w t.at) (fault.Expected w n) (other_offset at t.at)))
 
   course_alike : (sizes : Sizes) → ReadsAlike at (Unit {0}) (course_at sizes) (course_at sizes)
   unfolding course_at
@@ -63,7 +66,8 @@ module _ (at : ℕ) where
   unfolding pattern_at
   pattern_alike sizes =
       then_reads _ _ (who_alike sizes) (λ who. then_reads _ _ (given_alike ROOM_LETTER sizes.rooms) (λ room.
-      then_reads _ _ (given_alike DAY_LETTER sizes.days) (λ day. then_reads _ _ (given_alike PERIOD_LETTER sizes.periods) (λ period. ok_reads _))))
+      then_reads _ _ (given_alike DAY_LETTER sizes.days)
+      (λ day. then_reads _ _ (given_alike PERIOD_LETTER sizes.periods) (λ period. ok_reads _))))
 
   -- ---- lists
 
@@ -106,7 +110,8 @@ module _ (at : ℕ) where
 
   claim_alike : (sizes : Sizes) (version : ℕ) → ReadsAlike at (Unit {0}) (claim_at sizes version) (claim_at sizes version)
   unfolding claim_at
-  claim_alike sizes version = then_token _ _ (λ t n. then_verdict _ _ _ _ (claim_word_same at version t n) (λ w. on_condition (claimed_alike sizes w)))
+  claim_alike sizes version =
+      then_token _ _ (λ t n. then_verdict _ _ _ _ (claim_word_same at version t n) (λ w. on_condition (claimed_alike sizes w)))
 
   claims_alike : (sizes : Sizes) (version : ℕ) → ReadsAlike at (Unit {0}) (claims_at sizes version) (claims_at sizes version)
   unfolding claims_at
@@ -114,7 +119,8 @@ module _ (at : ℕ) where
 
   -- ---- nodes
 
-  after_node_word_alike : (sizes : Sizes) (version : ℕ) (w : NodeWord) → ReadsAlike at (Unit {0}) (node_after_word sizes version w) (node_after_word sizes version w)
+  after_node_word_alike : (sizes : Sizes) (version : ℕ) (w : NodeWord) → ReadsAlike at (Unit {0}) (node_after_word sizes version w)
+      (node_after_word sizes version w)
   unfolding node_after_word
   after_node_word_alike sizes version node_word.Split = then_reads _ _ (pattern_alike sizes) (λ g. ok_reads _)
   after_node_word_alike sizes version node_word.Empty = then_reads _ _ (pattern_alike sizes) (λ g. ok_reads _)
@@ -123,7 +129,8 @@ module _ (at : ℕ) where
   after_node_word_alike sizes version node_word.Slots = then_reads _ _ (list_alike sizes) (λ l. ok_reads _)
   after_node_word_alike sizes version node_word.Cost = then_reads _ _ (claims_alike sizes version) (λ l. ok_reads _)
 
-  pub node_alike : (sizes : Sizes) (version count : ℕ) → ReadsAlike at (Unit {0}) (node_at sizes version count) (node_at sizes version count)
+  pub node_alike : (sizes : Sizes) (version count : ℕ) → ReadsAlike at (Unit {0}) (node_at sizes version count)
+      (node_at sizes version count)
   unfolding node_at
   node_alike sizes version count =
       then_token _ _ (λ t n. then_verdict _ _ _ _ (counted_same at t.at n count) (λ u.
@@ -146,13 +153,16 @@ module _ (at : ℕ) where
       then_skips _ _ (word_alike word.Bound) (then_reads _ _ bound_alike (λ b. ok_reads _))))
 
   -- no token after the last
-  no_more_stays : (ts : List Placed) (stop : Result ℕ FeedFault) → NoneAt at ts → EndsElsewhere at stop → StaysAt at (λ _. Unit {0}) (no_more ts stop)
+  no_more_stays : (ts : List Placed) (stop : Result ℕ FeedFault) → NoneAt at ts → EndsElsewhere at stop
+      → StaysAt at (λ _. Unit {0}) (no_more ts stop)
   no_more_stays [] (Ok n) none elsewhere = tt
   no_more_stays [] (Err f) none elsewhere = elsewhere
   no_more_stays (t ∷ ts) stop none elsewhere = other_offset at t.at none.0
 
-  no_more_meets : (ts us : List Placed) (stop other : Result ℕ FeedFault) → Shared at ts us → EndsElsewhere at stop → Meets at (λ _. Unit {0}) (λ _ _. Unit {0}) (no_more ts stop) (no_more us other)
-  no_more_meets ts us stop other (Apart none) elsewhere = stays_meets at (λ _. Unit {0}) (λ _ _. Unit {0}) (no_more ts stop) (no_more us other) (no_more_stays ts stop none elsewhere)
+  no_more_meets : (ts us : List Placed) (stop other : Result ℕ FeedFault) → Shared at ts us → EndsElsewhere at stop
+      → Meets at (λ _. Unit {0}) (λ _ _. Unit {0}) (no_more ts stop) (no_more us other)
+  no_more_meets ts us stop other (Apart none) elsewhere = stays_meets at (λ _. Unit {0}) (λ _ _. Unit {0}) (no_more ts stop)
+      (no_more us other) (no_more_stays ts stop none elsewhere)
   no_more_meets ts us stop other (Next n shared) elsewhere = inr (λ y e. cc)
 
   pub end_alike : EndsAlike at (Unit {0}) end_at end_at

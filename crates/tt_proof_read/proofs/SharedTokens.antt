@@ -40,14 +40,16 @@ module _ (at : ℕ) where
   same_err : {J : Type 0} (a : ℕ) (e d : TextFault) → token_offset e ≡ Some a → SameAt {J = J} a (Err e) (Err d)
   same_err a e d there = (λ other same. other_offset at a other (rw (← there) same), λ v is. cc)
 
-  same_if : {J : Type 0} (a : ℕ) (b : Bool) (r s q t : Result J TextFault) → SameAt a r s → SameAt a q t → SameAt a (cond b r q) (cond b s t)
+  same_if : {J : Type 0} (a : ℕ) (b : Bool) (r s q t : Result J TextFault) → SameAt a r s → SameAt a q t
+      → SameAt a (cond b r q) (cond b s t)
   same_if a true r s q t first second = first
   same_if a false r s q t first second = second
 
   fails_too : {J K : Type 0} (s : Result J TextFault) (k : J → Result K TextFault) → ((v : J) → s ≢ Ok v) → (z : K) → (s >>= k) ≢ Ok z
   fails_too s k none z e = let b = bind_ok s k z e in none b.0 b.1
 
-  same_then : {J K : Type 0} (a : ℕ) (r s : Result J TextFault) (h k : J → Result K TextFault) → SameAt a r s → ((v : J) → SameAt a (h v) (k v)) → SameAt a (r >>= h) (s >>= k)
+  same_then : {J K : Type 0} (a : ℕ) (r s : Result J TextFault) (h k : J → Result K TextFault) → SameAt a r s
+      → ((v : J) → SameAt a (h v) (k v)) → SameAt a (r >>= h) (s >>= k)
   same_then a (Ok v) s h k same more = rw same (more v)
   same_then a (Err e) s h k same more = (same.0, fails_too s k same.1)
 
@@ -63,24 +65,29 @@ module _ (at : ℕ) where
 
   below_number_same : (a n count : ℕ) (digits : List ℕ) → SameAt a (numbered_below a count digits) (numbered_below n count digits)
   unfolding numbered_below
-  below_number_same a n count digits = same_then a _ _ (below a count) (below n count) (numbered_same a n (number_of 4294967295 digits)) (λ v. below_same a n count v)
+  below_number_same a n count digits = same_then a _ _ (below a count) (below n count) (numbered_same a n (number_of 4294967295 digits))
+      (λ v. below_same a n count v)
 
   in_same : (a n letter count : ℕ) (text : List ℕ) → SameAt a (index_in a letter count text) (index_in n letter count text)
   in_same a n letter count [] = same_err a (fault.UnknownWord a) (fault.UnknownWord n) refl
-  in_same a n letter count (b ∷ bs) = same_if a (b == letter) _ _ _ _ (below_number_same a n count bs) (same_err a (fault.UnknownWord a) (fault.UnknownWord n) refl)
+  in_same a n letter count (b ∷ bs) = same_if a (b == letter) _ _ _ _ (below_number_same a n count bs)
+      (same_err a (fault.UnknownWord a) (fault.UnknownWord n) refl)
 
-  pub index_same : (letter count : ℕ) (t : Placed) (n : ℕ) → SameAt t.at (index_of letter count t) (index_of letter count (record { text = t.text; at = n }))
+  pub index_same : (letter count : ℕ) (t : Placed) (n : ℕ) → SameAt t.at (index_of letter count t)
+      (index_of letter count (record { text = t.text; at = n }))
   unfolding index_of
   index_same letter count t n = in_same t.at n letter count t.text
 
   new_same : (a n : ℕ) (before : List ℕ) (v : ℕ) → SameAt a (new_number a before v) (new_number n before v)
-  new_same a n before v = same_if a (has_number before v) _ _ _ _ (same_err a (fault.RepeatedIndex a) (fault.RepeatedIndex n) refl) (same_ok a v)
+  new_same a n before v = same_if a (has_number before v) _ _ _ _ (same_err a (fault.RepeatedIndex a) (fault.RepeatedIndex n) refl)
+      (same_ok a v)
 
   priced_as_same : (a n : ℕ) (r : Result ℕ NumberFault) → SameAt a (priced_as a r) (priced_as n r)
   priced_as_same a n (Ok v) = refl
   priced_as_same a n (Err e) = same_err a (fault.NotANumber a) (fault.NotANumber n) refl
 
-  pub price_same : (t : Placed) (n : ℕ) → SameAt t.at (priced_as t.at (number_of MAX_PRICE t.text)) (priced_as n (number_of MAX_PRICE t.text))
+  pub price_same : (t : Placed) (n : ℕ) → SameAt t.at (priced_as t.at (number_of MAX_PRICE t.text))
+      (priced_as n (number_of MAX_PRICE t.text))
   price_same t n = priced_as_same t.at n (number_of MAX_PRICE t.text)
 
   -- ---- patterns
@@ -88,11 +95,14 @@ module _ (at : ℕ) where
   pub who_same : (a n : ℕ) (sizes : Sizes) (text : List ℕ) → SameAt a (who_in a sizes text) (who_in n sizes text)
   who_same a n sizes [] = same_err a (fault.UnknownWord a) (fault.UnknownWord n) refl
   who_same a n sizes (b ∷ bs) =
-      same_if a (b == COURSE_LETTER) _ _ _ _ (same_then a _ _ (λ v. Ok (who.Course v)) (λ v. Ok (who.Course v)) (below_number_same a n sizes.courses bs) (λ v. same_ok a (who.Course v)))
-      (same_if a (b == CURRICULUM_LETTER) _ _ _ _ (same_then a _ _ (λ v. Ok (who.Curriculum v)) (λ v. Ok (who.Curriculum v)) (below_number_same a n sizes.curricula bs) (λ v. same_ok a (who.Curriculum v)))
+      same_if a (b == COURSE_LETTER) _ _ _ _ (same_then a _ _ (λ v. Ok (who.Course v)) (λ v. Ok (who.Course v))
+      (below_number_same a n sizes.courses bs) (λ v. same_ok a (who.Course v)))
+      (same_if a (b == CURRICULUM_LETTER) _ _ _ _ (same_then a _ _ (λ v. Ok (who.Curriculum v)) (λ v. Ok (who.Curriculum v))
+      (below_number_same a n sizes.curricula bs) (λ v. same_ok a (who.Curriculum v)))
       (same_err a (fault.UnknownWord a) (fault.UnknownWord n) refl))
 
-  pub given_same : (letter count : ℕ) (t : Placed) (n : ℕ) → SameAt t.at (given_of letter count t) (given_of letter count (record { text = t.text; at = n }))
+  pub given_same : (letter count : ℕ) (t : Placed) (n : ℕ) → SameAt t.at (given_of letter count t)
+      (given_of letter count (record { text = t.text; at = n }))
   unfolding given_of
   given_same letter count t n =
       same_if t.at (is_text (codes "*") t.text) _ _ _ _ (same_ok {J = Option ℕ} t.at None)
@@ -100,31 +110,39 @@ module _ (at : ℕ) where
 
   -- ---- lists and prices
 
-  pub listed_same : (sizes : Sizes) (before : List ℕ) (t : Placed) (n : ℕ) → SameAt t.at (listed_of sizes before t) (listed_of sizes before (record { text = t.text; at = n }))
+  pub listed_same : (sizes : Sizes) (before : List ℕ) (t : Placed) (n : ℕ) → SameAt t.at (listed_of sizes before t)
+      (listed_of sizes before (record { text = t.text; at = n }))
   listed_same sizes before t n =
       same_if t.at (is_text (codes ";") t.text) _ _ _ _ (same_ok {J = Option ℕ} t.at None)
       (same_then t.at _ _ (λ v. Ok (Some v)) (λ v. Ok (Some v))
-      (same_then t.at _ _ (new_number t.at before) (new_number n before) (index_same COURSE_LETTER sizes.courses t n) (λ v. new_same t.at n before v)) (λ v. same_ok {J = Option ℕ} t.at (Some v)))
+      (same_then t.at _ _ (new_number t.at before) (new_number n before) (index_same COURSE_LETTER sizes.courses t n)
+      (λ v. new_same t.at n before v)) (λ v. same_ok {J = Option ℕ} t.at (Some v)))
 
-  priced_in_same : (a n : ℕ) (sizes : Sizes) (seen : Seen) (text : List ℕ) → SameAt a (priced_in a sizes seen text) (priced_in n sizes seen text)
+  priced_in_same : (a n : ℕ) (sizes : Sizes) (seen : Seen) (text : List ℕ) → SameAt a (priced_in a sizes seen text)
+      (priced_in n sizes seen text)
   priced_in_same a n sizes seen [] = same_err a (fault.UnknownWord a) (fault.UnknownWord n) refl
   priced_in_same a n sizes seen (b ∷ bs) =
       same_if a (b == COURSE_LETTER) _ _ _ _
       (same_then a _ _ (λ v. Ok (priced.Course v)) (λ v. Ok (priced.Course v))
-      (same_then a _ _ (new_number a seen.0) (new_number n seen.0) (below_number_same a n sizes.courses bs) (λ v. new_same a n seen.0 v)) (λ v. same_ok a (priced.Course v)))
+      (same_then a _ _ (new_number a seen.0) (new_number n seen.0) (below_number_same a n sizes.courses bs)
+      (λ v. new_same a n seen.0 v)) (λ v. same_ok a (priced.Course v)))
       (same_if a (b == ROOM_LETTER) _ _ _ _
       (same_then a _ _ (λ v. Ok (priced.Room v)) (λ v. Ok (priced.Room v))
-      (same_then a _ _ (new_number a seen.1) (new_number n seen.1) (below_number_same a n sizes.rooms bs) (λ v. new_same a n seen.1 v)) (λ v. same_ok a (priced.Room v)))
+      (same_then a _ _ (new_number a seen.1) (new_number n seen.1) (below_number_same a n sizes.rooms bs) (λ v. new_same a n seen.1 v))
+      (λ v. same_ok a (priced.Room v)))
       (same_err a (fault.UnknownWord a) (fault.UnknownWord n) refl))
 
-  pub priced_same : (sizes : Sizes) (seen : Seen) (t : Placed) (n : ℕ) → SameAt t.at (priced_of sizes seen t) (priced_of sizes seen (record { text = t.text; at = n }))
+  pub priced_same : (sizes : Sizes) (seen : Seen) (t : Placed) (n : ℕ) → SameAt t.at (priced_of sizes seen t)
+      (priced_of sizes seen (record { text = t.text; at = n }))
   priced_same sizes seen t n =
       same_if t.at (is_text (codes "/") t.text) _ _ _ _ (same_ok {J = Option Priced} t.at None)
-      (same_then t.at _ _ (λ v. Ok (Some v)) (λ v. Ok (Some v)) (priced_in_same t.at n sizes seen t.text) (λ v. same_ok {J = Option Priced} t.at (Some v)))
+      (same_then t.at _ _ (λ v. Ok (Some v)) (λ v. Ok (Some v)) (priced_in_same t.at n sizes seen t.text)
+      (λ v. same_ok {J = Option Priced} t.at (Some v)))
 
   -- ---- words
 
-  pub claim_word_same : (version : ℕ) (t : Placed) (n : ℕ) → SameAt t.at (claim_word_of version t) (claim_word_of version (record { text = t.text; at = n }))
+  pub claim_word_same : (version : ℕ) (t : Placed) (n : ℕ) → SameAt t.at (claim_word_of version t)
+      (claim_word_of version (record { text = t.text; at = n }))
   claim_word_same version t n =
       let some : (w : ClaimWord) → SameAt t.at (Ok (Some w)) (Ok (Some w)) = λ w. same_ok t.at (Some w) in
       same_if t.at (is_text (codes ";") t.text) _ _ _ _ (same_ok {J = Option ClaimWord} t.at None)
@@ -148,14 +166,16 @@ module _ (at : ℕ) where
       (same_err t.at (fault.UnknownWord t.at) (fault.UnknownWord n) refl))))))
 
   pub counted_same : (a n count : ℕ) → SameAt a (counted a count) (counted n count)
-  counted_same a n count = same_if a (nat_lt count MAX_PROOF_NODES) _ _ _ _ (same_ok a tt) (same_err a (fault.TooManyNodes a) (fault.TooManyNodes n) refl)
+  counted_same a n count = same_if a (nat_lt count MAX_PROOF_NODES) _ _ _ _ (same_ok a tt)
+      (same_err a (fault.TooManyNodes a) (fault.TooManyNodes n) refl)
 
   -- ---- the header
 
   pub version_same : (t : Placed) (n : ℕ) → SameAt t.at (version_of t) (version_of (record { text = t.text; at = n }))
   version_same t n =
       same_if t.at (is_text (codes "1") t.text) _ _ _ _ (same_ok t.at 1)
-      (same_if t.at (is_text (codes "2") t.text) _ _ _ _ (same_ok t.at 2) (same_err t.at (fault.Expected word.One t.at) (fault.Expected word.One n) refl))
+      (same_if t.at (is_text (codes "2") t.text) _ _ _ _ (same_ok t.at 2)
+      (same_err t.at (fault.Expected word.One t.at) (fault.Expected word.One n) refl))
 
   bounded_same : (a n : ℕ) (r : Result ℕ NumberFault) → SameAt a (bounded a r) (bounded n r)
   bounded_same a n (Ok v) = refl
@@ -163,4 +183,5 @@ module _ (at : ℕ) where
 
   pub bound_same : (t : Placed) (n : ℕ) → SameAt t.at (bound_of t) (bound_of (record { text = t.text; at = n }))
   unfolding bound_of
-  bound_same t n = same_if t.at (is_text (codes "none") t.text) _ _ _ _ (same_ok t.at bound.Nothing) (bounded_same t.at n (number_of MAX_POINTS t.text))
+  bound_same t n = same_if t.at (is_text (codes "none") t.text) _ _ _ _ (same_ok t.at bound.Nothing)
+      (bounded_same t.at n (number_of MAX_POINTS t.text))

@@ -31,7 +31,8 @@ pub took_nothing : (s : Stream) → Took s [] s
 took_nothing s = record { begins = refl; stop = refl }
 
 -- a token that was read is the first one
-first_is : (ts : List Placed) (stop : Result ℕ FeedFault) (x : Placed × Stream) → first_of ts stop ≡ Ok x → (ts ≡ x.0 ∷ x.1.tokens) × (stop ≡ x.1.stop)
+first_is : (ts : List Placed) (stop : Result ℕ FeedFault) (x : Placed × Stream) → first_of ts stop ≡ Ok x → (ts ≡ x.0 ∷ x.1.tokens)
+    × (stop ≡ x.1.stop)
 first_is [] stop x e = absurd cc
 first_is (t ∷ ts) stop x e =
     let made = ok_is (t, record { tokens = ts; stop = stop }) x e in
@@ -60,7 +61,8 @@ pub record First (p : Piece) (ps : List Piece) (s after : Stream) : Type 0 where
   pub rest : Took mid ps after
 
 -- the first of some pieces, for a stream given by its parts
-first_in : (p : Piece) (ps : List Piece) (ts : List Placed) (stop : Result ℕ FeedFault) (after : Stream) → Took (record { tokens = ts; stop = stop }) (p ∷ ps) after → First p ps (record { tokens = ts; stop = stop }) after
+first_in : (p : Piece) (ps : List Piece) (ts : List Placed) (stop : Result ℕ FeedFault) (after : Stream)
+    → Took (record { tokens = ts; stop = stop }) (p ∷ ps) after → First p ps (record { tokens = ts; stop = stop }) after
 unfolding token_at
 first_in p ps [] stop after a = absurd a.begins
 first_in p ps (t ∷ ts) stop after a = record {
@@ -76,7 +78,8 @@ pub first_of_pieces : (p : Piece) (ps : List Piece) (s after : Stream) → Took 
 first_of_pieces p ps s after a = first_in p ps s.tokens s.stop after a
 
 -- tokens that begin with pieces and then more pieces
-begins_split : (ps qs : List Piece) (ts rest : List Placed) → Begins (ps ++ qs) ts rest → (mid : List Placed) × Begins ps ts mid × Begins qs mid rest
+begins_split : (ps qs : List Piece) (ts rest : List Placed) → Begins (ps ++ qs) ts rest → (mid : List Placed) × Begins ps ts mid
+    × Begins qs mid rest
 begins_split [] qs ts rest a = (ts, refl, a)
 begins_split (p ∷ ps) qs [] rest a = absurd a
 begins_split (p ∷ ps) qs (t ∷ ts) rest a = let b = begins_split ps qs ts rest a.1 in (b.0, (a.0, b.1), b.2)
@@ -98,7 +101,8 @@ took_same s after a = ap (λ ts. stream ts s.stop) a.begins ∙ ap (stream after
 -- -- values made of one token
 
 -- a token that was read is a piece
-pub one_took : {A : Type 0} (make : Placed → Result A TextFault) (piece : A → Piece) (P : A → Type 0) (s : Stream) (x : A × Stream) → ((t : Placed) (a : A) → make t ≡ Ok a → IsPiece (piece a) t.text × P a)
+pub one_took : {A : Type 0} (make : Placed → Result A TextFault) (piece : A → Piece) (P : A → Type 0) (s : Stream) (x : A × Stream)
+    → ((t : Placed) (a : A) → make t ≡ Ok a → IsPiece (piece a) t.text × P a)
     → one_at make s ≡ Ok x → Took s (piece x.0 ∷ []) x.1 × P x.0
 one_took make piece P s x law e =
     let t = bind_ok (token_at s) _ x e in
@@ -107,7 +111,8 @@ one_took make piece P s x law e =
     subst (λ y. Took s (piece y.0 ∷ []) y.1 × P y.0) (ok_is (a.0, t.0.1) x a.2) (took_piece s t.0 (piece a.0) t.1 h.0, h.1)
 
 -- a piece that is spelled is read
-pub one_reads : {A : Type 0} (make : Placed → Result A TextFault) (p : Piece) (a : A) (s after : Stream) → ((t : Placed) → IsPiece p t.text → make t ≡ Ok a) → Took s (p ∷ []) after
+pub one_reads : {A : Type 0} (make : Placed → Result A TextFault) (p : Piece) (a : A) (s after : Stream)
+    → ((t : Placed) → IsPiece p t.text → make t ≡ Ok a) → Took s (p ∷ []) after
     → one_at make s ≡ Ok (a, after)
 one_reads {A} make p a s after law took =
     let f = first_of_pieces p [] s after took in

@@ -30,7 +30,8 @@ use Rattle.tt_proof_read.proofs.Small.{AreSmall, IsWhoIn}
 use Rattle.tt_proof_read.proofs.Taking.{Took, first_of_pieces, took_piece, took_same, one_took, one_reads}
 
 -- the result of a choice, from its two branches
-pub choice : {A : Type 0} (P : A → Type 0) (b : Bool) (a x : A) (r : Result A TextFault) → (b ≡ true → P a) → (b ≡ false → r ≡ Ok x → P x) → cond b (Ok a) r ≡ Ok x → P x
+pub choice : {A : Type 0} (P : A → Type 0) (b : Bool) (a x : A) (r : Result A TextFault) → (b ≡ true → P a)
+    → (b ≡ false → r ≡ Ok x → P x) → cond b (Ok a) r ≡ Ok x → P x
 choice P true a x r one other e = subst P (ok_is a x e) (one refl)
 choice P false a x r one other e = other refl e
 
@@ -70,7 +71,8 @@ number_took at count digits n e =
     subst (λ (k : ℕ). SpellsNumber digits k × (k < count)) (ok_is m.0 n h.1) (s.0, omega (arith, leb-true _ _ h.0))
 
 -- a number below a count that is spelled is read
-pub number_reads : (at count : ℕ) (digits : List ℕ) (n : ℕ) → count ≤ 4294967295 → n < count → SpellsNumber digits n → numbered_below at count digits ≡ Ok n
+pub number_reads : (at count : ℕ) (digits : List ℕ) (n : ℕ) → count ≤ 4294967295 → n < count → SpellsNumber digits n
+    → numbered_below at count digits ≡ Ok n
 unfolding numbered_below
 number_reads at count digits n at_most less s =
     let small : nat_lt n count ≡ true = le-leb _ _ (omega arith) in
@@ -89,7 +91,8 @@ same_letter : (b : ℕ) → (b == b) ≡ true
 same_letter b = grind arith
 
 -- the piece of a letter and a number is read as that number
-in_reads : (at letter count : ℕ) (text : List ℕ) (n : ℕ) → count ≤ 4294967295 → n < count → IsPiece (Index letter n) text → index_in at letter count text ≡ Ok n
+in_reads : (at letter count : ℕ) (text : List ℕ) (n : ℕ) → count ≤ 4294967295 → n < count → IsPiece (Index letter n) text
+    → index_in at letter count text ≡ Ok n
 in_reads at letter count text n at_most less piece = rw (piece.1, same_letter letter) (number_reads at count piece.0 n at_most less piece.2)
 
 -- a token that was read as a letter and a number is its piece
@@ -98,29 +101,38 @@ unfolding index_of
 index_took letter count t n e = in_took t.at letter count t.text n e
 
 -- a token that is the piece of a letter and a number is read as that number
-pub index_reads : (letter count n : ℕ) (t : Placed) → count ≤ 4294967295 → n < count → IsPiece (Index letter n) t.text → index_of letter count t ≡ Ok n
+pub index_reads : (letter count n : ℕ) (t : Placed) → count ≤ 4294967295 → n < count → IsPiece (Index letter n) t.text
+    → index_of letter count t ≡ Ok n
 unfolding index_of
 index_reads letter count n t at_most less piece = in_reads t.at letter count t.text n at_most less piece
 
 -- a course that was read is spelled
-pub course_took : (sizes : Sizes) (s : Stream) (x : ℕ × Stream) → course_at sizes s ≡ Ok x → Took s (course_piece x.0 ∷ []) x.1 × (x.0 < sizes.courses)
+pub course_took : (sizes : Sizes) (s : Stream) (x : ℕ × Stream) → course_at sizes s ≡ Ok x → Took s (course_piece x.0 ∷ []) x.1
+    × (x.0 < sizes.courses)
 unfolding course_at
-course_took sizes s x e = one_took (index_of COURSE_LETTER sizes.courses) course_piece (λ c. c < sizes.courses) s x (index_took COURSE_LETTER sizes.courses) e
+course_took sizes s x e = one_took (index_of COURSE_LETTER sizes.courses) course_piece (λ c. c < sizes.courses) s x
+    (index_took COURSE_LETTER sizes.courses) e
 
 -- a course that is spelled is read
-pub course_reads : (sizes : Sizes) (c : ℕ) (s after : Stream) → sizes.courses ≤ 4294967295 → c < sizes.courses → Took s (course_piece c ∷ []) after → course_at sizes s ≡ Ok (c, after)
+pub course_reads : (sizes : Sizes) (c : ℕ) (s after : Stream) → sizes.courses ≤ 4294967295 → c < sizes.courses
+    → Took s (course_piece c ∷ []) after → course_at sizes s ≡ Ok (c, after)
 unfolding course_at
-course_reads sizes c s after at_most less took = one_reads (index_of COURSE_LETTER sizes.courses) (course_piece c) c s after (λ t piece. index_reads COURSE_LETTER sizes.courses c t at_most less piece) took
+course_reads sizes c s after at_most less took = one_reads (index_of COURSE_LETTER sizes.courses) (course_piece c) c s after
+    (λ t piece. index_reads COURSE_LETTER sizes.courses c t at_most less piece) took
 
 -- a curriculum that was read is spelled
-pub curriculum_took : (sizes : Sizes) (s : Stream) (x : ℕ × Stream) → curriculum_at sizes s ≡ Ok x → Took s (Index CURRICULUM_LETTER x.0 ∷ []) x.1 × (x.0 < sizes.curricula)
+pub curriculum_took : (sizes : Sizes) (s : Stream) (x : ℕ × Stream) → curriculum_at sizes s ≡ Ok x
+    → Took s (Index CURRICULUM_LETTER x.0 ∷ []) x.1 × (x.0 < sizes.curricula)
 unfolding curriculum_at
-curriculum_took sizes s x e = one_took (index_of CURRICULUM_LETTER sizes.curricula) (Index CURRICULUM_LETTER) (λ q. q < sizes.curricula) s x (index_took CURRICULUM_LETTER sizes.curricula) e
+curriculum_took sizes s x e = one_took (index_of CURRICULUM_LETTER sizes.curricula) (Index CURRICULUM_LETTER)
+    (λ q. q < sizes.curricula) s x (index_took CURRICULUM_LETTER sizes.curricula) e
 
 -- a curriculum that is spelled is read
-pub curriculum_reads : (sizes : Sizes) (q : ℕ) (s after : Stream) → sizes.curricula ≤ 4294967295 → q < sizes.curricula → Took s (Index CURRICULUM_LETTER q ∷ []) after → curriculum_at sizes s ≡ Ok (q, after)
+pub curriculum_reads : (sizes : Sizes) (q : ℕ) (s after : Stream) → sizes.curricula ≤ 4294967295 → q < sizes.curricula
+    → Took s (Index CURRICULUM_LETTER q ∷ []) after → curriculum_at sizes s ≡ Ok (q, after)
 unfolding curriculum_at
-curriculum_reads sizes q s after at_most less took = one_reads (index_of CURRICULUM_LETTER sizes.curricula) (Index CURRICULUM_LETTER q) q s after (λ t piece. index_reads CURRICULUM_LETTER sizes.curricula q t at_most less piece) took
+curriculum_reads sizes q s after at_most less took = one_reads (index_of CURRICULUM_LETTER sizes.curricula)
+    (Index CURRICULUM_LETTER q) q s after (λ t piece. index_reads CURRICULUM_LETTER sizes.curricula q t at_most less piece) took
 
 -- a number that was taken differs from those before it
 pub new_number_ok : (at : ℕ) (before : List ℕ) (n m : ℕ) → new_number at before n ≡ Ok m → (has_number before n ≡ false) × (n ≡ m)
@@ -136,37 +148,46 @@ priced_ok at (Err f) u e = absurd cc
 -- a price that was read is spelled
 pub price_took : (s : Stream) (x : ℕ × Stream) → price_at s ≡ Ok x → Took s (Number x.0 ∷ []) x.1 × (x.0 ≤ MAX_PRICE)
 unfolding price_at
-price_took s x e = one_took (λ t. priced_as t.at (number_of MAX_PRICE t.text)) Number (λ u. u ≤ MAX_PRICE) s x (λ t u h. number_spelled MAX_PRICE t.text u (priced_ok t.at _ u h)) e
+price_took s x e = one_took (λ t. priced_as t.at (number_of MAX_PRICE t.text)) Number (λ u. u ≤ MAX_PRICE) s x
+    (λ t u h. number_spelled MAX_PRICE t.text u (priced_ok t.at _ u h)) e
 
 -- a price that is spelled is read
 pub price_reads : (u : ℕ) (s after : Stream) → u ≤ MAX_PRICE → Took s (Number u ∷ []) after → price_at s ≡ Ok (u, after)
 unfolding price_at
-price_reads u s after within took = one_reads (λ t. priced_as t.at (number_of MAX_PRICE t.text)) (Number u) u s after (λ t piece. ap (priced_as t.at) (number_read MAX_PRICE t.text u piece within)) took
+price_reads u s after within took = one_reads (λ t. priced_as t.at (number_of MAX_PRICE t.text)) (Number u) u s after
+    (λ t piece. ap (priced_as t.at) (number_read MAX_PRICE t.text u piece within)) took
 
 -- ---- patterns
 
 -- bytes that were read as a course or a curriculum are its piece
-who_took_in : (at : ℕ) (sizes : Sizes) (text : List ℕ) (w : Who) → who_in at sizes text ≡ Ok w → IsPiece (who_piece w) text × IsWhoIn sizes w
+who_took_in : (at : ℕ) (sizes : Sizes) (text : List ℕ) (w : Who) → who_in at sizes text ≡ Ok w → IsPiece (who_piece w) text
+    × IsWhoIn sizes w
 who_took_in at sizes [] w e = absurd cc
 who_took_in at sizes (b ∷ bs) w e = by_letter (b == COURSE_LETTER) (b == CURRICULUM_LETTER) refl refl e
   where
     by_letter : (x y : Bool) → (b == COURSE_LETTER) ≡ x → (b == CURRICULUM_LETTER) ≡ y
-        → cond x (numbered_below at sizes.courses bs >>= λ n. Ok (Course n)) (cond y (numbered_below at sizes.curricula bs >>= λ n. Ok (Curriculum n)) (Err (fault.UnknownWord at))) ≡ Ok w
+        → cond x (numbered_below at sizes.courses bs >>= λ n. Ok (Course n))
+        (cond y (numbered_below at sizes.curricula bs >>= λ n. Ok (Curriculum n)) (Err (fault.UnknownWord at))) ≡ Ok w
         → IsPiece (who_piece w) (b ∷ bs) × IsWhoIn sizes w
     by_letter true y x_is y_is h =
         let n = bind_ok (numbered_below at sizes.courses bs) (λ n. Ok (Course n)) w h in
         let s = number_took at sizes.courses bs n.0 n.1 in
-        subst (λ v. IsPiece (who_piece v) (b ∷ bs) × IsWhoIn sizes v) (ok_is (Course n.0) w n.2) ((bs, ap (λ (k : ℕ). k ∷ bs) (eqb-true b 99 x_is), s.0), s.1)
+        subst (λ v. IsPiece (who_piece v) (b ∷ bs) × IsWhoIn sizes v) (ok_is (Course n.0) w n.2)
+        ((bs, ap (λ (k : ℕ). k ∷ bs) (eqb-true b 99 x_is), s.0), s.1)
     by_letter false true x_is y_is h =
         let n = bind_ok (numbered_below at sizes.curricula bs) (λ n. Ok (Curriculum n)) w h in
         let s = number_took at sizes.curricula bs n.0 n.1 in
-        subst (λ v. IsPiece (who_piece v) (b ∷ bs) × IsWhoIn sizes v) (ok_is (Curriculum n.0) w n.2) ((bs, ap (λ (k : ℕ). k ∷ bs) (eqb-true b 113 y_is), s.0), s.1)
+        subst (λ v. IsPiece (who_piece v) (b ∷ bs) × IsWhoIn sizes v) (ok_is (Curriculum n.0) w n.2)
+        ((bs, ap (λ (k : ℕ). k ∷ bs) (eqb-true b 113 y_is), s.0), s.1)
     by_letter false false x_is y_is h = absurd cc
 
 -- the piece of a course or a curriculum is read as that course or curriculum
-who_reads_in : (at : ℕ) (sizes : Sizes) (w : Who) (text : List ℕ) → AreSmall sizes → IsWhoIn sizes w → IsPiece (who_piece w) text → who_in at sizes text ≡ Ok w
-who_reads_in at sizes (Course n) text small less piece = rw (piece.1, number_reads at sizes.courses piece.0 n small.courses less piece.2) refl
-who_reads_in at sizes (Curriculum n) text small less piece = rw (piece.1, number_reads at sizes.curricula piece.0 n small.curricula less piece.2) refl
+who_reads_in : (at : ℕ) (sizes : Sizes) (w : Who) (text : List ℕ) → AreSmall sizes → IsWhoIn sizes w → IsPiece (who_piece w) text
+    → who_in at sizes text ≡ Ok w
+who_reads_in at sizes (Course n) text small less piece =
+    rw (piece.1, number_reads at sizes.courses piece.0 n small.courses less piece.2) refl
+who_reads_in at sizes (Curriculum n) text small less piece =
+    rw (piece.1, number_reads at sizes.curricula piece.0 n small.curricula less piece.2) refl
 
 -- a course or a curriculum that was read is spelled
 pub who_took : (sizes : Sizes) (s : Stream) (x : Who × Stream) → who_at sizes s ≡ Ok x → Took s (who_piece x.0 ∷ []) x.1 × IsWhoIn sizes x.0
@@ -174,17 +195,22 @@ unfolding who_at
 who_took sizes s x e = one_took (λ t. who_in t.at sizes t.text) who_piece (IsWhoIn sizes) s x (λ t w h. who_took_in t.at sizes t.text w h) e
 
 -- a course or a curriculum that is spelled is read
-pub who_reads : (sizes : Sizes) (w : Who) (s after : Stream) → AreSmall sizes → IsWhoIn sizes w → Took s (who_piece w ∷ []) after → who_at sizes s ≡ Ok (w, after)
+pub who_reads : (sizes : Sizes) (w : Who) (s after : Stream) → AreSmall sizes → IsWhoIn sizes w → Took s (who_piece w ∷ []) after
+    → who_at sizes s ≡ Ok (w, after)
 unfolding who_at
-who_reads sizes w s after small less took = one_reads (λ t. who_in t.at sizes t.text) (who_piece w) w s after (λ t piece. who_reads_in t.at sizes w t.text small less piece) took
+who_reads sizes w s after small less took = one_reads (λ t. who_in t.at sizes t.text) (who_piece w) w s after
+    (λ t piece. who_reads_in t.at sizes w t.text small less piece) took
 
 -- a token that was read as a given number or `*` is its piece
-given_took_of : (letter count : ℕ) (t : Placed) (o : Option ℕ) → given_of letter count t ≡ Ok o → IsPiece (given_piece letter o) t.text × IfSome o (λ n. n < count)
+given_took_of : (letter count : ℕ) (t : Placed) (o : Option ℕ) → given_of letter count t ≡ Ok o → IsPiece (given_piece letter o) t.text
+    × IfSome o (λ n. n < count)
 unfolding given_of
 given_took_of letter count t o e =
-    choice (λ v. IsPiece (given_piece letter v) t.text × IfSome v (λ k. k < count)) (is_text (codes "*") t.text) None o (index_of letter count t >>= λ n. Ok (Some n)) (λ star. (text_is t.text (codes "*") star, tt)) (λ other h.
+    choice (λ v. IsPiece (given_piece letter v) t.text × IfSome v (λ k. k < count)) (is_text (codes "*") t.text) None o
+    (index_of letter count t >>= λ n. Ok (Some n)) (λ star. (text_is t.text (codes "*") star, tt)) (λ other h.
     let n = bind_ok (index_of letter count t) (λ n. Ok (Some n)) o h in
-    subst (λ v. IsPiece (given_piece letter v) t.text × IfSome v (λ k. k < count)) (ok_is (Some n.0) o n.2) (index_took letter count t n.0 n.1)) e
+    subst (λ v. IsPiece (given_piece letter v) t.text × IfSome v (λ k. k < count)) (ok_is (Some n.0) o n.2)
+    (index_took letter count t n.0 n.1)) e
 
 -- a letter with a number after it is not a single byte
 pub not_single : (byte letter n : ℕ) (text : List ℕ) → IsPiece (Index letter n) text → is_text (byte ∷ []) text ≡ false
@@ -195,20 +221,26 @@ not_single byte letter n text piece = false_from_ne_true (is_text (byte ∷ []) 
     cc)
 
 -- the piece of a given number or `*` is read as that number or `*`
-given_reads_of : (letter count : ℕ) (o : Option ℕ) (t : Placed) → count ≤ 4294967295 → IfSome o (λ n. n < count) → IsPiece (given_piece letter o) t.text → given_of letter count t ≡ Ok o
+given_reads_of : (letter count : ℕ) (o : Option ℕ) (t : Placed) → count ≤ 4294967295 → IfSome o (λ n. n < count)
+    → IsPiece (given_piece letter o) t.text → given_of letter count t ≡ Ok o
 unfolding given_of
 given_reads_of letter count None t at_most less piece = rw (is_text_of t.text (codes "*") piece) refl
-given_reads_of letter count (Some n) t at_most less piece = rw (not_single 42 letter n t.text piece, index_reads letter count n t at_most less piece) refl
+given_reads_of letter count (Some n) t at_most less piece =
+    rw (not_single 42 letter n t.text piece, index_reads letter count n t at_most less piece) refl
 
 -- a given number or `*` that was read is spelled
-pub given_took : (letter count : ℕ) (s : Stream) (x : Option ℕ × Stream) → given_at letter count s ≡ Ok x → Took s (given_piece letter x.0 ∷ []) x.1 × IfSome x.0 (λ n. n < count)
+pub given_took : (letter count : ℕ) (s : Stream) (x : Option ℕ × Stream) → given_at letter count s ≡ Ok x
+    → Took s (given_piece letter x.0 ∷ []) x.1 × IfSome x.0 (λ n. n < count)
 unfolding given_at
-given_took letter count s x e = one_took (given_of letter count) (given_piece letter) (λ o. IfSome o (λ n. n < count)) s x (given_took_of letter count) e
+given_took letter count s x e = one_took (given_of letter count) (given_piece letter) (λ o. IfSome o (λ n. n < count)) s x
+    (given_took_of letter count) e
 
 -- a given number or `*` that is spelled is read
-pub given_reads : (letter count : ℕ) (o : Option ℕ) (s after : Stream) → count ≤ 4294967295 → IfSome o (λ n. n < count) → Took s (given_piece letter o ∷ []) after → given_at letter count s ≡ Ok (o, after)
+pub given_reads : (letter count : ℕ) (o : Option ℕ) (s after : Stream) → count ≤ 4294967295 → IfSome o (λ n. n < count)
+    → Took s (given_piece letter o ∷ []) after → given_at letter count s ≡ Ok (o, after)
 unfolding given_at
-given_reads letter count o s after at_most less took = one_reads (given_of letter count) (given_piece letter o) o s after (λ t piece. given_reads_of letter count o t at_most less piece) took
+given_reads letter count o s after at_most less took = one_reads (given_of letter count) (given_piece letter o) o s after
+    (λ t piece. given_reads_of letter count o t at_most less piece) took
 
 -- ---- the version
 
@@ -216,8 +248,10 @@ given_reads letter count o s after at_most less took = one_reads (given_of lette
 version_is : (t : Placed) (v : ℕ) → version_of t ≡ Ok v → (t.text ≡ version_text v) × ((1 ≤ v) × (v ≤ 2))
 version_is t v e =
     let P : ℕ → Type 0 = λ n. (t.text ≡ version_text n) × ((1 ≤ n) × (n ≤ 2)) in
-    choice P (is_text (codes "1") t.text) 1 v (cond (is_text (codes "2") t.text) (Ok 2) (Err (fault.Expected word.One t.at))) (λ h. (text_is t.text (codes "1") h, (lit≤ tt, lit≤ tt))) (λ _ r.
-    choice P (is_text (codes "2") t.text) 2 v (Err (fault.Expected word.One t.at)) (λ h. (text_is t.text (codes "2") h, (lit≤ tt, lit≤ tt))) (λ _ x. absurd cc) r) e
+    choice P (is_text (codes "1") t.text) 1 v (cond (is_text (codes "2") t.text) (Ok 2) (Err (fault.Expected word.One t.at)))
+    (λ h. (text_is t.text (codes "1") h, (lit≤ tt, lit≤ tt))) (λ _ r.
+    choice P (is_text (codes "2") t.text) 2 v (Err (fault.Expected word.One t.at))
+    (λ h. (text_is t.text (codes "2") h, (lit≤ tt, lit≤ tt))) (λ _ x. absurd cc) r) e
 
 -- the text of a version is read as that version
 is_version : (v : ℕ) (t : Placed) → 1 ≤ v → v ≤ 2 → t.text ≡ version_text v → version_of t ≡ Ok v
@@ -234,7 +268,8 @@ version_took s x e = one_took version_of (λ v. Text (version_text v)) (λ v. (1
 -- a version that is spelled is read
 pub version_reads : (v : ℕ) (s after : Stream) → 1 ≤ v → v ≤ 2 → Took s (Text (version_text v) ∷ []) after → version_at s ≡ Ok (v, after)
 unfolding version_at
-version_reads v s after low high took = one_reads version_of (Text (version_text v)) v s after (λ t piece. is_version v t low high piece) took
+version_reads v s after low high took = one_reads version_of (Text (version_text v)) v s after
+    (λ t piece. is_version v t low high piece) took
 
 -- ---- the bound
 
@@ -247,14 +282,16 @@ bounded_ok at (Err f) b e = absurd cc
 bound_is : (t : Placed) (b : Bound) → bound_of t ≡ Ok b → IsPiece (bound_piece b) t.text × IsBound b
 unfolding bound_of
 bound_is t b e =
-    choice (λ c. IsPiece (bound_piece c) t.text × IsBound c) (is_text (codes "none") t.text) Nothing b (bounded t.at (number_of MAX_POINTS t.text)) (λ h. (text_is t.text (codes "none") h, tt)) (λ _ r.
+    choice (λ c. IsPiece (bound_piece c) t.text × IsBound c) (is_text (codes "none") t.text) Nothing b
+    (bounded t.at (number_of MAX_POINTS t.text)) (λ h. (text_is t.text (codes "none") h, tt)) (λ _ r.
     let n = bounded_ok t.at _ b r in
     subst (λ (c : Bound). IsPiece (bound_piece c) t.text × IsBound c) n.2 (number_spelled MAX_POINTS t.text n.0 n.1)) e
 
 -- digits are different from `none`
 not_none : (text : List ℕ) → is_number_text text ≡ true → is_text (codes "none") text ≡ false
 not_none text digits = false_from_ne_true (is_text (codes "none") text) (λ e.
-    let none : is_number_text (codes "none") ≡ true = subst (λ (t : List ℕ). is_number_text t ≡ true) (text_is text (codes "none") e) digits in
+    let none : is_number_text (codes "none") ≡ true = subst (λ (t : List ℕ). is_number_text t ≡ true)
+    (text_is text (codes "none") e) digits in
     cc)
 
 -- the piece of a bound is read as that bound

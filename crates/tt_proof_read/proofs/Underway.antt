@@ -8,14 +8,17 @@ use Rattle.tt_proof_read.specs.Faults.{is_environmental, is_failed_read}
 use Rattle.tt_proof_read.specs.declared.fault.TextFault.{TextFault}
 use Rattle.tt_proof_read.proofs.Loops.{TakesTokens, IsLeft, left_then, left_end, left_fails}
 
-module _ {S X : Type 0} (add : S → X → S) (part : S → Stream → Result (Option X × Stream) TextFault) (whole : Stream → Result (S × Stream) TextFault) where
+module _ {S X : Type 0} (add : S → X → S) (part : S → Stream → Result (Option X × Stream) TextFault)
+    (whole : Stream → Result (S × Stream) TextFault) where
   -- parts were read from the old state to this one, and reading those that are left completes the whole
   pub record IsUnderway (old now : State) (kept : S) : Type 0 where
     pub known : StaysKnown old.remaining now.remaining
     pub failed : old.fed.fault ≡ None → (now.fed.fault ≡ None) × (now.failed ≡ old.failed)
-    pub left : is_some old.remaining ≡ true → IsLeft add part kept (stream_at now.fed now.remaining) (whole (stream_at old.fed old.remaining))
+    pub left : is_some old.remaining ≡ true → IsLeft add part kept (stream_at now.fed now.remaining)
+        (whole (stream_at old.fed old.remaining))
     pub cut_short : is_some old.remaining ≡ true → (rest : List ℕ) → MayFail rest now.fed now.remaining
-        → MayFail rest old.fed old.remaining × IsLeft add part kept (cut_at rest now.fed now.remaining) (whole (cut_at rest old.fed old.remaining))
+        → MayFail rest old.fed old.remaining × IsLeft add part kept (cut_at rest now.fed now.remaining)
+        (whole (cut_at rest old.fed old.remaining))
 
   -- the contract of reading one part
   abbrev pub ReadsPart : State → State → Result (Option X) TextFault → S → Type 0
@@ -31,7 +34,8 @@ module _ {S X : Type 0} (add : S → X → S) (part : S → Stream → Result (O
   }
 
   -- a part was read
-  pub underway_then : TakesTokens add part → (old now next : State) (kept : S) (o : Option X) (x : X) → o ≡ Some x → IsUnderway old now kept → ReadsPart now next (Ok o) kept → IsUnderway old next (add kept x)
+  pub underway_then : TakesTokens add part → (old now next : State) (kept : S) (o : Option X) (x : X) → o ≡ Some x
+      → IsUnderway old now kept → ReadsPart now next (Ok o) kept → IsUnderway old next (add kept x)
   underway_then takes old now next kept o x some before read = record {
     known = λ k. read.known (before.known k);
     failed = λ sound. let was = before.failed sound in let is = read.failed was.0 in (is.0, is.1 ∙ was.1);
@@ -43,7 +47,8 @@ module _ {S X : Type 0} (add : S → X → S) (part : S → Stream → Result (O
   }
 
   -- the end was read
-  pub underway_end : {V : Type 0} (view : V → S) (v : V) (old now next : State) (kept : S) (o : Option X) → view v ≡ kept → o ≡ None → IsUnderway old now kept → ReadsPart now next (Ok o) kept
+  pub underway_end : {V : Type 0} (view : V → S) (v : V) (old now next : State) (kept : S) (o : Option X) → view v ≡ kept → o ≡ None
+      → IsUnderway old now kept → ReadsPart now next (Ok o) kept
       → IsReading old next (λ w s. (view w, s)) (Ok v) whole
   underway_end view v old now next kept o is none before read = record {
     known = λ k. read.known (before.known k);
@@ -56,7 +61,8 @@ module _ {S X : Type 0} (add : S → X → S) (part : S → Stream → Result (O
   }
 
   -- a part is refused
-  pub underway_fails : {V : Type 0} (view : V → S) (f : TextFault) (old now next : State) (kept : S) → IsUnderway old now kept → ReadsPart now next (Err f) kept → IsReading old next (λ w s. (view w, s)) (Err f) whole
+  pub underway_fails : {V : Type 0} (view : V → S) (f : TextFault) (old now next : State) (kept : S) → IsUnderway old now kept
+      → ReadsPart now next (Err f) kept → IsReading old next (λ w s. (view w, s)) (Err f) whole
   underway_fails view f old now next kept before read = record {
     known = λ k. read.known (before.known k);
     failed = λ sound. let was = before.failed sound in read.failed was.0 ∙ ap (λ b. if is_failed_read f then true else b) was.1;

@@ -25,14 +25,16 @@ record Begins (places : ℕ) (nodes : List Node) : Type 0 where
 first_tree : (n : ℕ) (nodes : List Node) (places : ℕ) → length nodes ≤ n → open_after (suc places) nodes ≡ Some 0 → Begins places nodes
 first_tree n [] places h e = cc
 first_tree zero (x ∷ xs) places h e = absurd (omega arith)
-first_tree (suc n) (Leaf leaf ∷ nodes) places h e = record { tree = Tip leaf; more = nodes; split = refl; others = e; shorter = omega arith }
+first_tree (suc n) (Leaf leaf ∷ nodes) places h e =
+    record { tree = Tip leaf; more = nodes; split = refl; others = e; shorter = omega arith }
 first_tree (suc n) (Split g ∷ nodes) places h e =
     let a = first_tree n nodes (suc places) (le_of_suc-le-suc h) e in
     let b = first_tree n a.more places (omega (arith, a.shorter)) a.others in
     record {
       tree = Fork g a.tree b.tree;
       more = b.more;
-      split = ap (λ l. Split g ∷ l) (append_assoc (preorder a.tree) (preorder b.tree) b.more ∙ ap (λ l. preorder a.tree ++ l) b.split ∙ a.split);
+      split = ap (λ l. Split g ∷ l) (append_assoc (preorder a.tree) (preorder b.tree) b.more ∙ ap (λ l. preorder a.tree ++ l) b.split
+          ∙ a.split);
       others = b.others;
       shorter = omega (arith, a.shorter, b.shorter);
     }
@@ -75,13 +77,17 @@ some_is : (a b : ℕ) → Some a ≡ Some b → a ≡ b
 some_is a b e = cc
 
 -- if no place is open but a node is left, the nodes are not one tree
-pub open_over : (nodes : List Node) (i : ℕ) (node : Node) → i < length nodes → open_after 1 nodes ≡ open_after 0 (drop i nodes) → ¬ IsPreorder nodes
+pub open_over : (nodes : List Node) (i : ℕ) (node : Node) → i < length nodes → open_after 1 nodes ≡ open_after 0 (drop i nodes)
+    → ¬ IsPreorder nodes
 open_over nodes i node below so_far whole =
     let none : open_after 0 (drop i nodes) ≡ None = at_drop_more (open_after 0) nodes i node below in
     none_is_not 0 (sym (so_far ∙ none) ∙ preorder_fills nodes whole)
 
 -- at the end, no place is open exactly if the nodes are one tree
-pub open_reported : (nodes : List Node) (i places : ℕ) → length nodes ≤ i → open_after 1 nodes ≡ open_after places (drop i nodes) → IsTrue (places == 0) ↔ IsPreorder nodes
+pub open_reported : (nodes : List Node) (i places : ℕ) → length nodes ≤ i → open_after 1 nodes ≡ open_after places (drop i nodes)
+    → IsTrue (places == 0) ↔ IsPreorder nodes
 open_reported nodes i places past so_far =
-    let left : open_after 1 nodes ≡ Some places = so_far ∙ at_drop_all (open_after places) nodes i past in
-    (λ t. filled_tree nodes (left ∙ ap Some (eqb-true places 0 t)), λ whole. eq-eqb places 0 (some_is places 0 (sym left ∙ preorder_fills nodes whole)))
+    let left : open_after 1 nodes ≡ Some places = so_far ∙ at_drop_all (open_after places) nodes i past in (
+      λ t. filled_tree nodes (left ∙ ap Some (eqb-true places 0 t)),
+      λ whole. eq-eqb places 0 (some_is places 0 (sym left ∙ preorder_fills nodes whole)),
+    )

@@ -63,15 +63,19 @@ all_points-push parts part = let e = sum_by-append (λ (k : Part). points (bound
 -- ---- parts that are apart
 
 -- a target that a node claims is claimed by its tree
-claimed_in_tree : (tree : Tree) (before : List Node) (node : Node) (more : List Node) (y : Target) → preorder tree ≡ before ++ node ∷ more → is_among (claims_at node) y ≡ true → is_among (claimed_by tree) y ≡ true
+claimed_in_tree : (tree : Tree) (before : List Node) (node : Node) (more : List Node) (y : Target)
+    → preorder tree ≡ before ++ node ∷ more → is_among (claims_at node) y ≡ true → is_among (claimed_by tree) y ≡ true
 claimed_in_tree tree before node more y e h =
     let among : Node → Bool = λ n. is_among (claims_at n) y in
-    ap (λ ys. is_among ys y) (sym (tree_claims tree)) ∙ ap (λ ns. is_among (flat_map claims_at ns) y) e ∙ list_any-of_flat_map (same_target y) claims_at (before ++ node ∷ more)
-    ∙ list_any-append among before (node ∷ more) ∙ or_right (list_any among before) (among node || list_any among more) (or_left (among node) (list_any among more) h)
+    ap (λ ys. is_among ys y) (sym (tree_claims tree)) ∙ ap (λ ns. is_among (flat_map claims_at ns) y) e
+    ∙ list_any-of_flat_map (same_target y) claims_at (before ++ node ∷ more)
+    ∙ list_any-append among before (node ∷ more) ∙ or_right (list_any among before) (among node || list_any among more)
+    (or_left (among node) (list_any among more) h)
 
 -- -- the sum after adding
 
-pub adds : (p : Problem) (remaining : Option (List ℕ)) (s : Sum) (parts : List Part) (a : State) (b total : Bound) → IsSumOf s parts → Joins p remaining parts a b → total ≡ both_bounds s.total b → Adds p remaining parts (record { table = a; total = total })
+pub adds : (p : Problem) (remaining : Option (List ℕ)) (s : Sum) (parts : List Part) (a : State) (b total : Bound) → IsSumOf s parts
+    → Joins p remaining parts a b → total ≡ both_bounds s.total b → Adds p remaining parts (record { table = a; total = total })
 adds p remaining s parts a b total of j e = (
   j.part,
   j.is,
@@ -83,11 +87,18 @@ adds p remaining s parts a b total of j e = (
 )
 
 -- if the bytes are known, they spell the part
-pub spelled_part : (p : Problem) (remaining : Option (List ℕ)) (bytes : List ℕ) (k : Part) → remaining ≡ Some bytes → IsPartOf p remaining k → IsPart p bytes k
+pub spelled_part : (p : Problem) (remaining : Option (List ℕ)) (bytes : List ℕ) (k : Part) → remaining ≡ Some bytes
+    → IsPartOf p remaining k → IsPart p bytes k
 spelled_part p remaining bytes (TreeProof k) known is = record { spelled = is.spelled bytes known; derives = is.derives }
-spelled_part p remaining bytes (GroupsFile k) known is = record { kind = is.kind bytes known; spelled = is.spelled bytes known; right = is.right }
+spelled_part p remaining bytes (GroupsFile k) known is = record {
+  kind = is.kind bytes known;
+  spelled = is.spelled bytes known;
+  right = is.right;
+}
 
-pub too_large : (p : Problem) (remaining : Option (List ℕ)) (s : Sum) (parts : List Part) (a : State) (b : Bound) → IsSumOf s parts → Joins p remaining parts a b → 2 ^ 64 ≤ points s.total + points b → (bytes : List ℕ) → remaining ≡ Some bytes → IsTooLarge p parts bytes
+pub too_large : (p : Problem) (remaining : Option (List ℕ)) (s : Sum) (parts : List Part) (a : State) (b : Bound) → IsSumOf s parts
+    → Joins p remaining parts a b → 2 ^ 64 ≤ points s.total + points b → (bytes : List ℕ) → remaining ≡ Some bytes
+    → IsTooLarge p parts bytes
 too_large p remaining s parts a b of j large bytes known =
     let total : points s.total ≡ points (sum_of parts) = ap points of.total in
     let bound : points (bound_of j.part) ≡ points b = ap points j.bound in
@@ -96,23 +107,31 @@ too_large p remaining s parts a b of j large bytes known =
 -- ---- faults
 
 -- if a tree claims a target that one of the parts claims, the two are not apart
-tree_meets : (p : Problem) → IsInstance p → (parts : List Part) (bytes : List ℕ) (k : TreePart) (i e : ℕ) → IsTreePart p bytes k → AreApart (parts ++ TreeProof k ∷ []) → IsClaimedElsewhere p parts bytes i e → ⊥
+tree_meets : (p : Problem) → IsInstance p → (parts : List Part) (bytes : List ℕ) (k : TreePart) (i e : ℕ) → IsTreePart p bytes k
+    → AreApart (parts ++ TreeProof k ∷ []) → IsClaimedElsewhere p parts bytes i e → ⊥
 tree_meets p is parts bytes k i e spelled apart reported =
-    let same = (spelled_once p is bytes reported.part.version k.version reported.part.bound k.bound reported.part.tree k.tree reported.is.spelled spelled.spelled).1 in
-    let x = all_at (λ x. are_apart (claims_of x) (claimed_by k.tree)) (λ x. is_among (claims_of x) reported.target ≡ true) parts (e - 1) (each_two-last (λ x y. are_apart (claims_of x) (claims_of y)) parts (TreeProof k) apart) reported.earlier in
+    let same = (spelled_once p is bytes reported.part.version k.version reported.part.bound k.bound reported.part.tree k.tree
+    reported.is.spelled spelled.spelled).1 in
+    let x = all_at (λ x. are_apart (claims_of x) (claimed_by k.tree)) (λ x. is_among (claims_of x) reported.target ≡ true) parts (e - 1)
+    (each_two-last (λ x y. are_apart (claims_of x) (claims_of y)) parts (TreeProof k) apart) reported.earlier in
     not_both (claims_of x.0) (claimed_by k.tree) x.1 reported.target x.2
-    (subst (λ (t : Tree). is_among (claimed_by t) reported.target ≡ true) same (claimed_in_tree reported.part.tree reported.before reported.node reported.more reported.target reported.nodes reported.here))
+    (subst (λ (t : Tree). is_among (claimed_by t) reported.target ≡ true) same
+    (claimed_in_tree reported.part.tree reported.before reported.node reported.more reported.target reported.nodes reported.here))
 
 -- a fault of a tree proof that can be added is silent
-tree_silent : (p : Problem) → IsInstance p → (parts : List Part) (bytes : List ℕ) (k : TreePart) → IsTreePart p bytes k → AreApart (parts ++ TreeProof k ∷ []) → all_points (parts ++ TreeProof k ∷ []) < 2 ^ 64 → (e : SumFault) → OutOfMemoryIsOneFault e → ExplainsAdded p parts bytes e
+tree_silent : (p : Problem) → IsInstance p → (parts : List Part) (bytes : List ℕ) (k : TreePart) → IsTreePart p bytes k
+    → AreApart (parts ++ TreeProof k ∷ []) → all_points (parts ++ TreeProof k ∷ []) < 2 ^ 64 → (e : SumFault) → OutOfMemoryIsOneFault e
+    → ExplainsAdded p parts bytes e
     → IsSilentSum e
 tree_silent p is parts bytes k spelled apart within (Proof n f) memory reported =
     elim (proved_silent p is bytes k.bound (k.version, k.tree, spelled.spelled, spelled.derives) f reported.fault) [
       | inl e ↦ absurd (memory.0 e)
       | inr e ↦ e
     ]
-tree_silent p is parts bytes k spelled apart within (Groups n f) memory reported = absurd (both_ways (is_groups bytes) (proofs_are_trees p bytes k spelled.spelled) reported.kind)
-tree_silent p is parts bytes k spelled apart within (ClaimedElsewhere n i e) memory reported = tree_meets p is parts bytes k i e spelled apart reported
+tree_silent p is parts bytes k spelled apart within (Groups n f) memory reported =
+    absurd (both_ways (is_groups bytes) (proofs_are_trees p bytes k spelled.spelled) reported.kind)
+tree_silent p is parts bytes k spelled apart within (ClaimedElsewhere n i e) memory reported =
+    tree_meets p is parts bytes k i e spelled apart reported
 tree_silent p is parts bytes k spelled apart within (TooLarge n) memory reported =
     let same : reported.0 ≡ TreeProof k = same_part p is bytes reported.0 (TreeProof k) reported.1 spelled in
     let points_same : points (bound_of reported.0) ≡ points k.bound = ap (λ (x : Part). points (bound_of x)) same in
@@ -120,18 +139,26 @@ tree_silent p is parts bytes k spelled apart within (TooLarge n) memory reported
 tree_silent p is parts bytes k spelled apart within OutOfMemory memory reported = tt
 
 -- a fault of a file of groups that can be added is silent
-groups_silent : (p : Problem) → IsInstance p → (parts : List Part) (bytes : List ℕ) (k : GroupsPart) → IsGroupsPart p bytes k → AreApart (parts ++ GroupsFile k ∷ []) → all_points (parts ++ GroupsFile k ∷ []) < 2 ^ 64 → (e : SumFault) → OutOfMemoryIsOneFault e → ExplainsAdded p parts bytes e
+groups_silent : (p : Problem) → IsInstance p → (parts : List Part) (bytes : List ℕ) (k : GroupsPart) → IsGroupsPart p bytes k
+    → AreApart (parts ++ GroupsFile k ∷ []) → all_points (parts ++ GroupsFile k ∷ []) < 2 ^ 64 → (e : SumFault)
+    → OutOfMemoryIsOneFault e → ExplainsAdded p parts bytes e
     → IsSilentSum e
 groups_silent p is parts bytes k spelled apart within (Proof n f) memory reported = read_or_tree p bytes k f spelled reported
-groups_silent p is parts bytes k spelled apart within (Groups n f) memory reported = left_open p is parts bytes k spelled (each_two-last (λ x y. are_apart (claims_of x) (claims_of y)) parts (GroupsFile k) apart) f reported.fault
-groups_silent p is parts bytes k spelled apart within (ClaimedElsewhere n i e) memory reported = both_ways (is_groups bytes) (proofs_are_trees p bytes reported.part reported.is.spelled) spelled.kind
+groups_silent p is parts bytes k spelled apart within (Groups n f) memory reported = left_open p is parts bytes k spelled
+    (each_two-last (λ x y. are_apart (claims_of x) (claims_of y)) parts (GroupsFile k) apart) f reported.fault
+groups_silent p is parts bytes k spelled apart within (ClaimedElsewhere n i e) memory reported =
+    both_ways (is_groups bytes) (proofs_are_trees p bytes reported.part reported.is.spelled) spelled.kind
 groups_silent p is parts bytes k spelled apart within (TooLarge n) memory reported =
     let same : reported.0 ≡ GroupsFile k = same_part p is bytes reported.0 (GroupsFile k) reported.1 spelled in
     let points_same : points (bound_of reported.0) ≡ k.bound = ap (λ (x : Part). points (bound_of x)) same in
     absurd (omega (arith, reported.2, points_same, within, all_points-push parts (GroupsFile k)))
 groups_silent p is parts bytes k spelled apart within OutOfMemory memory reported = tt
 
-pub tells_silent : (p : Problem) → IsInstance p → (parts : List Part) (bytes : List ℕ) (part : Part) → IsPart p bytes part → AreApart (parts ++ part ∷ []) → all_points (parts ++ part ∷ []) < 2 ^ 64 → (e : SumFault) → OutOfMemoryIsOneFault e → ExplainsAdded p parts bytes e
+pub tells_silent : (p : Problem) → IsInstance p → (parts : List Part) (bytes : List ℕ) (part : Part) → IsPart p bytes part
+    → AreApart (parts ++ part ∷ []) → all_points (parts ++ part ∷ []) < 2 ^ 64 → (e : SumFault) → OutOfMemoryIsOneFault e
+    → ExplainsAdded p parts bytes e
     → IsSilentSum e
-tells_silent p is parts bytes (TreeProof k) spelled apart within e memory reported = tree_silent p is parts bytes k spelled apart within e memory reported
-tells_silent p is parts bytes (GroupsFile k) spelled apart within e memory reported = groups_silent p is parts bytes k spelled apart within e memory reported
+tells_silent p is parts bytes (TreeProof k) spelled apart within e memory reported =
+    tree_silent p is parts bytes k spelled apart within e memory reported
+tells_silent p is parts bytes (GroupsFile k) spelled apart within e memory reported =
+    groups_silent p is parts bytes k spelled apart within e memory reported

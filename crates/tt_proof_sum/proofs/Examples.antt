@@ -66,7 +66,8 @@ groups_claim = refl
 groups_are_apart : AreClaimsApart two_groups
 groups_are_apart = refl
 
-one_group_twice : each_two (λ a b. are_apart (group_targets a.group) (group_targets b.group)) (group 4 (0 ∷ []) [] ∷ group 2 (0 ∷ []) (1 ∷ []) ∷ []) ≡ false
+one_group_twice : each_two (λ a b. are_apart (group_targets a.group) (group_targets b.group))
+    (group 4 (0 ∷ []) [] ∷ group 2 (0 ∷ []) (1 ∷ []) ∷ []) ≡ false
 one_group_twice = refl
 
 -- a tree and groups with different targets

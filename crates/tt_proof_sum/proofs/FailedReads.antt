@@ -41,29 +41,36 @@ reported_text_read n f = on (is_failed_read f) (is_environmental f)
     on false false = refl
 
 -- whether a read has failed, after such a fault
-pub proof_reads : (result : SumFault) (file n : ℕ) (f : CheckFault) (before after : Bool) → result ≡ proof_fault_at file f → file ≡ n → after ≡ (if checks.is_failed_read f then true else before)
+pub proof_reads : (result : SumFault) (file n : ℕ) (f : CheckFault) (before after : Bool) → result ≡ proof_fault_at file f → file ≡ n
+    → after ≡ (if checks.is_failed_read f then true else before)
     → after ≡ (if is_failed_read_at n result then true else before)
 proof_reads result file n f before after reported same h =
-    let is : is_failed_read_at n result ≡ checks.is_failed_read f = ap (is_failed_read_at n) (reported ∙ ap (λ m. proof_fault_at m f) same) ∙ reported_proof_read n f in
+    let is : is_failed_read_at n result ≡ checks.is_failed_read f =
+    ap (is_failed_read_at n) (reported ∙ ap (λ m. proof_fault_at m f) same) ∙ reported_proof_read n f in
     h ∙ ap (λ (b : Bool). if b then true else before) (sym is)
 
-pub reported_reads : (result : SumFault) (file n : ℕ) (f : GroupTextFault) (before after : Bool) → result ≡ text_fault_at file f → file ≡ n → after ≡ (if is_failed_read f then true else before)
+pub reported_reads : (result : SumFault) (file n : ℕ) (f : GroupTextFault) (before after : Bool) → result ≡ text_fault_at file f
+    → file ≡ n → after ≡ (if is_failed_read f then true else before)
     → after ≡ (if is_failed_read_at n result then true else before)
 reported_reads result file n f before after reported same h =
-    let is : is_failed_read_at n result ≡ is_failed_read f = ap (is_failed_read_at n) (reported ∙ ap (λ m. text_fault_at m f) same) ∙ reported_text_read n f in
+    let is : is_failed_read_at n result ≡ is_failed_read f = ap (is_failed_read_at n) (reported ∙ ap (λ m. text_fault_at m f) same)
+    ∙ reported_text_read n f in
     h ∙ ap (λ (b : Bool). if b then true else before) (sym is)
 
 -- whether a read has failed, after a result that is known
-pub result_reads : {A E : Type 0} (r known : Result A E) (passes : E → Bool) (before after : Bool) → r ≡ known → after ≡ (if is_err_and r passes then true else before)
+pub result_reads : {A E : Type 0} (r known : Result A E) (passes : E → Bool) (before after : Bool) → r ≡ known
+    → after ≡ (if is_err_and r passes then true else before)
     → after ≡ (if is_err_and known passes then true else before)
 result_reads {A} {E} r known passes before after is h = h ∙ ap (λ (x : Result A E). if is_err_and x passes then true else before) is
 
 -- a failed read of this file
 pub read_is_at : (result : SumFault) (file n : ℕ) → result ≡ read_failed_at file → file ≡ n → is_failed_read_at n result ≡ true
-read_is_at result file n reported same = ap (is_failed_read_at n) (reported ∙ ap read_failed_at same) ∙ of_proof n (check.Text (text.Feed feed.Read))
+read_is_at result file n reported same = ap (is_failed_read_at n) (reported ∙ ap read_failed_at same)
+    ∙ of_proof n (check.Text (text.Feed feed.Read))
 
 -- a fault of a claim is no failed read
-pub claim_read : (p : Problem) (a : State) (i : ℕ) (k : GroupClaim) (n : ℕ) (f : SumFault) → ExplainsClaim p a i k f → is_failed_read_at n f ≡ false
+pub claim_read : (p : Problem) (a : State) (i : ℕ) (k : GroupClaim) (n : ℕ) (f : SumFault) → ExplainsClaim p a i k f
+    → is_failed_read_at n f ≡ false
 claim_read p a i k n (fault.Proof m f) h = absurd h
 claim_read p a i k n (fault.Groups m f) h = refl
 claim_read p a i k n (fault.ClaimedElsewhere m j e) h = absurd h
@@ -74,7 +81,8 @@ abbrev refused : SumFault → Result Bound SumFault
 refused e = Err e
 
 -- neither is one of the values' total
-pub reached_read : (result : Result Bound SumFault) (file n sum bound : ℕ) → result ≡ cond (nat_lt sum bound) (Err (fault.Groups file groups.TooCheap)) (Ok (AtLeast bound)) → is_err_and result (is_failed_read_at n) ≡ false
+pub reached_read : (result : Result Bound SumFault) (file n sum bound : ℕ) → result ≡ cond (nat_lt sum bound)
+    (Err (fault.Groups file groups.TooCheap)) (Ok (AtLeast bound)) → is_err_and result (is_failed_read_at n) ≡ false
 reached_read result file n sum bound e = ap (λ (r : Result Bound SumFault). is_err_and r (is_failed_read_at n)) e ∙ on (nat_lt sum bound)
   where
     on : (z : Bool) → is_err_and (cond z (refused (fault.Groups file groups.TooCheap)) (Ok (AtLeast bound))) (is_failed_read_at n) ≡ false

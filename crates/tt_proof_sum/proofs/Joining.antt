@@ -40,11 +40,13 @@ use Rattle.tt_proof_sum.proofs.Tables.{owner_after, not_none, first_clash-append
 pub has_place : (ys : List Target) (y : Target) → has_number (map place ys) (place y) ≡ is_among ys y
 has_place [] y = refl
 has_place (z ∷ zs) y =
-    ap (λ b. b || has_number (map place zs) (place y)) (test_turned (place z) (place y) ∙ same_place y z) ∙ ap (λ b. same_target y z || b) (has_place zs y)
+    ap (λ b. b || has_number (map place zs) (place y)) (test_turned (place z) (place y) ∙ same_place y z)
+    ∙ ap (λ b. same_target y z || b) (has_place zs y)
 
 -- ---- the first proof that claims a place
 
-pub first_claim-push : (n : ℕ) (parts : List Part) (part : Part) (k : ℕ) → 0 < n → first_claim n (parts ++ part ∷ []) k ≡ owner_after (first_claim n parts k) (has_number (map place (claims_of part)) k) (n + length parts)
+pub first_claim-push : (n : ℕ) (parts : List Part) (part : Part) (k : ℕ) → 0 < n → first_claim n (parts ++ part ∷ []) k ≡ owner_after
+    (first_claim n parts k) (has_number (map place (claims_of part)) k) (n + length parts)
 first_claim-push n [] part k some = on (has_number (map place (claims_of part)) k)
   where
     on : (h : Bool) → cond h n 0 ≡ cond h (n + 0) 0
@@ -55,8 +57,10 @@ first_claim-push n (x ∷ xs) part k some = on (first_claim-push (n + 1) xs part
     here : (n + 1) + length xs ≡ n + suc (length xs)
     here = omega arith
 
-    on : first_claim (n + 1) (xs ++ part ∷ []) k ≡ owner_after (first_claim (n + 1) xs k) (has_number (map place (claims_of part)) k) ((n + 1) + length xs) → (h : Bool)
-        → cond h n (first_claim (n + 1) (xs ++ part ∷ []) k) ≡ owner_after (cond h n (first_claim (n + 1) xs k)) (has_number (map place (claims_of part)) k) (n + suc (length xs))
+    on : first_claim (n + 1) (xs ++ part ∷ []) k ≡ owner_after (first_claim (n + 1) xs k) (has_number (map place (claims_of part)) k)
+        ((n + 1) + length xs) → (h : Bool)
+        → cond h n (first_claim (n + 1) (xs ++ part ∷ []) k) ≡ owner_after (cond h n (first_claim (n + 1) xs k))
+        (has_number (map place (claims_of part)) k) (n + suc (length xs))
     on rest true = rw (not_none n some) refl
     on rest false = rest ∙ ap (owner_after (first_claim (n + 1) xs k) (has_number (map place (claims_of part)) k)) here
 
@@ -69,22 +73,30 @@ claim_below n (x ∷ xs) k some = on (claim_below (n + 1) xs k (omega arith)) (h
     on rest false = omega (arith, rest)
 
 -- if a target has no first claim, none of the proofs claims it
-pub unclaimed : (n : ℕ) (parts : List Part) (y : Target) → 0 < n → first_claim n parts (place y) ≡ 0 → list_all (λ k. not (is_among (claims_of k) y)) parts ≡ true
+pub unclaimed : (n : ℕ) (parts : List Part) (y : Target) → 0 < n → first_claim n parts (place y) ≡ 0
+    → list_all (λ k. not (is_among (claims_of k) y)) parts ≡ true
 unclaimed n [] y some e = refl
 unclaimed n (x ∷ xs) y some e = on (λ z. unclaimed (n + 1) xs y (omega arith) z) (has_number (map place (claims_of x)) (place y)) refl e
   where
-    on : (first_claim (n + 1) xs (place y) ≡ 0 → list_all (λ k. not (is_among (claims_of k) y)) xs ≡ true) → (h : Bool) → has_number (map place (claims_of x)) (place y) ≡ h → cond h n (first_claim (n + 1) xs (place y)) ≡ 0 → list_all (λ k. not (is_among (claims_of k) y)) (x ∷ xs) ≡ true
+    on : (first_claim (n + 1) xs (place y) ≡ 0 → list_all (λ k. not (is_among (claims_of k) y)) xs ≡ true) → (h : Bool)
+        → has_number (map place (claims_of x)) (place y) ≡ h → cond h n (first_claim (n + 1) xs (place y)) ≡ 0
+        → list_all (λ k. not (is_among (claims_of k) y)) (x ∷ xs) ≡ true
     on rest true b z = absurd (omega (arith, z, some))
     on rest false b z =
-        and_from (not (is_among (claims_of x) y)) (list_all (λ k. not (is_among (claims_of k) y)) xs) (not_from_false (is_among (claims_of x) y) (sym (has_place (claims_of x) y) ∙ b))
+        and_from (not (is_among (claims_of x) y)) (list_all (λ k. not (is_among (claims_of k) y)) xs)
+        (not_from_false (is_among (claims_of x) y) (sym (has_place (claims_of x) y) ∙ b))
         (rest z)
 
 -- the proof recorded as the first to claim a target claims it
-pub claims_it : (n : ℕ) (parts : List Part) (y : Target) (o : ℕ) → first_claim n parts (place y) ≡ o → (o ≡ 0 → ⊥) → (j : ℕ) × (o ≡ n + j) × IsSomeAnd (slice_get parts j) (λ k. is_among (claims_of k) y ≡ true)
+pub claims_it : (n : ℕ) (parts : List Part) (y : Target) (o : ℕ) → first_claim n parts (place y) ≡ o → (o ≡ 0 → ⊥)
+    → (j : ℕ) × (o ≡ n + j) × IsSomeAnd (slice_get parts j) (λ k. is_among (claims_of k) y ≡ true)
 claims_it n [] y o e some = absurd (some (sym e))
 claims_it n (x ∷ xs) y o e some = on (λ z. claims_it (n + 1) xs y o z some) (has_number (map place (claims_of x)) (place y)) refl e
   where
-    on : (first_claim (n + 1) xs (place y) ≡ o → (j : ℕ) × (o ≡ (n + 1) + j) × IsSomeAnd (slice_get xs j) (λ k. is_among (claims_of k) y ≡ true)) → (h : Bool) → has_number (map place (claims_of x)) (place y) ≡ h → cond h n (first_claim (n + 1) xs (place y)) ≡ o → (j : ℕ) × (o ≡ n + j) × IsSomeAnd (slice_get (x ∷ xs) j) (λ k. is_among (claims_of k) y ≡ true)
+    on : (first_claim (n + 1) xs (place y) ≡ o → (j : ℕ) × (o ≡ (n + 1) + j) × IsSomeAnd (slice_get xs j)
+        (λ k. is_among (claims_of k) y ≡ true)) → (h : Bool) → has_number (map place (claims_of x)) (place y) ≡ h
+        → cond h n (first_claim (n + 1) xs (place y)) ≡ o → (j : ℕ) × (o ≡ n + j) × IsSomeAnd (slice_get (x ∷ xs) j)
+        (λ k. is_among (claims_of k) y ≡ true)
     on rest true b z = (0, omega (arith, z), sym (has_place (claims_of x) y) ∙ b)
     on rest false b z =
         let r = rest z in
@@ -96,7 +108,8 @@ none_clashes : (past : Bool) (n o q : ℕ) → clash_with past n o q ≡ None �
 none_clashes true n o q e = absurd cc
 none_clashes false n o q e = (refl, on (o == 0) refl (o == q) refl e)
   where
-    on : (a : Bool) → (o == 0) ≡ a → (b : Bool) → (o == q) ≡ b → cond {A = Option Clash} (a || b) None (Some (record { node = n; earlier = o })) ≡ None → (o ≡ 0) ⊎ (o ≡ q)
+    on : (a : Bool) → (o == 0) ≡ a → (b : Bool) → (o == q) ≡ b → cond {A = Option Clash} (a || b) None
+        (Some (record { node = n; earlier = o })) ≡ None → (o ≡ 0) ⊎ (o ≡ q)
     on true x b y h = inl (eqb-true o 0 x)
     on false x true y h = inr (eqb-true o q y)
     on false x false y h = absurd cc
@@ -109,13 +122,18 @@ pub record IsClash (n o : ℕ) (c : Clash) : Type 0 where
 clash_is : (n o q : ℕ) (c : Clash) → clash_with false n o q ≡ Some c → IsClash n o c
 clash_is n o q c e = on (o == 0) refl (o == q) e
   where
-    on : (a : Bool) → (o == 0) ≡ a → (b : Bool) → cond {A = Option Clash} (a || b) None (Some (record { node = n; earlier = o })) ≡ Some c → IsClash n o c
+    on : (a : Bool) → (o == 0) ≡ a → (b : Bool) → cond {A = Option Clash} (a || b) None (Some (record { node = n; earlier = o }))
+        ≡ Some c → IsClash n o c
     on true x b h = absurd cc
     on false x true h = absurd cc
     on false x false h =
         let clash : Clash = record { node = n; earlier = o } in
         let same : clash ≡ c = cc in
-        record { node = sym (ap (λ (d : Clash). d.node) same); earlier = sym (ap (λ (d : Clash). d.earlier) same); some = λ z. both_ways (o == 0) x (eq-eqb o 0 z) }
+        record {
+          node = sym (ap (λ (d : Clash). d.node) same);
+          earlier = sym (ap (λ (d : Clash). d.earlier) same);
+          some = λ z. both_ways (o == 0) x (eq-eqb o 0 z);
+        }
 
 or_none : (x y : Option Clash) → option_or x y ≡ None → (x ≡ None) × (y ≡ None)
 or_none None y e = (refl, e)
@@ -130,7 +148,8 @@ places_claims (n ∷ ns) = ap (λ l. places_in n ++ l) (places_claims ns) ∙ sy
 pub tree_claims : (tree : Tree) → flat_map claims_at (preorder tree) ≡ claimed_by tree
 tree_claims (Tip leaf) = append-nil (claimed_in leaf)
 tree_claims (Fork g x y) =
-    flat_map-append claims_at (preorder x) (preorder y) ∙ ap (λ l. l ++ flat_map claims_at (preorder y)) (tree_claims x) ∙ ap (λ l. claimed_by x ++ l) (tree_claims y)
+    flat_map-append claims_at (preorder x) (preorder y) ∙ ap (λ l. l ++ flat_map claims_at (preorder y)) (tree_claims x)
+    ∙ ap (λ l. claimed_by x ++ l) (tree_claims y)
 
 module _ (before_it : State) (parts : List Part) (of : IsTableOf before_it parts) where
   abbrev t : State
@@ -155,21 +174,27 @@ module _ (before_it : State) (parts : List Part) (of : IsTableOf before_it parts
       let h = or_none (clash_at t n (place y)) (first_clash t (at_node n (map place ys))) e in
       and_from (unclaimed_target y) (list_all unclaimed_target ys) (free_target n y h.0) (none_at n ys h.1)
 
-  none_from : (i : ℕ) (nodes : List Node) → first_clash t (places_from i nodes) ≡ None → list_all unclaimed_target (flat_map claims_at nodes) ≡ true
+  none_from : (i : ℕ) (nodes : List Node) → first_clash t (places_from i nodes) ≡ None
+      → list_all unclaimed_target (flat_map claims_at nodes) ≡ true
   none_from i [] e = refl
   none_from i (n ∷ ns) e =
-      let h = or_none (first_clash t (at_node i (places_in n))) (first_clash t (places_from (i + 1) ns)) (sym (first_clash-append t (at_node i (places_in n)) (places_from (i + 1) ns)) ∙ e) in
+      let h = or_none (first_clash t (at_node i (places_in n))) (first_clash t (places_from (i + 1) ns))
+      (sym (first_clash-append t (at_node i (places_in n)) (places_from (i + 1) ns)) ∙ e) in
       list_all-append unclaimed_target (claims_at n) (flat_map claims_at ns)
-      ∙ and_from (list_all unclaimed_target (claims_at n)) (list_all unclaimed_target (flat_map claims_at ns)) (none_at i (claims_at n) h.0) (none_from (i + 1) ns h.1)
+      ∙ and_from (list_all unclaimed_target (claims_at n)) (list_all unclaimed_target (flat_map claims_at ns))
+      (none_at i (claims_at n) h.0) (none_from (i + 1) ns h.1)
 
   apart : (ys : List Target) → list_all unclaimed_target ys ≡ true → list_all (λ k. are_apart (claims_of k) ys) parts ≡ true
   apart ys e = list_all-swap (λ k y. not (is_among (claims_of k) y)) parts ys ∙ e
 
-  nodes_apart : (i : ℕ) (nodes : List Node) → first_clash t (places_from i nodes) ≡ None → list_all (λ n. list_all (λ k. are_apart (claims_of k) (claims_at n)) parts) nodes ≡ true
+  nodes_apart : (i : ℕ) (nodes : List Node) → first_clash t (places_from i nodes) ≡ None
+      → list_all (λ n. list_all (λ k. are_apart (claims_of k) (claims_at n)) parts) nodes ≡ true
   nodes_apart i [] e = refl
   nodes_apart i (n ∷ ns) e =
-      let h = or_none (first_clash t (at_node i (places_in n))) (first_clash t (places_from (i + 1) ns)) (sym (first_clash-append t (at_node i (places_in n)) (places_from (i + 1) ns)) ∙ e) in
-      and_from (list_all (λ k. are_apart (claims_of k) (claims_at n)) parts) (list_all (λ m. list_all (λ k. are_apart (claims_of k) (claims_at m)) parts) ns)
+      let h = or_none (first_clash t (at_node i (places_in n))) (first_clash t (places_from (i + 1) ns))
+      (sym (first_clash-append t (at_node i (places_in n)) (places_from (i + 1) ns)) ∙ e) in
+      and_from (list_all (λ k. are_apart (claims_of k) (claims_at n)) parts)
+      (list_all (λ m. list_all (λ k. are_apart (claims_of k) (claims_at m)) parts) ns)
       (apart (claims_at n) (none_at i (claims_at n) h.0)) (nodes_apart (i + 1) ns h.1)
 
   -- the node of the first clash
@@ -183,9 +208,12 @@ module _ (before_it : State) (parts : List Part) (of : IsTableOf before_it parts
 
   find_node : (i : ℕ) (nodes : List Node) (c : Clash) → first_clash t (places_from i nodes) ≡ Some c → Clashes i nodes c
   find_node i [] c e = absurd cc
-  find_node i (n ∷ ns) c e = on (λ h. find_node (i + 1) ns c h) (first_clash t (at_node i (places_in n))) refl (sym (first_clash-append t (at_node i (places_in n)) (places_from (i + 1) ns)) ∙ e)
+  find_node i (n ∷ ns) c e = on (λ h. find_node (i + 1) ns c h) (first_clash t (at_node i (places_in n))) refl
+      (sym (first_clash-append t (at_node i (places_in n)) (places_from (i + 1) ns)) ∙ e)
     where
-      on : (first_clash t (places_from (i + 1) ns) ≡ Some c → Clashes (i + 1) ns c) → (x : Option Clash) → first_clash t (at_node i (places_in n)) ≡ x → option_or x (first_clash t (places_from (i + 1) ns)) ≡ Some c → Clashes i (n ∷ ns) c
+      on : (first_clash t (places_from (i + 1) ns) ≡ Some c → Clashes (i + 1) ns c) → (x : Option Clash)
+          → first_clash t (at_node i (places_in n)) ≡ x → option_or x (first_clash t (places_from (i + 1) ns)) ≡ Some c
+          → Clashes i (n ∷ ns) c
       on rest (Some d) f h = record {
         before = [];
         node = n;
@@ -202,15 +230,20 @@ module _ (before_it : State) (parts : List Part) (of : IsTableOf before_it parts
             node = r.node;
             more = r.more;
             split = ap (λ l. n ∷ l) r.split;
-            none = first_clash-append t (at_node i (places_in n)) (places_from (i + 1) r.before) ∙ ap (λ x. option_or x (first_clash t (places_from (i + 1) r.before))) f ∙ r.none;
+            none = first_clash-append t (at_node i (places_in n)) (places_from (i + 1) r.before)
+                ∙ ap (λ x. option_or x (first_clash t (places_from (i + 1) r.before))) f ∙ r.none;
             some = subst (λ m. first_clash t (at_node m (places_in r.node)) ≡ Some c) here r.some;
           }
 
-  find_target : (n : ℕ) (ys : List Target) (c : Clash) → first_clash t (at_node n (map place ys)) ≡ Some c → (y : Target) × (is_among ys y ≡ true) × (clash_at t n (place y) ≡ Some c)
+  find_target : (n : ℕ) (ys : List Target) (c : Clash) → first_clash t (at_node n (map place ys)) ≡ Some c
+      → (y : Target) × (is_among ys y ≡ true) × (clash_at t n (place y) ≡ Some c)
   find_target n [] c e = absurd cc
   find_target n (y ∷ ys) c e = on (λ h. find_target n ys c h) (clash_at t n (place y)) refl e
     where
-      on : (first_clash t (at_node n (map place ys)) ≡ Some c → (z : Target) × (is_among ys z ≡ true) × (clash_at t n (place z) ≡ Some c)) → (x : Option Clash) → clash_at t n (place y) ≡ x → option_or x (first_clash t (at_node n (map place ys))) ≡ Some c → (z : Target) × (is_among (y ∷ ys) z ≡ true) × (clash_at t n (place z) ≡ Some c)
+      on : (first_clash t (at_node n (map place ys)) ≡ Some c → (z : Target) × (is_among ys z ≡ true)
+          × (clash_at t n (place z) ≡ Some c)) → (x : Option Clash) → clash_at t n (place y) ≡ x
+          → option_or x (first_clash t (at_node n (map place ys))) ≡ Some c → (z : Target) × (is_among (y ∷ ys) z ≡ true)
+          × (clash_at t n (place z) ≡ Some c)
       on rest (Some d) f h = (y, or_left (same_target y y) (is_among ys y) (same_target-itself y), f ∙ h)
       on rest None f h =
           let r = rest h in
@@ -225,9 +258,12 @@ module _ (before_it : State) (parts : List Part) (of : IsTableOf before_it parts
     table_after part same free = record {
       owners = λ k l.
           claims.owners k l ∙ ap (λ o. owner_after o (has_number (map (λ x. x.1) (places_from 0 nodes)) k) t.proof) (of.owners k l)
-          ∙ ap (λ ks. owner_after (first_claim 1 parts k) (has_number ks k) t.proof) (places_all 0 nodes ∙ places_claims nodes ∙ ap (λ ns. map place (flat_map claims_at ns)) (sym same) ∙ ap (map place) (tree_claims part.tree))
-          ∙ ap (owner_after (first_claim 1 parts k) (has_number (map place (claimed_by part.tree)) k)) number ∙ sym (first_claim-push 1 parts (TreeProof part) k (lit< tt));
-      number = let long = length-append parts (TreeProof part ∷ []) in let newest : b.proof ≡ before_it.proof + 1 = claims.proof in omega (arith, newest, of.number, long);
+          ∙ ap (λ ks. owner_after (first_claim 1 parts k) (has_number ks k) t.proof) (places_all 0 nodes ∙ places_claims nodes
+          ∙ ap (λ ns. map place (flat_map claims_at ns)) (sym same) ∙ ap (map place) (tree_claims part.tree))
+          ∙ ap (owner_after (first_claim 1 parts k) (has_number (map place (claimed_by part.tree)) k)) number
+          ∙ sym (first_claim-push 1 parts (TreeProof part) k (lit< tt));
+      number = let long = length-append parts (TreeProof part ∷ []) in let newest : b.proof ≡ before_it.proof + 1 = claims.proof in
+          omega (arith, newest, of.number, long);
       free = free;
     }
       where
@@ -245,19 +281,24 @@ targets_placed (z ∷ zs) y a e = elim (or_cases (same_target y z) (is_among zs 
 
 claims_placed : (claims : List Claim) (y : Target) → AllByRecursion IsPlaced claims → is_among (claimed claims) y ≡ true → place y < 32768
 claims_placed [] y a e = absurd cc
-claims_placed (c ∷ cs) y a e = elim (or_cases (is_among (targets_of c) y) (is_among (claimed cs) y) (sym (list_any-append (same_target y) (targets_of c) (claimed cs)) ∙ e)) [
-  | inl s ↦ targets_placed (targets_of c) y (recursion_from_All (λ n. n < 32768) (places_of c) a.0) s
-  | inr s ↦ claims_placed cs y a.1 s
-]
+claims_placed (c ∷ cs) y a e =
+    elim (or_cases (is_among (targets_of c) y) (is_among (claimed cs) y)
+    (sym (list_any-append (same_target y) (targets_of c) (claimed cs)) ∙ e)) [
+      | inl s ↦ targets_placed (targets_of c) y (recursion_from_All (λ n. n < 32768) (places_of c) a.0) s
+      | inr s ↦ claims_placed cs y a.1 s
+    ]
 
-node_placed : (p : Problem) → IsInstance p → (v : ℕ) (node : Node) → IsNode p v node → (y : Target) → is_among (claims_at node) y ≡ true → place y < 32768
+node_placed : (p : Problem) → IsInstance p → (v : ℕ) (node : Node) → IsNode p v node → (y : Target) → is_among (claims_at node) y ≡ true
+    → place y < 32768
 node_placed p is v (Split g) h y e = absurd cc
 node_placed p is v (Leaf (Empty g)) h y e = absurd cc
 node_placed p is v (Leaf (Many c)) h y e = absurd cc
 node_placed p is v (Leaf (Clique cs)) h y e = absurd cc
 node_placed p is v (Leaf (Slots cs)) h y e = absurd cc
 node_placed p is v (Leaf (Cost claims)) h y e =
-    claims_placed claims y (recursion_from_All IsPlaced claims (each_placed p is.within.courses is.within.curricula claims (λ k c i. (claim_parts p v _ (h k c i)).0))) e
+    claims_placed claims y
+    (recursion_from_All IsPlaced claims
+    (each_placed p is.within.courses is.within.curricula claims (λ k c i. (claim_parts p v _ (h k c i)).0))) e
 
 -- -- a proof whose nodes were visited
 
@@ -265,7 +306,8 @@ node_placed p is v (Leaf (Cost claims)) h y e =
 abbrev pub TableVisited : State → State → List Node → Type 0
 TableVisited a b = Visited (λ s j n u. 0 < s.proof → Claims s (at_node j (places_in n)) u) 0 a b
 
-pub newest : (p : Problem) (remaining : Option (List ℕ)) (t b : State) → 0 < t.proof → (x : Bound) → IsVisitedProof p remaining (TableVisited t b) x → b.proof ≡ t.proof
+pub newest : (p : Problem) (remaining : Option (List ℕ)) (t b : State) → 0 < t.proof → (x : Bound)
+    → IsVisitedProof p remaining (TableVisited t b) x → b.proof ≡ t.proof
 newest p remaining t b some x h = (visited_claims 0 t b (preorder h.tree) some h.visited).proof
 
 module _ (p : Problem) (remaining : Option (List ℕ)) (t b : State) (parts : List Part) (of : IsTableOf t parts) (x : Bound)
@@ -287,14 +329,19 @@ module _ (p : Problem) (remaining : Option (List ℕ)) (t b : State) (parts : Li
     table = table_after t parts of b (preorder h.tree) claims part refl free;
   }
 
-  pub claimed_elsewhere : IsInstance p → (bytes : List ℕ) → remaining ≡ Some bytes → (c : Clash) → b.clash ≡ Some c → IsClaimedElsewhere p parts bytes c.node c.earlier
+  pub claimed_elsewhere : IsInstance p → (bytes : List ℕ) → remaining ≡ Some bytes → (c : Clash) → b.clash ≡ Some c
+      → IsClaimedElsewhere p parts bytes c.node c.earlier
   claimed_elsewhere is bytes known c clash =
       let f = find_node t parts of 0 (preorder h.tree) c (sym (first_is t parts of b (preorder h.tree) claims) ∙ clash) in
       let y = find_target t parts of (0 + length f.before) (claims_at f.node) c f.some in
       let spelled = h.spelled bytes known in
-      let node = (each_of_append (IsNode p h.version) f.before (f.node ∷ f.more) (subst (AllByRecursion (IsNode p h.version)) f.split (recursion_from_All (IsNode p h.version) (preorder h.tree) spelled.each))).1.0 in
+      let node = (each_of_append (IsNode p h.version) f.before (f.node ∷ f.more)
+      (subst (AllByRecursion (IsNode p h.version)) f.split
+      (recursion_from_All (IsNode p h.version) (preorder h.tree) spelled.each))).1.0 in
       let l = node_placed p is h.version f.node node y.0 y.1 in
-      let k = clash_is (0 + length f.before) (owner t (place y.0)) (t.proof + 1) c (subst (λ (past : Bool). clash_with past (0 + length f.before) (owner t (place y.0)) (t.proof + 1) ≡ Some c) (lt-leb 32768 (place y.0) l) y.2) in
+      let k = clash_is (0 + length f.before) (owner t (place y.0)) (t.proof + 1) c
+      (subst (λ (past : Bool). clash_with past (0 + length f.before) (owner t (place y.0)) (t.proof + 1) ≡ Some c)
+      (lt-leb 32768 (place y.0) l) y.2) in
       let e = claims_it 1 parts y.0 (owner t (place y.0)) (sym (of.owners (place y.0) l)) k.some in
       let index : e.0 ≡ c.earlier - 1 = omega (arith, e.1, k.earlier) in
       record {

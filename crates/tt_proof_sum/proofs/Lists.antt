@@ -34,7 +34,8 @@ record Split {A B : Type 0} (R : A → B → Type 0) (xs : List A) (x : A) (ks :
   each : AllZip R xs first
   one : R x at
 
-zip_split : {A B : Type 0} (R : A → B → Type 0) (xs : List A) (x : A) (ys : List A) (ks : List B) → AllZip R (xs ++ x ∷ ys) ks → Split R xs x ks
+zip_split : {A B : Type 0} (R : A → B → Type 0) (xs : List A) (x : A) (ys : List A) (ks : List B) → AllZip R (xs ++ x ∷ ys) ks
+    → Split R xs x ks
 zip_split R [] x ys [] h = absurd h
 zip_split R [] x ys (k ∷ ks) h = record { first = []; at = k; more = ks; split = refl; each = tt; one = h.0 }
 zip_split R (z ∷ zs) x ys [] h = absurd h
@@ -51,23 +52,30 @@ module _ (p : Problem) (is : IsInstance p) where
   same_parts [] (k ∷ ks) ls h i = absurd h
   same_parts (x ∷ xs) [] ls h i = absurd h
   same_parts (x ∷ xs) (k ∷ ks) [] h i = absurd i
-  same_parts (x ∷ xs) (k ∷ ks) (l ∷ ls) h i = ap (λ (y : Part). y ∷ ks) (same_part p is x k l h.0 i.0) ∙ ap (λ (zs : List Part). l ∷ zs) (same_parts xs ks ls h.1 i.1)
+  same_parts (x ∷ xs) (k ∷ ks) (l ∷ ls) h i = ap (λ (y : Part). y ∷ ks) (same_part p is x k l h.0 i.0) ∙ ap (λ (zs : List Part). l ∷ zs)
+      (same_parts xs ks ls h.1 i.1)
 
   -- if files have a sum, a refusal of them is silent
-  refused_silent : (proofs : List (List ℕ)) (s : Bound) (h : IsSum p proofs s) → all_points h.parts < 2 ^ 64 → (e : SumFault) → OutOfMemoryIsOneFault e → IsRefused p proofs e → IsSilentSum e
+  refused_silent : (proofs : List (List ℕ)) (s : Bound) (h : IsSum p proofs s) → all_points h.parts < 2 ^ 64 → (e : SumFault)
+      → OutOfMemoryIsOneFault e → IsRefused p proofs e → IsSilentSum e
   refused_silent proofs s h within e memory r =
-      let z = zip_split (IsPart p) r.before r.bytes r.more h.parts (subst (λ (l : List (List ℕ)). AllZip (IsPart p) l h.parts) r.split h.each) in
+      let z = zip_split (IsPart p) r.before r.bytes r.more h.parts
+      (subst (λ (l : List (List ℕ)). AllZip (IsPart p) l h.parts) r.split h.each) in
       let same : z.first ≡ r.parts = same_parts r.before z.first r.parts z.each r.each in
-      let split : h.parts ≡ (r.parts ++ z.at ∷ []) ++ z.more = z.split ∙ ap (λ (l : List Part). l ++ z.at ∷ z.more) same ∙ sym (append_assoc r.parts (z.at ∷ []) z.more) in
-      let apart = (each_two-of_append (λ a b. are_apart (claims_of a) (claims_of b)) (r.parts ++ z.at ∷ []) z.more (subst AreApart split h.apart)).0 in
+      let split : h.parts ≡ (r.parts ++ z.at ∷ []) ++ z.more = z.split ∙ ap (λ (l : List Part). l ++ z.at ∷ z.more) same
+      ∙ sym (append_assoc r.parts (z.at ∷ []) z.more) in
+      let apart = (each_two-of_append (λ a b. are_apart (claims_of a) (claims_of b)) (r.parts ++ z.at ∷ []) z.more
+      (subst AreApart split h.apart)).0 in
       let total = sum_by-append (λ (k : Part). points (bound_of k)) (r.parts ++ z.at ∷ []) z.more in
       let all : all_points h.parts ≡ all_points ((r.parts ++ z.at ∷ []) ++ z.more) = ap all_points split in
       tells_silent p is r.parts r.bytes z.at z.one apart (omega (arith, total, all, within)) e memory r.explains
 
-  pub sum_silent : (proofs : List (List ℕ)) (s : Bound) (h : IsSum p proofs s) → all_points h.parts < 2 ^ 64 → (e : SumFault) → OutOfMemoryIsOneFault e → IsSumFault p proofs e → IsSilentSum e
+  pub sum_silent : (proofs : List (List ℕ)) (s : Bound) (h : IsSum p proofs s) → all_points h.parts < 2 ^ 64 → (e : SumFault)
+      → OutOfMemoryIsOneFault e → IsSumFault p proofs e → IsSilentSum e
   sum_silent proofs s h within (Proof n f) memory reported = refused_silent proofs s h within (Proof n f) memory reported
   sum_silent proofs s h within (Groups n f) memory reported = refused_silent proofs s h within (Groups n f) memory reported
-  sum_silent proofs s h within (ClaimedElsewhere n i e) memory reported = refused_silent proofs s h within (ClaimedElsewhere n i e) memory reported
+  sum_silent proofs s h within (ClaimedElsewhere n i e) memory reported =
+      refused_silent proofs s h within (ClaimedElsewhere n i e) memory reported
   sum_silent proofs s h within (TooLarge n) memory reported = refused_silent proofs s h within (TooLarge n) memory reported
   sum_silent proofs s h within OutOfMemory memory reported = tt
 
@@ -85,7 +93,8 @@ tells_sum p proofs OutOfMemory r = tt
 -- -- sources whose bytes are known
 
 module _ {R : Type 0} (p : Problem) (remaining : R → Option (List ℕ)) where
-  pub zip_known : (sources : List R) (proofs : List (List ℕ)) (parts : List Part) → Give remaining sources proofs → AllZip (λ r k. IsPartOf p (remaining r) k) sources parts → AllZip (IsPart p) proofs parts
+  pub zip_known : (sources : List R) (proofs : List (List ℕ)) (parts : List Part) → Give remaining sources proofs
+      → AllZip (λ r k. IsPartOf p (remaining r) k) sources parts → AllZip (IsPart p) proofs parts
   zip_known [] [] [] g h = tt
   zip_known [] [] (k ∷ ks) g h = absurd h
   zip_known [] (x ∷ xs) ks g h = absurd g
@@ -102,7 +111,8 @@ module _ {R : Type 0} (p : Problem) (remaining : R → Option (List ℕ)) where
     pub each : Give remaining (take i sources) before
     pub known : remaining r ≡ Some bytes
 
-  pub gives_at : (sources : List R) (proofs : List (List ℕ)) (i : ℕ) (r : R) → Give remaining sources proofs → slice_get sources i ≡ Some r → GivesAt sources proofs i r
+  pub gives_at : (sources : List R) (proofs : List (List ℕ)) (i : ℕ) (r : R) → Give remaining sources proofs
+      → slice_get sources i ≡ Some r → GivesAt sources proofs i r
   gives_at [] proofs i r g e = absurd cc
   gives_at (q ∷ rs) [] i r g e = absurd g
   gives_at (q ∷ rs) (x ∷ xs) zero r g e =
@@ -110,7 +120,14 @@ module _ {R : Type 0} (p : Problem) (remaining : R → Option (List ℕ)) where
       record { before = []; bytes = x; more = xs; split = refl; each = tt; known = subst (λ (z : R). remaining z ≡ Some x) same g.0 }
   gives_at (q ∷ rs) (x ∷ xs) (suc i) r g e =
       let h = gives_at rs xs i r g.1 e in
-      record { before = x ∷ h.before; bytes = h.bytes; more = h.more; split = ap (λ (l : List (List ℕ)). x ∷ l) h.split; each = (g.0, h.each); known = h.known }
+      record {
+        before = x ∷ h.before;
+        bytes = h.bytes;
+        more = h.more;
+        split = ap (λ (l : List (List ℕ)). x ∷ l) h.split;
+        each = (g.0, h.each);
+        known = h.known;
+      }
 
 -- ---- a loop over the sources
 
@@ -134,14 +151,16 @@ module _ {R : Type 0} (p : Problem) (remaining : R → Option (List ℕ)) (faile
       omega (arith, long, many, h.of.table.number)
 
   -- another source
-  pub sofar_next : (old now : List R) (i : ℕ) (s t : Sum) (r q : R) → i < length old → length now ≡ length old → r ≡ get_or now i r → Sofar old now i s
+  pub sofar_next : (old now : List R) (i : ℕ) (s t : Sum) (r q : R) → i < length old → length now ≡ length old → r ≡ get_or now i r
+      → Sofar old now i s
       → ((parts : List Part) → IsSumOf s parts → Adds p (remaining r) parts t) → failed q ≡ failed r → Sofar old (set now i q) (i + 1) t
   sofar_next old now i s t r q l long is h adds unfailed =
       let a = adds h.parts h.of in
       let first : r ≡ get_or old i r = is ∙ h.rest i r (omega arith) in
       record {
         parts = h.parts ++ a.0 ∷ [];
-        each = subst (λ (xs : List R). AllZip (λ x k. IsPartOf p (remaining x) k) xs (h.parts ++ a.0 ∷ [])) (sym (take_more old i r l ∙ ap (λ (x : R). take i old ++ x ∷ []) (sym first)))
+        each = subst (λ (xs : List R). AllZip (λ x k. IsPartOf p (remaining x) k) xs (h.parts ++ a.0 ∷ []))
+            (sym (take_more old i r l ∙ ap (λ (x : R). take i old ++ x ∷ []) (sym first)))
             (all_zipped_more (λ x k. IsPartOf p (remaining x) k) (take i old) h.parts r a.0 h.each a.1);
         of = a.2;
         rest = λ k d m. let ne : k ≢ i = omega arith in get_or-set_other now i k q d ne ∙ h.rest k d (omega arith);
@@ -161,20 +180,25 @@ module _ {R : Type 0} (p : Problem) (remaining : R → Option (List ℕ)) (faile
           ap failed here ∙ unfailed ∙ ap failed there
 
   -- if the bytes are known, they spell the parts
-  pub sofar_found : (old now : List R) (i : ℕ) (s : Sum) → length old ≤ i → (h : Sofar old now i s) → (proofs : List (List ℕ)) → Give remaining old proofs → IsSum p proofs (sum_of h.parts)
+  pub sofar_found : (old now : List R) (i : ℕ) (s : Sum) → length old ≤ i → (h : Sofar old now i s) → (proofs : List (List ℕ))
+      → Give remaining old proofs → IsSum p proofs (sum_of h.parts)
   sofar_found old now i s all h proofs given = record {
     parts = h.parts;
-    each = zip_known p remaining old proofs h.parts given (subst (λ (xs : List R). AllZip (λ x k. IsPartOf p (remaining x) k) xs h.parts) (take_all i old all) h.each);
+    each = zip_known p remaining old proofs h.parts given
+        (subst (λ (xs : List R). AllZip (λ x k. IsPartOf p (remaining x) k) xs h.parts) (take_all i old all) h.each);
     apart = h.of.apart;
     total = refl;
   }
 
   pub sofar_holds : (old now : List R) (i : ℕ) (s : Sum) → (h : Sofar old now i s) → HoldsOfAll p (sum_of h.parts)
-  sofar_holds old now i s h = parts_hold p (λ x k. IsPartOf p (remaining x) k) (λ x k is. part_of_shows p (remaining x) k is) (take i old) h.parts h.each h.of.apart
+  sofar_holds old now i s h = parts_hold p (λ x k. IsPartOf p (remaining x) k) (λ x k is. part_of_shows p (remaining x) k is)
+      (take i old) h.parts h.each h.of.apart
 
   -- a refusal of the source at i
-  pub sofar_refused : (old now : List R) (i : ℕ) (s : Sum) (r : R) (e : SumFault) → i < length old → r ≡ get_or now i r → Sofar old now i s → IsNumbered (due s) e
-      → ((parts : List Part) (bytes : List ℕ) → IsSumOf s parts → remaining r ≡ Some bytes → ExplainsAdded p parts bytes e) → (proofs : List (List ℕ)) → Give remaining old proofs → IsSumFault p proofs e
+  pub sofar_refused : (old now : List R) (i : ℕ) (s : Sum) (r : R) (e : SumFault) → i < length old → r ≡ get_or now i r
+      → Sofar old now i s → IsNumbered (due s) e
+      → ((parts : List Part) (bytes : List ℕ) → IsSumOf s parts → remaining r ≡ Some bytes → ExplainsAdded p parts bytes e)
+      → (proofs : List (List ℕ)) → Give remaining old proofs → IsSumFault p proofs e
   sofar_refused old now i s r e l is h numbered explains proofs given =
       let first : r ≡ get_or old i r = is ∙ h.rest i r (omega arith) in
       let g = gives_at p remaining old proofs i r given (slice_get_read old (length old) i r refl l first) in
@@ -194,14 +218,16 @@ module _ {R : Type 0} (p : Problem) (remaining : R → Option (List ℕ)) (faile
   -- ---- reads that failed
 
   pub set_found : (now : List R) (i k : ℕ) (q x : R) → i < length now → k ≡ i → slice_get (set now i q) k ≡ Some x → x ≡ q
-  set_found now i k q x l e found = sym (get_or_from_slice_get (set now i q) k x q found) ∙ ap (λ j. get_or (set now i q) j q) e ∙ get_or-set_same now i q q l
+  set_found now i k q x l e found = sym (get_or_from_slice_get (set now i q) k x q found) ∙ ap (λ j. get_or (set now i q) j q) e
+      ∙ get_or-set_same now i q q l
 
   -- the source at i, before and after it was read
   pub record At (old now : List R) (i k : ℕ) (item q r x : R) : Type 0 where
     pub was : item ≡ r
     pub is : x ≡ q
 
-  pub at_source : (old now : List R) (i : ℕ) (s : Sum) (item q : R) → i < length old → length now ≡ length old → item ≡ get_or now i item → Sofar old now i s
+  pub at_source : (old now : List R) (i : ℕ) (s : Sum) (item q : R) → i < length old → length now ≡ length old
+      → item ≡ get_or now i item → Sofar old now i s
       → (k : ℕ) (r x : R) → k ≡ i → slice_get old k ≡ Some r → slice_get (set now i q) k ≡ Some x → At old now i k item q r x
   at_source old now i s item q l long is h k r x e before after = record {
     was = is ∙ h.rest i item (omega arith) ∙ ap (λ j. get_or old j item) (sym e) ∙ get_or_from_slice_get old k r item before;
@@ -209,15 +235,18 @@ module _ {R : Type 0} (p : Problem) (remaining : R → Option (List ℕ)) (faile
   }
 
   -- a source after files were taken
-  pub same_at : (old now : List R) (i : ℕ) (s : Sum) → length now ≡ length old → Sofar old now i s → (k : ℕ) (x : R) → slice_get now k ≡ Some x → failed x ≡ failed (get_or old k x)
+  pub same_at : (old now : List R) (i : ℕ) (s : Sum) → length now ≡ length old → Sofar old now i s → (k : ℕ) (x : R)
+      → slice_get now k ≡ Some x → failed x ≡ failed (get_or old k x)
   same_at old now i s long h k x found =
       let inside = slice_get_within now k x found in
       ap failed (sym (get_or_from_slice_get now k x x found)) ∙ h.same k x (omega (arith, inside, long))
 
   -- a source after the file at i was refused
-  pub failed_at : (old now : List R) (i : ℕ) (s : Sum) (item q : R) (e : SumFault) → i < length old → length now ≡ length old → item ≡ get_or now i item → Sofar old now i s → due s ≡ i + 1 → IsNumbered (due s) e
+  pub failed_at : (old now : List R) (i : ℕ) (s : Sum) (item q : R) (e : SumFault) → i < length old → length now ≡ length old
+      → item ≡ get_or now i item → Sofar old now i s → due s ≡ i + 1 → IsNumbered (due s) e
       → failed q ≡ (if is_failed_read_at (due s) e then true else failed item)
-      → (k : ℕ) (x : R) → slice_get (set now i q) k ≡ Some x → failed x ≡ (if is_failed_read_at (k + 1) e then true else failed (get_or old k x))
+      → (k : ℕ) (x : R) → slice_get (set now i q) k ≡ Some x
+      → failed x ≡ (if is_failed_read_at (k + 1) e then true else failed (get_or old k x))
   failed_at old now i s item q e l long is h number numbered reads k x found = elim (cases_eq k i) [
     | inl at ↦ here at
     | inr ne ↦ there ne
@@ -225,9 +254,11 @@ module _ {R : Type 0} (p : Problem) (remaining : R → Option (List ℕ)) (faile
     where
       here : k ≡ i → failed x ≡ (if is_failed_read_at (k + 1) e then true else failed (get_or old k x))
       here at =
-          let was : item ≡ get_or old k x = get_or_read old i item l (is ∙ h.rest i item (omega arith)) x ∙ ap (λ j. get_or old j x) (sym at) in
+          let was : item ≡ get_or old k x = get_or_read old i item l (is ∙ h.rest i item (omega arith)) x
+          ∙ ap (λ j. get_or old j x) (sym at) in
           let due_is : due s ≡ k + 1 = omega (arith, number, at) in
-          ap failed (set_found now i k q x (omega (arith, l, long)) at found) ∙ reads ∙ ap (λ n. if is_failed_read_at n e then true else failed item) due_is
+          ap failed (set_found now i k q x (omega (arith, l, long)) at found) ∙ reads
+          ∙ ap (λ n. if is_failed_read_at n e then true else failed item) due_is
           ∙ ap (λ (y : R). if is_failed_read_at (k + 1) e then true else failed y) was
 
       there : k ≢ i → failed x ≡ (if is_failed_read_at (k + 1) e then true else failed (get_or old k x))
@@ -236,5 +267,6 @@ module _ {R : Type 0} (p : Problem) (remaining : R → Option (List ℕ)) (faile
           let set_long = length-set now i q in
           let within : k < length old = omega (arith, inside, set_long, long) in
           let other : due s ≢ k + 1 = omega (arith, number, ne) in
-          ap failed (sym (get_or_from_slice_get (set now i q) k x x found)) ∙ ap failed (get_or-set_other now i k q x ne) ∙ h.same k x within
+          ap failed (sym (get_or_from_slice_get (set now i q) k x x found)) ∙ ap failed (get_or-set_other now i k q x ne)
+          ∙ h.same k x within
           ∙ ap (λ (b : Bool). if b then true else failed (get_or old k x)) (sym (other_read (due s) (k + 1) e numbered other))

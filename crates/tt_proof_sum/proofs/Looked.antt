@@ -25,7 +25,10 @@ keeps_known (Some xs) None bytes k e = absurd k
 keeps_known (Some xs) (Some ys) bytes k e = let same : xs ≡ bytes = cc in ap Some (k ∙ same)
 
 part_kept : (p : Problem) (old mid : Option (List ℕ)) → Keeps old mid → (k : Part) → IsPartOf p mid k → IsPartOf p old k
-part_kept p old mid kept (TreeProof k) is = record { spelled = λ bytes e. is.spelled bytes (keeps_known old mid bytes kept e); derives = is.derives }
+part_kept p old mid kept (TreeProof k) is = record {
+  spelled = λ bytes e. is.spelled bytes (keeps_known old mid bytes kept e);
+  derives = is.derives;
+}
 part_kept p old mid kept (GroupsFile k) is = record {
   kind = λ bytes e. is.kind bytes (keeps_known old mid bytes kept e);
   spelled = λ bytes e. is.spelled bytes (keeps_known old mid bytes kept e);
@@ -33,8 +36,15 @@ part_kept p old mid kept (GroupsFile k) is = record {
   right = is.right;
 }
 
-joins_kept : (p : Problem) (old mid : Option (List ℕ)) (parts : List Part) (a : State) (b : Bound) → Keeps old mid → Joins p mid parts a b → Joins p old parts a b
-joins_kept p old mid parts a b kept j = record { part = j.part; is = part_kept p old mid kept j.part j.is; bound = j.bound; apart = j.apart; table = j.table }
+joins_kept : (p : Problem) (old mid : Option (List ℕ)) (parts : List Part) (a : State) (b : Bound) → Keeps old mid
+    → Joins p mid parts a b → Joins p old parts a b
+joins_kept p old mid parts a b kept j = record {
+  part = j.part;
+  is = part_kept p old mid kept j.part j.is;
+  bound = j.bound;
+  apart = j.apart;
+  table = j.table;
+}
 
 ok_as : (r : Result Bound SumFault) (P Q : Bound → Type 0) → ((b : Bound) → P b → Q b) → IfOk r P → IfOk r Q
 ok_as (Ok b) P Q f h = f b h
@@ -44,24 +54,34 @@ err_as : (r : Result Bound SumFault) (P Q : SumFault → Type 0) → ((e : SumFa
 err_as (Ok b) P Q f h = tt
 err_as (Err e) P Q f h = f e h
 
-module _ (p : Problem) (old mid : Option (List ℕ)) (kept : Keeps old mid) (table now : State) (begins : now ≡ begun table) (r : Result Bound SumFault) (last : State) where
-  pub proof_joins : IfOk r (λ b. (before : State) (parts : List Part) → IsTableOf before parts → now ≡ begun before → Joins p mid parts last b) → IfOk r (λ b. (parts : List Part) → IsTableOf table parts → Joins p old parts last b)
+module _ (p : Problem) (old mid : Option (List ℕ)) (kept : Keeps old mid) (table now : State) (begins : now ≡ begun table)
+    (r : Result Bound SumFault) (last : State) where
+  pub proof_joins : IfOk r (λ b. (before : State) (parts : List Part) → IsTableOf before parts → now ≡ begun before
+      → Joins p mid parts last b) → IfOk r (λ b. (parts : List Part) → IsTableOf table parts → Joins p old parts last b)
   proof_joins h = ok_as r _ _ (λ b f parts of. joins_kept p old mid parts last b kept (f table parts of begins)) h
 
-  pub groups_joins : IsOfKind true old → IfOk r (λ b. (before : State) (parts : List Part) (known : Option (List ℕ)) → IsTableOf before parts → now ≡ begun before → Keeps known mid → IsOfKind true known → Joins p known parts last b)
+  pub groups_joins : IsOfKind true old → IfOk r (λ b. (before : State) (parts : List Part) (known : Option (List ℕ))
+      → IsTableOf before parts → now ≡ begun before → Keeps known mid → IsOfKind true known → Joins p known parts last b)
       → IfOk r (λ b. (parts : List Part) → IsTableOf table parts → Joins p old parts last b)
   groups_joins kind h = ok_as r _ _ (λ b f parts of. f table parts old of begins kept kind) h
 
   pub kind_fault : (z : Bool) → IsOfKind z old
-      → IfErr r (λ e. (before : State) (parts : List Part) (bytes : List ℕ) → IsTableOf before parts → now ≡ begun before → mid ≡ Some bytes → is_groups bytes ≡ z → ExplainsAdded p parts bytes e)
+      → IfErr r (λ e. (before : State) (parts : List Part) (bytes : List ℕ) → IsTableOf before parts → now ≡ begun before
+      → mid ≡ Some bytes → is_groups bytes ≡ z → ExplainsAdded p parts bytes e)
       → IfErr r (λ e. (parts : List Part) (bytes : List ℕ) → IsTableOf table parts → old ≡ Some bytes → ExplainsAdded p parts bytes e)
-  kind_fault z kind h = err_as r _ _ (λ e f parts bytes of known. f table parts bytes of begins (keeps_known old mid bytes kept known) (kind bytes known)) h
+  kind_fault z kind h = err_as r _ _ (λ e f parts bytes of known. f table parts bytes of begins (keeps_known old mid bytes kept known)
+      (kind bytes known)) h
 
 -- a stream that gives only a failed read
 header_broken : (s : Stream) → s ≡ stopped (Err Read) → header_at s ≡ Err read_failed
 unfolding header_at word_at token_at
 header_broken s e = rw e refl
 
-pub broken_off : (p : Problem) (before after : Option (List ℕ)) → BreaksOff before after → (bytes : List ℕ) → before ≡ Some bytes → IsFileCheckedUpToFailedRead p bytes after
+pub broken_off : (p : Problem) (before after : Option (List ℕ)) → BreaksOff before after → (bytes : List ℕ) → before ≡ Some bytes
+    → IsFileCheckedUpToFailedRead p bytes after
 broken_off p before after b bytes e =
-    inl (b.given, subst (λ (z : Option (List ℕ)). Consumes z after b.given) e b.consumed, inl (header_broken (cut_short (stream_of b.given)) b.no_token))
+    inl (
+      b.given,
+      subst (λ (z : Option (List ℕ)). Consumes z after b.given) e b.consumed,
+      inl (header_broken (cut_short (stream_of b.given)) b.no_token),
+    )

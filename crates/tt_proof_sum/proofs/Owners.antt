@@ -46,7 +46,8 @@ module _ (a : State) (f : ℕ → ℕ) (ns : List ℕ) (i d : ℕ) (within : i <
   up_to : first_owner a (map f (take (i + 1) ns)) ≡ first_owner a (f (get_or ns i d) ∷ [])
   up_to =
       let x = get_or ns i d in
-      ap (λ (l : List ℕ). first_owner a (map f l)) (take_more ns i d within) ∙ ap (first_owner a) (map-append f (take i ns) (x ∷ [])) ∙ first_owner-append a (map f (take i ns)) (f x ∷ [])
+      ap (λ (l : List ℕ). first_owner a (map f l)) (take_more ns i d within) ∙ ap (first_owner a) (map-append f (take i ns) (x ∷ []))
+      ∙ first_owner-append a (map f (take i ns)) (f x ∷ [])
       ∙ ap (λ (o : Option ℕ). option_or o (first_owner a (f x ∷ []))) before
 
   pub none_more : owner a (f (get_or ns i d)) ≡ 0 → first_owner a (map f (take (i + 1) ns)) ≡ None
@@ -55,7 +56,9 @@ module _ (a : State) (f : ℕ → ℕ) (ns : List ℕ) (i d : ℕ) (within : i <
   pub owner_found : (owner a (f (get_or ns i d)) ≡ 0 → ⊥) → Some (owner a (f (get_or ns i d))) ≡ first_owner a (map f ns)
   owner_found some =
       let rest = first_owner a (map f (drop (i + 1) ns)) in
-      sym (ap (λ (l : List ℕ). first_owner a (map f l)) (sym (take-append-drop (i + 1) ns)) ∙ ap (first_owner a) (map-append f (take (i + 1) ns) (drop (i + 1) ns)) ∙ first_owner-append a (map f (take (i + 1) ns)) (map f (drop (i + 1) ns))
+      sym (ap (λ (l : List ℕ). first_owner a (map f l)) (sym (take-append-drop (i + 1) ns))
+      ∙ ap (first_owner a) (map-append f (take (i + 1) ns) (drop (i + 1) ns)) ∙ first_owner-append a (map f (take (i + 1) ns))
+      (map f (drop (i + 1) ns))
       ∙ ap (λ (o : Option ℕ). option_or o rest) (up_to ∙ owns a (f (get_or ns i d)) some))
 
 curriculum_places : (qs : List ℕ) → map place (map Compactness qs) ≡ map (λ (n : ℕ). 4 * n + 2) qs
@@ -68,11 +71,14 @@ course_places (c ∷ cs) = ap (λ (l : List ℕ). (4 * c + 1) ∷ l) (course_pla
 
 pub places_of_group : (g : Group) → group_places g ≡ map (λ (n : ℕ). 4 * n + 2) g.curricula ++ map (λ (n : ℕ). 4 * n + 1) g.courses
 places_of_group g =
-    map-append place (map Compactness g.curricula) (map WorkingDays g.courses) ∙ ap (λ (l : List ℕ). l ++ map place (map WorkingDays g.courses)) (curriculum_places g.curricula)
+    map-append place (map Compactness g.curricula) (map WorkingDays g.courses)
+    ∙ ap (λ (l : List ℕ). l ++ map place (map WorkingDays g.courses)) (curriculum_places g.curricula)
     ∙ ap (λ (l : List ℕ). map (λ (n : ℕ). 4 * n + 2) g.curricula ++ l) (course_places g.courses)
 
-pub group_owner : (a : State) (g : Group) → option_or (first_owner a (map (λ (n : ℕ). 4 * n + 2) g.curricula)) (first_owner a (map (λ (n : ℕ). 4 * n + 1) g.courses)) ≡ first_owner a (group_places g)
-group_owner a g = sym (ap (first_owner a) (places_of_group g) ∙ first_owner-append a (map (λ (n : ℕ). 4 * n + 2) g.curricula) (map (λ (n : ℕ). 4 * n + 1) g.courses))
+pub group_owner : (a : State) (g : Group) → option_or (first_owner a (map (λ (n : ℕ). 4 * n + 2) g.curricula))
+    (first_owner a (map (λ (n : ℕ). 4 * n + 1) g.courses)) ≡ first_owner a (group_places g)
+group_owner a g = sym (ap (first_owner a) (places_of_group g) ∙ first_owner-append a (map (λ (n : ℕ). 4 * n + 2) g.curricula)
+    (map (λ (n : ℕ). 4 * n + 1) g.courses))
 
 -- ---- marks
 
@@ -85,7 +91,8 @@ marks_then a b c xs ys h k = record {
   clash = k.clash ∙ h.clash;
   owners = λ n l.
       k.owners n l ∙ ap (λ q. cond (has_number ys n) q (owner b n)) h.proof ∙ ap (λ o. cond (has_number ys n) a.proof o) (h.owners n l)
-      ∙ either (has_number xs n) (has_number ys n) a.proof (owner a n) ∙ ap (λ z. cond z a.proof (owner a n)) (sym (list_any-append (λ m. m == n) xs ys));
+      ∙ either (has_number xs n) (has_number ys n) a.proof (owner a n) ∙ ap (λ z. cond z a.proof (owner a n))
+      (sym (list_any-append (λ m. m == n) xs ys));
 }
   where
     either : (x y : Bool) (q o : ℕ) → cond y q (cond x q o) ≡ cond (x || y) q o
@@ -93,48 +100,61 @@ marks_then a b c xs ys h k = record {
     either true false q o = refl
     either false y q o = refl
 
-pub group_marks : (a b c : State) (g : Group) → Marks a (map (λ (n : ℕ). 4 * n + 2) g.curricula) b → Marks b (map (λ (n : ℕ). 4 * n + 1) g.courses) c → Marks a (group_places g) c
-group_marks a b c g h k = subst (λ (l : List ℕ). Marks a l c) (sym (places_of_group g)) (marks_then a b c (map (λ (n : ℕ). 4 * n + 2) g.curricula) (map (λ (n : ℕ). 4 * n + 1) g.courses) h k)
+pub group_marks : (a b c : State) (g : Group) → Marks a (map (λ (n : ℕ). 4 * n + 2) g.curricula) b
+    → Marks b (map (λ (n : ℕ). 4 * n + 1) g.courses) c → Marks a (group_places g) c
+group_marks a b c g h k = subst (λ (l : List ℕ). Marks a l c) (sym (places_of_group g))
+    (marks_then a b c (map (λ (n : ℕ). 4 * n + 2) g.curricula) (map (λ (n : ℕ). 4 * n + 1) g.courses) h k)
 
 -- ---- places of a group's targets are within the table
 
-placed_courses : (n : ℕ) (cs : List ℕ) → n ≤ 8192 → AllByRecursion (λ c. c < n) cs → AllByRecursion (λ y. place y < 32768) (map WorkingDays cs)
+placed_courses : (n : ℕ) (cs : List ℕ) → n ≤ 8192 → AllByRecursion (λ c. c < n) cs → AllByRecursion (λ y. place y < 32768)
+    (map WorkingDays cs)
 placed_courses n [] at_most h = tt
 placed_courses n (c ∷ cs) at_most h = (omega (arith, h.0, at_most), placed_courses n cs at_most h.1)
 
-placed_curricula : (n : ℕ) (qs : List ℕ) (rest : List Target) → n ≤ 8192 → AllByRecursion (λ q. q < n) qs → AllByRecursion (λ y. place y < 32768) rest → AllByRecursion (λ y. place y < 32768) (map Compactness qs ++ rest)
+placed_curricula : (n : ℕ) (qs : List ℕ) (rest : List Target) → n ≤ 8192 → AllByRecursion (λ q. q < n) qs
+    → AllByRecursion (λ y. place y < 32768) rest → AllByRecursion (λ y. place y < 32768) (map Compactness qs ++ rest)
 placed_curricula n [] rest at_most h r = r
 placed_curricula n (q ∷ qs) rest at_most h r = (omega (arith, h.0, at_most), placed_curricula n qs rest at_most h.1 r)
 
-pub group_placed : (p : Problem) → IsInstance p → (k : GroupClaim) → IsClaim p k → AllByRecursion (λ y. place y < 32768) (group_targets k.group)
+pub group_placed : (p : Problem) → IsInstance p → (k : GroupClaim) → IsClaim p k → AllByRecursion (λ y. place y < 32768)
+    (group_targets k.group)
 group_placed p is k claim =
-    placed_curricula (length p.curricula) k.group.curricula (map WorkingDays k.group.courses) is.within.curricula (recursion_from_All (λ q. q < length p.curricula) k.group.curricula claim.curricula.0)
-    (placed_courses (length p.courses) k.group.courses (let at_most = is.within.courses in omega (arith, at_most)) (recursion_from_All (λ c. c < length p.courses) k.group.courses claim.courses.0))
+    placed_curricula (length p.curricula) k.group.curricula (map WorkingDays k.group.courses) is.within.curricula
+    (recursion_from_All (λ q. q < length p.curricula) k.group.curricula claim.curricula.0)
+    (placed_courses (length p.courses) k.group.courses (let at_most = is.within.courses in omega (arith, at_most))
+    (recursion_from_All (λ c. c < length p.courses) k.group.courses claim.courses.0))
 
 -- -- the meaning of an owner
 
 -- the table while a file is read, after some of its claims
-module _ (before b : State) (parts : List Part) (claims : List GroupClaim) (of : IsTableOf before parts) (marks : Marks (begun before) (map place (targets_of_claims claims)) b) where
+module _ (before b : State) (parts : List Part) (claims : List GroupClaim) (of : IsTableOf before parts)
+    (marks : Marks (begun before) (map place (targets_of_claims claims)) b) where
   abbrev targets : List Target
   targets = targets_of_claims claims
 
-  owner_is : (y : Target) → place y < 32768 → owner b (place y) ≡ cond (is_among targets y) (before.proof + 1) (first_claim 1 parts (place y))
+  owner_is : (y : Target) → place y < 32768 → owner b (place y) ≡ cond (is_among targets y) (before.proof + 1)
+      (first_claim 1 parts (place y))
   owner_is y l =
-      marks.owners (place y) l ∙ ap (λ z. cond z (before.proof + 1) (owner before (place y))) (has_place targets y) ∙ ap (λ o. cond (is_among targets y) (before.proof + 1) o) (of.owners (place y) l)
+      marks.owners (place y) l ∙ ap (λ z. cond z (before.proof + 1) (owner before (place y))) (has_place targets y)
+      ∙ ap (λ o. cond (is_among targets y) (before.proof + 1) o) (of.owners (place y) l)
 
   -- a target without an owner is unclaimed
   unowned : (y : Target) → place y < 32768 → owner b (place y) ≡ 0 → is_unclaimed parts claims y ≡ true
   unowned y l none = on (is_among targets y) refl (sym (owner_is y l) ∙ none)
     where
-      on : (z : Bool) → is_among targets y ≡ z → cond z (before.proof + 1) (first_claim 1 parts (place y)) ≡ 0 → is_unclaimed parts claims y ≡ true
+      on : (z : Bool) → is_among targets y ≡ z → cond z (before.proof + 1) (first_claim 1 parts (place y)) ≡ 0
+          → is_unclaimed parts claims y ≡ true
       on true e h = absurd (omega (arith, h))
-      on false e h = and_from (not (is_among targets y)) (list_all (λ k. not (is_among (claims_of k) y)) parts) (not_from_false (is_among targets y) e) (unclaimed 1 parts y (lit< tt) h)
+      on false e h = and_from (not (is_among targets y)) (list_all (λ k. not (is_among (claims_of k) y)) parts)
+          (not_from_false (is_among targets y) e) (unclaimed 1 parts y (lit< tt) h)
 
   -- a target owned by the newest file is among its targets
   own_target : (y : Target) → place y < 32768 → owner b (place y) ≡ b.proof → is_among targets y ≡ true
   own_target y l is = on (is_among targets y) refl (sym (owner_is y l) ∙ is ∙ marks.proof)
     where
-      on : (z : Bool) → is_among targets y ≡ z → cond z (before.proof + 1) (first_claim 1 parts (place y)) ≡ before.proof + 1 → is_among targets y ≡ true
+      on : (z : Bool) → is_among targets y ≡ z → cond z (before.proof + 1) (first_claim 1 parts (place y)) ≡ before.proof + 1
+          → is_among targets y ≡ true
       on true e h = e
       on false e h = absurd (omega (arith, h, claim_below 1 parts (place y) (lit< tt), of.number))
 
@@ -152,12 +172,16 @@ module _ (before b : State) (parts : List Part) (claims : List GroupClaim) (of :
       on true h = absurd (other (sym h ∙ sym marks.proof))
       on false h = claimed h
 
-  pub all_unclaimed : (ys : List Target) → AllByRecursion (λ y. place y < 32768) ys → first_owner b (map place ys) ≡ None → list_all (is_unclaimed parts claims) ys ≡ true
+  pub all_unclaimed : (ys : List Target) → AllByRecursion (λ y. place y < 32768) ys → first_owner b (map place ys) ≡ None
+      → list_all (is_unclaimed parts claims) ys ≡ true
   all_unclaimed [] placed e = refl
   all_unclaimed (y ∷ ys) placed e = on (owner b (place y) == 0) refl e (λ h. all_unclaimed ys placed.1 h)
     where
-      on : (z : Bool) → (owner b (place y) == 0) ≡ z → cond z (first_owner b (map place ys)) (Some (owner b (place y))) ≡ None → (first_owner b (map place ys) ≡ None → list_all (is_unclaimed parts claims) ys ≡ true) → list_all (is_unclaimed parts claims) (y ∷ ys) ≡ true
-      on true z h rest = and_from (is_unclaimed parts claims y) (list_all (is_unclaimed parts claims) ys) (unowned y placed.0 (eqb-true (owner b (place y)) 0 z)) (rest h)
+      on : (z : Bool) → (owner b (place y) == 0) ≡ z → cond z (first_owner b (map place ys)) (Some (owner b (place y))) ≡ None
+          → (first_owner b (map place ys) ≡ None → list_all (is_unclaimed parts claims) ys ≡ true)
+          → list_all (is_unclaimed parts claims) (y ∷ ys) ≡ true
+      on true z h rest = and_from (is_unclaimed parts claims y) (list_all (is_unclaimed parts claims) ys)
+          (unowned y placed.0 (eqb-true (owner b (place y)) 0 z)) (rest h)
       on false z h rest = absurd cc
 
   pub record FirstOwned (ys : List Target) (o : ℕ) : Type 0 where
@@ -170,11 +194,13 @@ module _ (before b : State) (parts : List Part) (claims : List GroupClaim) (of :
     pub owned : owner b (place target) ≡ o
     pub some : o ≡ 0 → ⊥
 
-  pub first_owned : (ys : List Target) (o : ℕ) → AllByRecursion (λ y. place y < 32768) ys → first_owner b (map place ys) ≡ Some o → FirstOwned ys o
+  pub first_owned : (ys : List Target) (o : ℕ) → AllByRecursion (λ y. place y < 32768) ys → first_owner b (map place ys) ≡ Some o
+      → FirstOwned ys o
   first_owned [] o placed e = absurd cc
   first_owned (y ∷ ys) o placed e = on (owner b (place y) == 0) refl e (λ h. first_owned ys o placed.1 h)
     where
-      on : (z : Bool) → (owner b (place y) == 0) ≡ z → cond z (first_owner b (map place ys)) (Some (owner b (place y))) ≡ Some o → (first_owner b (map place ys) ≡ Some o → FirstOwned ys o) → FirstOwned (y ∷ ys) o
+      on : (z : Bool) → (owner b (place y) == 0) ≡ z → cond z (first_owner b (map place ys)) (Some (owner b (place y))) ≡ Some o
+          → (first_owner b (map place ys) ≡ Some o → FirstOwned ys o) → FirstOwned (y ∷ ys) o
       on true z h rest =
           let r = rest h in
           record {
@@ -182,24 +208,50 @@ module _ (before b : State) (parts : List Part) (claims : List GroupClaim) (of :
             target = r.target;
             more = r.more;
             split = ap (λ (l : List Target). y ∷ l) r.split;
-            unclaimed_before = and_from (is_unclaimed parts claims y) (list_all (is_unclaimed parts claims) r.first) (unowned y placed.0 (eqb-true (owner b (place y)) 0 z)) r.unclaimed_before;
+            unclaimed_before = and_from (is_unclaimed parts claims y) (list_all (is_unclaimed parts claims) r.first)
+                (unowned y placed.0 (eqb-true (owner b (place y)) 0 z)) r.unclaimed_before;
             within = r.within;
             owned = r.owned;
             some = r.some;
           }
       on false z h rest =
           let is : owner b (place y) ≡ o = cc in
-          record { first = []; target = y; more = ys; split = refl; unclaimed_before = refl; within = placed.0; owned = is; some = λ n. both_ways (owner b (place y) == 0) z (eq-eqb (owner b (place y)) 0 (is ∙ n)) }
+          record {
+            first = [];
+            target = y;
+            more = ys;
+            split = refl;
+            unclaimed_before = refl;
+            within = placed.0;
+            owned = is;
+            some = λ n. both_ways (owner b (place y) == 0) z (eq-eqb (owner b (place y)) 0 (is ∙ n));
+          }
 
-  pub claimed_twice : (ys : List Target) → AllByRecursion (λ y. place y < 32768) ys → first_owner b (map place ys) ≡ Some b.proof → FirstClaimed parts claims ys (λ y. is_among targets y ≡ true)
+  pub claimed_twice : (ys : List Target) → AllByRecursion (λ y. place y < 32768) ys → first_owner b (map place ys) ≡ Some b.proof
+      → FirstClaimed parts claims ys (λ y. is_among targets y ≡ true)
   claimed_twice ys placed e =
       let f = first_owned ys b.proof placed e in
-      record { before = f.first; target = f.target; more = f.more; split = f.split; unclaimed = f.unclaimed_before; is = own_target f.target f.within f.owned }
+      record {
+        before = f.first;
+        target = f.target;
+        more = f.more;
+        split = f.split;
+        unclaimed = f.unclaimed_before;
+        is = own_target f.target f.within f.owned;
+      }
 
-  pub claimed_before : (ys : List Target) (o : ℕ) → AllByRecursion (λ y. place y < 32768) ys → first_owner b (map place ys) ≡ Some o → (o ≡ b.proof → ⊥) → FirstClaimed parts claims ys (IsClaimedBy parts o)
+  pub claimed_before : (ys : List Target) (o : ℕ) → AllByRecursion (λ y. place y < 32768) ys → first_owner b (map place ys) ≡ Some o
+      → (o ≡ b.proof → ⊥) → FirstClaimed parts claims ys (IsClaimedBy parts o)
   claimed_before ys o placed e other =
       let f = first_owned ys o placed e in
-      record { before = f.first; target = f.target; more = f.more; split = f.split; unclaimed = f.unclaimed_before; is = earlier_target f.target o f.within f.owned f.some other }
+      record {
+        before = f.first;
+        target = f.target;
+        more = f.more;
+        split = f.split;
+        unclaimed = f.unclaimed_before;
+        is = earlier_target f.target o f.within f.owned f.some other;
+      }
 
 -- -- another claim
 
@@ -207,12 +259,15 @@ abbrev targets_in : GroupClaim → List Target
 targets_in k = group_targets k.group
 
 -- a target is in none of the claims
-in_none : (claims : List GroupClaim) (y : Target) → not (is_among (targets_of_claims claims) y) ≡ list_all (λ k. not (is_among (targets_in k) y)) claims
+in_none : (claims : List GroupClaim) (y : Target) → not (is_among (targets_of_claims claims) y) ≡ list_all
+    (λ k. not (is_among (targets_in k) y)) claims
 in_none [] y = refl
 in_none (k ∷ ks) y =
-    ap not (list_any-append _ (targets_in k) (targets_of_claims ks)) ∙ neither (is_among (targets_in k) y) (is_among (targets_of_claims ks) y) ∙ ap (λ z. not (is_among (targets_in k) y) && z) (in_none ks y)
+    ap not (list_any-append _ (targets_in k) (targets_of_claims ks)) ∙ neither (is_among (targets_in k) y)
+    (is_among (targets_of_claims ks) y) ∙ ap (λ z. not (is_among (targets_in k) y) && z) (in_none ks y)
 
-both_all : {X : Type 0} (f g : X → Bool) (xs : List X) → list_all (λ x. f x && g x) xs ≡ true → (list_all f xs ≡ true) × (list_all g xs ≡ true)
+both_all : {X : Type 0} (f g : X → Bool) (xs : List X) → list_all (λ x. f x && g x) xs ≡ true → (list_all f xs ≡ true)
+    × (list_all g xs ≡ true)
 both_all f g [] e = (refl, refl)
 both_all f g (x ∷ xs) e =
     let h = and_parts (f x && g x) (list_all (λ z. f z && g z) xs) e in
@@ -222,41 +277,52 @@ both_all f g (x ∷ xs) e =
 
 -- the targets of claims and of another claim
 more_targets : (claims : List GroupClaim) (k : GroupClaim) → targets_of_claims (claims ++ k ∷ []) ≡ targets_of_claims claims ++ targets_in k
-more_targets claims k = flat_map-append targets_in claims (k ∷ []) ∙ ap (λ (l : List Target). targets_of_claims claims ++ l) (append-nil (targets_in k))
+more_targets claims k = flat_map-append targets_in claims (k ∷ []) ∙ ap (λ (l : List Target). targets_of_claims claims ++ l)
+    (append-nil (targets_in k))
 
-pub more_places : (claims : List GroupClaim) (k : GroupClaim) → map place (targets_of_claims (claims ++ k ∷ [])) ≡ map place (targets_of_claims claims) ++ group_places k.group
+pub more_places : (claims : List GroupClaim) (k : GroupClaim) → map place (targets_of_claims (claims ++ k ∷ [])) ≡ map place
+    (targets_of_claims claims) ++ group_places k.group
 more_places claims k = ap (map place) (more_targets claims k) ∙ map-append place (targets_of_claims claims) (targets_in k)
 
 -- if none of a claim's targets is in the other claims, it is apart from them
-own_apart : (claims : List GroupClaim) (k : GroupClaim) → list_all (λ y. not (is_among (targets_of_claims claims) y)) (targets_in k) ≡ true → list_all (λ c. are_apart (targets_in c) (targets_in k)) claims ≡ true
+own_apart : (claims : List GroupClaim) (k : GroupClaim) → list_all (λ y. not (is_among (targets_of_claims claims) y)) (targets_in k)
+    ≡ true → list_all (λ c. are_apart (targets_in c) (targets_in k)) claims ≡ true
 own_apart claims k e =
     list_all-swap (λ c y. not (is_among (targets_in c) y)) claims (targets_in k)
-    ∙ sym (list_all-same (λ y. not (is_among (targets_of_claims claims) y)) (λ y. list_all (λ c. not (is_among (targets_in c) y)) claims) (targets_in k) (in_none claims)) ∙ e
+    ∙ sym (list_all-same (λ y. not (is_among (targets_of_claims claims) y))
+    (λ y. list_all (λ c. not (is_among (targets_in c) y)) claims) (targets_in k) (in_none claims)) ∙ e
 
 -- targets without an owner are in none of the claims
-own_unclaimed : (a b : State) (claims : List GroupClaim) → Marks a (map place (targets_of_claims claims)) b → 0 < a.proof → (ys : List Target) → AllByRecursion (λ y. place y < 32768) ys → first_owner b (map place ys) ≡ None
+own_unclaimed : (a b : State) (claims : List GroupClaim) → Marks a (map place (targets_of_claims claims)) b → 0 < a.proof
+    → (ys : List Target) → AllByRecursion (λ y. place y < 32768) ys → first_owner b (map place ys) ≡ None
     → list_all (λ y. not (is_among (targets_of_claims claims) y)) ys ≡ true
 own_unclaimed a b claims marks some [] placed e = refl
-own_unclaimed a b claims marks some (y ∷ ys) placed e = on (owner b (place y) == 0) refl e (λ h. own_unclaimed a b claims marks some ys placed.1 h)
+own_unclaimed a b claims marks some (y ∷ ys) placed e = on (owner b (place y) == 0) refl e
+    (λ h. own_unclaimed a b claims marks some ys placed.1 h)
   where
     free : owner b (place y) ≡ 0 → not (is_among (targets_of_claims claims) y) ≡ true
     free none = by (is_among (targets_of_claims claims) y) refl
       where
         by : (z : Bool) → is_among (targets_of_claims claims) y ≡ z → not (is_among (targets_of_claims claims) y) ≡ true
         by true h =
-            let owned : owner b (place y) ≡ a.proof = marks.owners (place y) placed.0 ∙ ap (λ z. cond z a.proof (owner a (place y))) (has_place (targets_of_claims claims) y ∙ h) in
+            let owned : owner b (place y) ≡ a.proof = marks.owners (place y) placed.0 ∙ ap (λ z. cond z a.proof (owner a (place y)))
+            (has_place (targets_of_claims claims) y ∙ h) in
             absurd (omega (arith, owned, none, some))
         by false h = not_from_false (is_among (targets_of_claims claims) y) h
 
-    on : (z : Bool) → (owner b (place y) == 0) ≡ z → cond z (first_owner b (map place ys)) (Some (owner b (place y))) ≡ None → (first_owner b (map place ys) ≡ None → list_all (λ x. not (is_among (targets_of_claims claims) x)) ys ≡ true)
+    on : (z : Bool) → (owner b (place y) == 0) ≡ z → cond z (first_owner b (map place ys)) (Some (owner b (place y))) ≡ None
+        → (first_owner b (map place ys) ≡ None → list_all (λ x. not (is_among (targets_of_claims claims) x)) ys ≡ true)
         → list_all (λ x. not (is_among (targets_of_claims claims) x)) (y ∷ ys) ≡ true
-    on true z h rest = and_from (not (is_among (targets_of_claims claims) y)) (list_all (λ x. not (is_among (targets_of_claims claims) x)) ys) (free (eqb-true (owner b (place y)) 0 z)) (rest h)
+    on true z h rest = and_from (not (is_among (targets_of_claims claims) y))
+        (list_all (λ x. not (is_among (targets_of_claims claims) x)) ys) (free (eqb-true (owner b (place y)) 0 z)) (rest h)
     on false z h rest = absurd cc
 
 -- claims that pass and another claim whose targets are unclaimed pass together
-more_pass : (p : Problem) (parts : List Part) (claims : List GroupClaim) (k : GroupClaim) → Pass p parts claims → list_all (is_unclaimed parts claims) (targets_in k) ≡ true → IsGroupBound p k.group k.value → Pass p parts (claims ++ k ∷ [])
+more_pass : (p : Problem) (parts : List Part) (claims : List GroupClaim) (k : GroupClaim) → Pass p parts claims
+    → list_all (is_unclaimed parts claims) (targets_in k) ≡ true → IsGroupBound p k.group k.value → Pass p parts (claims ++ k ∷ [])
 more_pass p parts claims k h new bound =
-    let parted = both_all (λ y. not (is_among (targets_of_claims claims) y)) (λ y. list_all (λ q. not (is_among (claims_of q) y)) parts) (targets_in k) new in
+    let parted = both_all (λ y. not (is_among (targets_of_claims claims) y)) (λ y. list_all (λ q. not (is_among (claims_of q) y)) parts)
+    (targets_in k) new in
     let test : GroupClaim → GroupClaim → Bool = λ a b. are_apart (targets_in a) (targets_in b) in
     let own = own_apart claims k parted.0 in
     let ys = targets_of_claims claims in
@@ -265,7 +331,8 @@ more_pass p parts claims k h new bound =
     record {
       bounds = All-push (λ z. IsGroupBound p z.group z.value) claims k h.bounds bound;
       apart = each_two-push test claims k h.apart own;
-      free = ap (λ (l : List Target). list_all (λ q. are_apart (claims_of q) l) parts) (more_targets claims k) ∙ list_all-swap (λ q y. not (is_among (claims_of q) y)) parts (ys ++ targets_in k)
+      free = ap (λ (l : List Target). list_all (λ q. are_apart (claims_of q) l) parts) (more_targets claims k)
+          ∙ list_all-swap (λ q y. not (is_among (claims_of q) y)) parts (ys ++ targets_in k)
           ∙ list_all-append clear ys (targets_in k) ∙ and_from (list_all clear ys) (list_all clear (targets_in k)) old parted.1;
     }
 
@@ -273,7 +340,8 @@ owner_none : (b : State) (ks : List ℕ) (k : ℕ) → first_owner b ks ≡ None
 owner_none b [] k e h = absurd cc
 owner_none b (m ∷ ms) k e h = on (owner b m == 0) refl e (λ f g. owner_none b ms k f g)
   where
-    on : (z : Bool) → (owner b m == 0) ≡ z → cond z (first_owner b ms) (Some (owner b m)) ≡ None → (first_owner b ms ≡ None → has_number ms k ≡ true → owner b k ≡ 0) → owner b k ≡ 0
+    on : (z : Bool) → (owner b m == 0) ≡ z → cond z (first_owner b ms) (Some (owner b m)) ≡ None
+        → (first_owner b ms ≡ None → has_number ms k ≡ true → owner b k ≡ 0) → owner b k ≡ 0
     on true z f rest = elim (or_cases (m == k) (has_number ms k) h) [
       | inl same ↦ subst (λ (x : ℕ). owner b x ≡ 0) (eqb-true m k same) (eqb-true (owner b m) 0 z)
       | inr there ↦ rest f there
@@ -286,11 +354,17 @@ entered_none p a = record {
   marks = marks_none a;
   fresh = λ k l h. absurd cc;
   passed_alone = record { bounds = All-nil (λ k. IsGroupBound p k.group k.value); apart = refl; free = refl };
-  passed = λ before parts of begins. record { bounds = All-nil (λ k. IsGroupBound p k.group k.value); apart = refl; free = all_pass (λ k. true) parts (λ k. refl) };
+  passed = λ before parts of begins. record {
+    bounds = All-nil (λ k. IsGroupBound p k.group k.value);
+    apart = refl;
+    free = all_pass (λ k. true) parts (λ k. refl);
+  };
 }
 
 -- places that are marked, and further places without an owner, had no owner before
-fresh_more : (a b : State) (old new : List ℕ) → Marks a old b → first_owner b new ≡ None → ((k : ℕ) → k < 32768 → has_number old k ≡ true → owner a k ≡ 0) → (n : ℕ) → n < 32768 → has_number (old ++ new) n ≡ true → owner a n ≡ 0
+fresh_more : (a b : State) (old new : List ℕ) → Marks a old b → first_owner b new ≡ None
+    → ((k : ℕ) → k < 32768 → has_number old k ≡ true → owner a k ≡ 0) → (n : ℕ) → n < 32768 → has_number (old ++ new) n ≡ true
+    → owner a n ≡ 0
 fresh_more a b old new marks none fresh n l has = on (has_number old n) refl
   where
     on : (z : Bool) → has_number old n ≡ z → owner a n ≡ 0
@@ -300,18 +374,26 @@ fresh_more a b old new marks none fresh n l has = on (has_number old n) refl
         let now : owner b n ≡ owner a n = marks.owners n l ∙ ap (λ z. cond z a.proof (owner a n)) e in
         sym now ∙ owner_none b new n none there
 
-pub entered_more : (p : Problem) → IsInstance p → (a b c : State) (claims : List GroupClaim) (k : GroupClaim) → Entered p a claims b → IsClaim p k → first_owner b (group_places k.group) ≡ None
+pub entered_more : (p : Problem) → IsInstance p → (a b c : State) (claims : List GroupClaim) (k : GroupClaim) → Entered p a claims b
+    → IsClaim p k → first_owner b (group_places k.group) ≡ None
     → Marks b (group_places k.group) c → IsGroupBound p k.group k.value → 0 < a.proof → Entered p a (claims ++ k ∷ []) c
 entered_more p is a b c claims k h claim none marks bound begun_file =
     let old = map place (targets_of_claims claims) in
     let new = group_places k.group in
-    let alone = each_two-push (λ x y. are_apart (targets_in x) (targets_in y)) claims k h.passed_alone.apart (own_apart claims k (own_unclaimed a b claims h.marks begun_file (targets_in k) (group_placed p is k claim) none)) in
+    let alone = each_two-push (λ x y. are_apart (targets_in x) (targets_in y)) claims k h.passed_alone.apart
+    (own_apart claims k (own_unclaimed a b claims h.marks begun_file (targets_in k) (group_placed p is k claim) none)) in
     record {
       each = All-push (IsClaim p) claims k h.each claim;
       marks = subst (λ (l : List ℕ). Marks a l c) (sym (more_places claims k)) (marks_then a b c old new h.marks marks);
-      fresh = λ n l has. fresh_more a b old new h.marks none h.fresh n l (ap (λ (x : List ℕ). has_number x n) (sym (more_places claims k)) ∙ has);
-      passed_alone = record { bounds = All-push (λ z. IsGroupBound p z.group z.value) claims k h.passed_alone.bounds bound; apart = alone; free = refl };
+      fresh = λ n l has. fresh_more a b old new h.marks none h.fresh n l
+          (ap (λ (x : List ℕ). has_number x n) (sym (more_places claims k)) ∙ has);
+      passed_alone = record {
+        bounds = All-push (λ z. IsGroupBound p z.group z.value) claims k h.passed_alone.bounds bound;
+        apart = alone;
+        free = refl;
+      };
       passed = λ before parts of begins.
           more_pass p parts claims k (h.passed before parts of begins)
-          (all_unclaimed before b parts claims of (subst (λ (z : State). Marks z old b) begins h.marks) (targets_in k) (group_placed p is k claim) none) bound;
+          (all_unclaimed before b parts claims of (subst (λ (z : State). Marks z old b) begins h.marks) (targets_in k)
+          (group_placed p is k claim) none) bound;
     }

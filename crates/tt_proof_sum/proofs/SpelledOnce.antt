@@ -49,16 +49,20 @@ use Rattle.tt_proof_sum.proofs.Together.{not_both}
 
 -- -- a proof isn't a file of groups
 
-starts : (bytes : List ℕ) (ps : List Piece) (ts : List Placed) → tokens_of bytes ≡ ts → Begins (Text (codes "CTTP") ∷ ps) ts [] → is_groups bytes ≡ false
+starts : (bytes : List ℕ) (ps : List Piece) (ts : List Placed) → tokens_of bytes ≡ ts → Begins (Text (codes "CTTP") ∷ ps) ts []
+    → is_groups bytes ≡ false
 starts bytes ps [] e b = absurd b
 starts bytes ps (t ∷ ts) e b = proofs_are_no_groups bytes t ts e b.0
 
-pub proofs_are_trees : (p : Problem) (bytes : List ℕ) (k : TreePart) → SpellsProof p bytes k.version k.bound k.tree → is_groups bytes ≡ false
+pub proofs_are_trees : (p : Problem) (bytes : List ℕ) (k : TreePart) → SpellsProof p bytes k.version k.bound k.tree
+    → is_groups bytes ≡ false
 proofs_are_trees p bytes k spelled =
-    starts bytes (Text (version_text k.version) ∷ Text (codes "bound") ∷ bound_piece k.bound ∷ (spelled.body ++ Text (codes "end") ∷ [])) (tokens_of bytes) refl spelled.tokens
+    starts bytes (Text (version_text k.version) ∷ Text (codes "bound") ∷ bound_piece k.bound ∷
+    (spelled.body ++ Text (codes "end") ∷ [])) (tokens_of bytes) refl spelled.tokens
 
 -- a fault of a text as a tree proof is not one of a file of groups, unless a read failed
-pub read_or_tree : (p : Problem) (bytes : List ℕ) (k : GroupsPart) (f : CheckFault) → IsGroupsPart p bytes k → IsTreeFault p bytes f → f ≡ check.Text (text.Feed feed.Read)
+pub read_or_tree : (p : Problem) (bytes : List ℕ) (k : GroupsPart) (f : CheckFault) → IsGroupsPart p bytes k → IsTreeFault p bytes f
+    → f ≡ check.Text (text.Feed feed.Read)
 read_or_tree p bytes k f spelled reported = elim reported.kind [
   | inl e ↦ e
   | inr e ↦ absurd (both_ways (is_groups bytes) e spelled.kind)
@@ -93,28 +97,37 @@ pub record ContinuesWith (sizes : Sizes) (all claims : List GroupClaim) (rest en
   pub reads : ReadsClaims sizes rest more end
 
 module _ (sizes : Sizes) where
-  pub goes_on : (s : Stream) (all claims : List GroupClaim) (rest end after : Stream) → ReadsClaims sizes s all end → group_at sizes end ≡ Ok (None, after) → ReadsClaims sizes s claims rest → ContinuesWith sizes all claims rest end
-  goes_on s all [] rest end after reads finish part = record { more = all; split = refl; reads = subst (λ (x : Stream). ReadsClaims sizes x all end) part reads }
+  pub goes_on : (s : Stream) (all claims : List GroupClaim) (rest end after : Stream) → ReadsClaims sizes s all end
+      → group_at sizes end ≡ Ok (None, after) → ReadsClaims sizes s claims rest → ContinuesWith sizes all claims rest end
+  goes_on s all [] rest end after reads finish part =
+      record { more = all; split = refl; reads = subst (λ (x : Stream). ReadsClaims sizes x all end) part reads }
   goes_on s [] (k ∷ ks) rest end after reads finish part =
       absurd (not_both_answers k part.0 after (sym part.1 ∙ ap (group_at sizes) reads ∙ finish))
   goes_on s (x ∷ xs) (k ∷ ks) rest end after reads finish part =
       let same = claim_same x k reads.0 part.0 (sym reads.1 ∙ part.1) in
       let r = goes_on part.0 xs ks rest end after (subst (λ (z : Stream). ReadsClaims sizes z xs end) same.1 reads.2) finish part.2 in
-      record { more = r.more; split = ap (λ (z : GroupClaim). z ∷ xs) same.0 ∙ ap (λ (l : List GroupClaim). k ∷ l) r.split; reads = r.reads }
+      record {
+        more = r.more;
+        split = ap (λ (z : GroupClaim). z ∷ xs) same.0 ∙ ap (λ (l : List GroupClaim). k ∷ l) r.split;
+        reads = r.reads;
+      }
 
   -- the next claim is one of all claims
-  pub next_is : (all claims : List GroupClaim) (rest end after mid : Stream) (k : GroupClaim) → ContinuesWith sizes all claims rest end → group_at sizes end ≡ Ok (None, after) → group_at sizes rest ≡ Ok (Some k, mid)
+  pub next_is : (all claims : List GroupClaim) (rest end after mid : Stream) (k : GroupClaim) → ContinuesWith sizes all claims rest end
+      → group_at sizes end ≡ Ok (None, after) → group_at sizes rest ≡ Ok (Some k, mid)
       → (more : List GroupClaim) × (all ≡ claims ++ k ∷ more)
   next_is all claims rest end after mid k g finish read = on g.more g.split g.reads
     where
-      on : (more : List GroupClaim) → all ≡ claims ++ more → ReadsClaims sizes rest more end → (more : List GroupClaim) × (all ≡ claims ++ k ∷ more)
+      on : (more : List GroupClaim) → all ≡ claims ++ more → ReadsClaims sizes rest more end → (more : List GroupClaim)
+          × (all ≡ claims ++ k ∷ more)
       on [] split reads =
           absurd (not_both_answers k mid after (sym read ∙ ap (group_at sizes) reads ∙ finish))
       on (m ∷ ms) split reads =
           (ms, split ∙ ap (λ (z : GroupClaim). claims ++ z ∷ ms) (claim_same m k reads.0 mid (sym reads.1 ∙ read)).0)
 
   -- if no claim follows, the claims read are all claims
-  pub none_is : (all claims : List GroupClaim) (rest end mid : Stream) → ContinuesWith sizes all claims rest end → group_at sizes rest ≡ Ok (None, mid) → all ≡ claims
+  pub none_is : (all claims : List GroupClaim) (rest end mid : Stream) → ContinuesWith sizes all claims rest end
+      → group_at sizes rest ≡ Ok (None, mid) → all ≡ claims
   none_is all claims rest end mid g read = on g.more g.split g.reads
     where
       on : (more : List GroupClaim) → all ≡ claims ++ more → ReadsClaims sizes rest more end → all ≡ claims
@@ -123,7 +136,8 @@ module _ (sizes : Sizes) where
           absurd (not_both_answers m reads.0 mid (sym reads.1 ∙ read))
 
   -- after claims of a complete file the text doesn't fail
-  pub never_fails : (all claims : List GroupClaim) (rest end after : Stream) (t : TextFault) → ContinuesWith sizes all claims rest end → group_at sizes end ≡ Ok (None, after) → group_at sizes rest ≡ Err t → ⊥
+  pub never_fails : (all claims : List GroupClaim) (rest end after : Stream) (t : TextFault) → ContinuesWith sizes all claims rest end
+      → group_at sizes end ≡ Ok (None, after) → group_at sizes rest ≡ Err t → ⊥
   never_fails all claims rest end after t g finish read = on g.more g.reads
     where
       on : (more : List GroupClaim) → ReadsClaims sizes rest more end → ⊥
@@ -144,15 +158,19 @@ header_bound b c s t e =
     let same : (b, s) ≡ (c, t) = cc in
     (ap (λ (x : ℕ × Stream). x.0) same, ap (λ (x : ℕ × Stream). x.1) same)
 
-pub groups_read : (p : Problem) → IsInstance p → (bytes : List ℕ) (b : ℕ) (claims : List GroupClaim) → SpellsGroups p bytes b claims → ReadsFile (sizes_of p) (stream_of bytes) b claims
-groups_read p is bytes b claims spelled = spelled_reads p (sizes_of p) (are_sizes_of p) (are_small p (sizes_of p) is (are_sizes_of p)) bytes b claims spelled
+pub groups_read : (p : Problem) → IsInstance p → (bytes : List ℕ) (b : ℕ) (claims : List GroupClaim) → SpellsGroups p bytes b claims
+    → ReadsFile (sizes_of p) (stream_of bytes) b claims
+groups_read p is bytes b claims spelled = spelled_reads p (sizes_of p) (are_sizes_of p)
+    (are_small p (sizes_of p) is (are_sizes_of p)) bytes b claims spelled
 
-groups_once : (p : Problem) → IsInstance p → (bytes : List ℕ) (b c : ℕ) (xs ys : List GroupClaim) → SpellsGroups p bytes b xs → SpellsGroups p bytes c ys → (b ≡ c) × (xs ≡ ys)
+groups_once : (p : Problem) → IsInstance p → (bytes : List ℕ) (b c : ℕ) (xs ys : List GroupClaim) → SpellsGroups p bytes b xs
+    → SpellsGroups p bytes c ys → (b ≡ c) × (xs ≡ ys)
 groups_once p is bytes b c xs ys h k =
     let r = groups_read p is bytes b xs h in
     let q = groups_read p is bytes c ys k in
     let same = header_bound b c r.headed q.headed (sym r.header ∙ q.header) in
-    let g = goes_on (sizes_of p) q.headed ys xs r.listed q.listed q.ended q.claims q.finish (subst (λ (s : Stream). ReadsClaims (sizes_of p) s xs r.listed) same.1 r.claims) in
+    let g = goes_on (sizes_of p) q.headed ys xs r.listed q.listed q.ended q.claims q.finish
+    (subst (λ (s : Stream). ReadsClaims (sizes_of p) s xs r.listed) same.1 r.claims) in
     (same.0, sym (none_is (sizes_of p) ys xs r.listed q.listed r.ended g r.finish))
 
 abbrev tree_part : ℕ → Bound → Tree → Part
@@ -164,7 +182,8 @@ groups_part b claims = GroupsFile (record { bound = b; claims = claims })
 pub same_part : (p : Problem) → IsInstance p → (bytes : List ℕ) (k l : Part) → IsPart p bytes k → IsPart p bytes l → k ≡ l
 same_part p is bytes (TreeProof k) (TreeProof l) h i =
     let same = spelled_once p is bytes k.version l.version k.bound l.bound k.tree l.tree h.spelled i.spelled in
-    ap (λ (v : ℕ). tree_part v k.bound k.tree) same.0.0 ∙ ap (λ (b : Bound). tree_part l.version b k.tree) same.0.1 ∙ ap (λ (t : Tree). tree_part l.version l.bound t) same.1
+    ap (λ (v : ℕ). tree_part v k.bound k.tree) same.0.0 ∙ ap (λ (b : Bound). tree_part l.version b k.tree) same.0.1
+    ∙ ap (λ (t : Tree). tree_part l.version l.bound t) same.1
 same_part p is bytes (TreeProof k) (GroupsFile l) h i = absurd (both_ways (is_groups bytes) (proofs_are_trees p bytes k h.spelled) i.kind)
 same_part p is bytes (GroupsFile k) (TreeProof l) h i = absurd (both_ways (is_groups bytes) (proofs_are_trees p bytes l i.spelled) h.kind)
 same_part p is bytes (GroupsFile k) (GroupsFile l) h i =
@@ -177,27 +196,33 @@ abbrev targets_in : GroupClaim → List Target
 targets_in k = group_targets k.group
 
 -- a target of one of the claims is among the targets of all claims
-pub claim_among : (before : List GroupClaim) (k : GroupClaim) (more : List GroupClaim) (y : Target) → is_among (targets_in k) y ≡ true → is_among (targets_of_claims (before ++ k ∷ more)) y ≡ true
+pub claim_among : (before : List GroupClaim) (k : GroupClaim) (more : List GroupClaim) (y : Target) → is_among (targets_in k) y ≡ true
+    → is_among (targets_of_claims (before ++ k ∷ more)) y ≡ true
 claim_among before k more y h =
     let among : GroupClaim → Bool = λ x. is_among (targets_in x) y in
     list_any-of_flat_map (same_target y) targets_in (before ++ k ∷ more) ∙ list_any-append among before (k ∷ more)
     ∙ or_right (list_any among before) (list_any among (k ∷ more)) (or_left (among k) (list_any among more) h)
 
 -- the target at the split is among these targets
-pub split_among : (targets before : List Target) (y : Target) (more : List Target) → targets ≡ before ++ y ∷ more → is_among targets y ≡ true
+pub split_among : (targets before : List Target) (y : Target) (more : List Target) → targets ≡ before ++ y ∷ more
+    → is_among targets y ≡ true
 split_among targets before y more split =
     ap (λ (l : List Target). is_among l y) split ∙ list_any-append (same_target y) before (y ∷ more)
-    ∙ or_right (list_any (same_target y) before) (is_among (y ∷ more) y) (or_left (same_target y y) (is_among more y) (same_target-itself y))
+    ∙ or_right (list_any (same_target y) before) (is_among (y ∷ more) y)
+    (or_left (same_target y y) (is_among more y) (same_target-itself y))
 
 -- no target of a claim is a target of those before it
-claims_meet : (before : List GroupClaim) (k : GroupClaim) (more : List GroupClaim) (y : Target) → AreClaimsApart (before ++ k ∷ more) → is_among (targets_of_claims before) y ≡ true → is_among (targets_in k) y ≡ true → ⊥
+claims_meet : (before : List GroupClaim) (k : GroupClaim) (more : List GroupClaim) (y : Target) → AreClaimsApart (before ++ k ∷ more)
+    → is_among (targets_of_claims before) y ≡ true → is_among (targets_in k) y ≡ true → ⊥
 claims_meet before k more y apart earlier here =
     let test : GroupClaim → GroupClaim → Bool = λ a b. are_apart (targets_in a) (targets_in b) in
     let whole : AreClaimsApart ((before ++ k ∷ []) ++ more) = subst AreClaimsApart (sym (append_assoc before (k ∷ []) more)) apart in
     let front = (each_two-of_append test (before ++ k ∷ []) more whole).0 in
     let all = each_two-last test before k front in
-    let w = member_from_any (λ (x : GroupClaim). is_among (targets_in x) y) before (sym (list_any-of_flat_map (same_target y) targets_in before) ∙ earlier) in
-    let pair = at_member (λ (x : GroupClaim). are_apart (targets_in x) (targets_in k) ≡ true) before w.0 (each_from_list_all (λ x. are_apart (targets_in x) (targets_in k)) before all) w.1 in
+    let w = member_from_any (λ (x : GroupClaim). is_among (targets_in x) y) before
+    (sym (list_any-of_flat_map (same_target y) targets_in before) ∙ earlier) in
+    let pair = at_member (λ (x : GroupClaim). are_apart (targets_in x) (targets_in k) ≡ true) before w.0
+    (each_from_list_all (λ x. are_apart (targets_in x) (targets_in k)) before all) w.1 in
     not_both (targets_in w.0) (targets_in k) pair y w.2 here
 
 module _ (p : Problem) (is : IsInstance p) (parts : List Part) (bytes : List ℕ) (k : GroupsPart) (spelled : IsGroupsPart p bytes k) where
@@ -205,27 +230,37 @@ module _ (p : Problem) (is : IsInstance p) (parts : List Part) (bytes : List ℕ
   file = groups_read p is bytes k.bound k.claims spelled.spelled
 
   -- the rest of the file continues the part that was read, up to its end
-  read_on : {P : ℕ → List GroupClaim → Stream → Type 0} → (a : AfterClaims p parts (stream_of bytes) P) → (a.bound ≡ k.bound) × ContinuesWith (sizes_of p) k.claims a.claims a.rest file.listed
+  read_on : {P : ℕ → List GroupClaim → Stream → Type 0} → (a : AfterClaims p parts (stream_of bytes) P) → (a.bound ≡ k.bound)
+      × ContinuesWith (sizes_of p) k.claims a.claims a.rest file.listed
   read_on a =
-      let same = header_bound a.bound k.bound a.headed file.headed (sym a.header ∙ file.header) in
-      (same.0, goes_on (sizes_of p) file.headed k.claims a.claims a.rest file.listed file.ended file.claims file.finish (subst (λ (s : Stream). ReadsClaims (sizes_of p) s a.claims a.rest) same.1 a.reads))
+      let same = header_bound a.bound k.bound a.headed file.headed (sym a.header ∙ file.header) in (
+        same.0,
+        goes_on (sizes_of p) file.headed k.claims a.claims a.rest file.listed file.ended file.claims file.finish
+            (subst (λ (s : Stream). ReadsClaims (sizes_of p) s a.claims a.rest) same.1 a.reads),
+      )
 
-  pub left_open : list_all (λ x. are_apart (claims_of x) (targets_of_claims k.claims)) parts ≡ true → (f : GroupsFault) → ExplainsGroups p parts (stream_of bytes) f → IsLeftOpen f
+  pub left_open : list_all (λ x. are_apart (claims_of x) (targets_of_claims k.claims)) parts ≡ true → (f : GroupsFault)
+      → ExplainsGroups p parts (stream_of bytes) f → IsLeftOpen f
   left_open apart (groups.Text f) reported = elim reported.1 [
     | inl e ↦ let no : headed_by k.bound file.headed ≡ Err f = sym file.header ∙ e in absurd cc
     | inr a ↦ never_fails (sizes_of p) k.claims a.claims a.rest file.listed file.ended a.is.0 (read_on a).1 file.finish a.is.2
   ]
   left_open apart (groups.ClaimedTwice i) reported =
-      let next = next_is (sizes_of p) k.claims reported.claims reported.rest file.listed file.ended reported.is.2 reported.is.1 (read_on reported).1 file.finish reported.is.3 in
+      let next = next_is (sizes_of p) k.claims reported.claims reported.rest file.listed file.ended reported.is.2 reported.is.1
+      (read_on reported).1 file.finish reported.is.3 in
       let first = reported.is.4 in
-      claims_meet reported.claims reported.is.1 next.0 first.target (subst AreClaimsApart next.1 spelled.right.apart) first.is (split_among (targets_in reported.is.1) first.before first.target first.more first.split)
+      claims_meet reported.claims reported.is.1 next.0 first.target (subst AreClaimsApart next.1 spelled.right.apart) first.is
+      (split_among (targets_in reported.is.1) first.before first.target first.more first.split)
   left_open apart (groups.ClaimedElsewhere i e) reported =
-      let next = next_is (sizes_of p) k.claims reported.claims reported.rest file.listed file.ended reported.is.2 reported.is.1 (read_on reported).1 file.finish reported.is.3 in
+      let next = next_is (sizes_of p) k.claims reported.claims reported.rest file.listed file.ended reported.is.2 reported.is.1
+      (read_on reported).1 file.finish reported.is.3 in
       let first = reported.is.4 in
-      let x = all_at (λ z. are_apart (claims_of z) (targets_of_claims k.claims)) (λ z. is_among (claims_of z) first.target ≡ true) parts (e - 1) apart first.is.1 in
+      let x = all_at (λ z. are_apart (claims_of z) (targets_of_claims k.claims)) (λ z. is_among (claims_of z) first.target ≡ true) parts
+      (e - 1) apart first.is.1 in
       let here = split_among (targets_in reported.is.1) first.before first.target first.more first.split in
       not_both (claims_of x.0) (targets_of_claims k.claims) x.1 first.target x.2
-      (ap (λ (l : List GroupClaim). is_among (targets_of_claims l) first.target) next.1 ∙ claim_among reported.claims reported.is.1 next.0 first.target here)
+      (ap (λ (l : List GroupClaim). is_among (targets_of_claims l) first.target) next.1
+      ∙ claim_among reported.claims reported.is.1 next.0 first.target here)
   left_open apart (groups.Group i group.TooWide) reported = tt
   left_open apart (groups.Group i group.TooManyStates) reported = tt
   left_open apart (groups.Group i group.TooManySets) reported = tt
@@ -233,13 +268,16 @@ module _ (p : Problem) (is : IsInstance p) (parts : List Part) (bytes : List ℕ
   left_open apart (groups.Group i group.OutOfMemory) reported = tt
   left_open apart (groups.Group i group.TooCheap) reported =
       let claim = reported.is.1 in
-      let next = next_is (sizes_of p) k.claims reported.claims reported.rest file.listed file.ended reported.is.2 claim (read_on reported).1 file.finish reported.is.3 in
-      let there = subst (λ (l : List GroupClaim). Contains l claim) (sym next.1) (Contains-append_right reported.claims (claim ∷ next.0) claim (0, omega arith, refl)) in
+      let next = next_is (sizes_of p) k.claims reported.claims reported.rest file.listed file.ended reported.is.2 claim
+      (read_on reported).1 file.finish reported.is.3 in
+      let there = subst (λ (l : List GroupClaim). Contains l claim) (sym next.1)
+      (Contains-append_right reported.claims (claim ∷ next.0) claim (0, omega arith, refl)) in
       let bound = All-contains (λ (z : GroupClaim). IsGroupBound p z.group z.value) k.claims claim spelled.right.bounds there in
       let less = reported.is.4.1.1 in
       omega (arith, bound less.0 less.1, less.2)
   left_open apart groups.TooCheap reported =
       let on = read_on reported in
       let all = none_is (sizes_of p) k.claims reported.claims reported.rest file.listed reported.is.0 on.1 reported.is.1 in
-      let sum : sum_by (λ (z : GroupClaim). z.value) k.claims ≡ sum_by (λ (z : GroupClaim). z.value) reported.claims = ap (sum_by (λ (z : GroupClaim). z.value)) all in
+      let sum : sum_by (λ (z : GroupClaim). z.value) k.claims ≡ sum_by (λ (z : GroupClaim). z.value) reported.claims =
+      ap (sum_by (λ (z : GroupClaim). z.value)) all in
       omega (arith, reported.is.2, on.0, sum, spelled.right.enough)

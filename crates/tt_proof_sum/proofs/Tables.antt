@@ -32,7 +32,8 @@ twice o h g q some = on (o == 0) refl h
     on false e false = rw e (rw e refl)
 
 -- a claim neither removes nor adds a clash
-still_clash : (past : Bool) (n o r : ℕ) (h : Bool) (q : ℕ) → 0 < q → (past ≡ false → r ≡ owner_after o h q) → clash_with past n r q ≡ clash_with past n o q
+still_clash : (past : Bool) (n o r : ℕ) (h : Bool) (q : ℕ) → 0 < q → (past ≡ false → r ≡ owner_after o h q)
+    → clash_with past n r q ≡ clash_with past n o q
 still_clash true n o r h q some e = refl
 still_clash false n o r h q some e = ap (λ x. clash_with false n x q) (e refl) ∙ on (o == 0) refl h
   where
@@ -57,7 +58,8 @@ or_none (Some c) = refl
 pub first_clash-append : (a : State) (xs ys : List (ℕ × ℕ)) → first_clash a (xs ++ ys) ≡ option_or (first_clash a xs) (first_clash a ys)
 first_clash-append a [] ys = refl
 first_clash-append a (x ∷ xs) ys =
-    ap (option_or (clash_at a x.0 x.1)) (first_clash-append a xs ys) ∙ sym (or_assoc (clash_at a x.0 x.1) (first_clash a xs) (first_clash a ys))
+    ap (option_or (clash_at a x.0 x.1)) (first_clash-append a xs ys)
+    ∙ sym (or_assoc (clash_at a x.0 x.1) (first_clash a xs) (first_clash a ys))
 
 pub claims_none : (a : State) → Claims a [] a
 claims_none a = record { proof = refl; clash = or_none a.clash; owners = λ k h. none (owner a k == 0) a.proof (owner a k) }
@@ -69,18 +71,23 @@ claims_none a = record { proof = refl; clash = or_none a.clash; owners = λ k h.
 pub claims_then : (a b c : State) (xs ys : List (ℕ × ℕ)) → 0 < a.proof → Claims a xs b → Claims b ys c → Claims a (xs ++ ys) c
 claims_then a b c xs ys some h k = record {
   proof = k.proof ∙ h.proof;
-  clash = k.clash ∙ ap (λ x. option_or x (first_clash b ys)) h.clash ∙ ap (option_or (option_or a.clash (first_clash a xs))) (first_same a b ys same)
+  clash = k.clash ∙ ap (λ x. option_or x (first_clash b ys)) h.clash ∙ ap (option_or (option_or a.clash (first_clash a xs)))
+      (first_same a b ys same)
       ∙ or_assoc a.clash (first_clash a xs) (first_clash a ys) ∙ ap (option_or a.clash) (sym (first_clash-append a xs ys));
   owners = λ i l.
-      k.owners i l ∙ ap (λ q. owner_after (owner b i) (has_number (map (λ x. x.1) ys) i) q) h.proof ∙ ap (λ o. owner_after o (has_number (map (λ x. x.1) ys) i) a.proof) (h.owners i l)
+      k.owners i l ∙ ap (λ q. owner_after (owner b i) (has_number (map (λ x. x.1) ys) i) q) h.proof
+      ∙ ap (λ o. owner_after o (has_number (map (λ x. x.1) ys) i) a.proof) (h.owners i l)
       ∙ twice (owner a i) (has_number (map (λ x. x.1) xs) i) (has_number (map (λ x. x.1) ys) i) a.proof some
-      ∙ ap (λ z. owner_after (owner a i) z a.proof) (sym (ap (λ ls. has_number ls i) (map-append (λ (x : ℕ × ℕ). x.1) xs ys) ∙ list_any-append (λ m. m == i) (map (λ x. x.1) xs) (map (λ x. x.1) ys)));
+      ∙ ap (λ z. owner_after (owner a i) z a.proof)
+      (sym (ap (λ ls. has_number ls i) (map-append (λ (x : ℕ × ℕ). x.1) xs ys) ∙ list_any-append (λ m. m == i) (map (λ x. x.1) xs)
+      (map (λ x. x.1) ys)));
 }
   where
     same : (n i : ℕ) → clash_at b n i ≡ clash_at a n i
     same n i =
         ap (clash_with (nat_le 32768 i) n (owner b i)) h.proof
-        ∙ still_clash (nat_le 32768 i) n (owner a i) (owner b i) (has_number (map (λ x. x.1) xs) i) a.proof some (λ e. h.owners i (leb-false 32768 i e))
+        ∙ still_clash (nat_le 32768 i) n (owner a i) (owner b i) (has_number (map (λ x. x.1) xs) i) a.proof some
+        (λ e. h.owners i (leb-false 32768 i e))
 
 -- no place of a fresh table has an owner
 pub free : (z n k : ℕ) → slice_index_or (replicate n z) k z ≡ z
@@ -89,23 +96,29 @@ free z (suc n) zero = refl
 free z (suc n) (suc k) = free z n k
 
 -- another element of a list
-pub claims_more : {X : Type 0} (f : X → List (ℕ × ℕ)) (a b c : State) (xs : List X) (i : ℕ) (d : X) → 0 < a.proof → i < length xs → Claims a (flat_map f (take i xs)) b → Claims b (f (get_or xs i d)) c → Claims a (flat_map f (take (i + 1) xs)) c
+pub claims_more : {X : Type 0} (f : X → List (ℕ × ℕ)) (a b c : State) (xs : List X) (i : ℕ) (d : X) → 0 < a.proof → i < length xs
+    → Claims a (flat_map f (take i xs)) b → Claims b (f (get_or xs i d)) c → Claims a (flat_map f (take (i + 1) xs)) c
 claims_more f a b c xs i d some l h k =
     let x = get_or xs i d in
-    subst (λ ks. Claims a ks c) (sym (ap (flat_map f) (take_more xs i d l) ∙ flat_map-append f (take i xs) (x ∷ []) ∙ ap (λ l. flat_map f (take i xs) ++ l) (append-nil (f x)))) (claims_then a b c (flat_map f (take i xs)) (f x) some h k)
+    subst (λ ks. Claims a ks c)
+    (sym (ap (flat_map f) (take_more xs i d l) ∙ flat_map-append f (take i xs) (x ∷ []) ∙ ap (λ l. flat_map f (take i xs) ++ l)
+    (append-nil (f x)))) (claims_then a b c (flat_map f (take i xs)) (f x) some h k)
 
-pub claims_more_is : {X : Type 0} (f : X → List (ℕ × ℕ)) (a b c : State) (xs : List X) (i : ℕ) (x : X) → 0 < a.proof → i < length xs → x ≡ get_or xs i x → Claims a (flat_map f (take i xs)) b → Claims b (f x) c → Claims a (flat_map f (take (i + 1) xs)) c
+pub claims_more_is : {X : Type 0} (f : X → List (ℕ × ℕ)) (a b c : State) (xs : List X) (i : ℕ) (x : X) → 0 < a.proof → i < length xs
+    → x ≡ get_or xs i x → Claims a (flat_map f (take i xs)) b → Claims b (f x) c → Claims a (flat_map f (take (i + 1) xs)) c
 claims_more_is f a b c xs i x some l e h k = claims_more f a b c xs i x some l h (subst (λ y. Claims b (f y) c) e k)
 
 -- the places of claims
-pub priced_places : (n : ℕ) (courses : List (ℕ × ℕ)) → flat_map (λ (k : ℕ × ℕ). (n, 4 * k.0) ∷ []) courses ≡ at_node n (map place (map (λ k. RoomCapacity k.0) courses))
+pub priced_places : (n : ℕ) (courses : List (ℕ × ℕ)) → flat_map (λ (k : ℕ × ℕ). (n, 4 * k.0) ∷ []) courses ≡ at_node n
+    (map place (map (λ k. RoomCapacity k.0) courses))
 priced_places n [] = refl
 priced_places n (k ∷ ks) = ap (λ l. (n, 4 * k.0) ∷ l) (priced_places n ks)
 
 pub claimed_places : (n : ℕ) (claims : List Claim) → flat_map (λ c. at_node n (places_of c)) claims ≡ at_node n (map place (claimed claims))
 claimed_places n [] = refl
 claimed_places n (c ∷ cs) =
-    ap (λ l. at_node n (places_of c) ++ l) (claimed_places n cs) ∙ sym (map-append (λ (k : ℕ). (n, k)) (places_of c) (map place (claimed cs)))
+    ap (λ l. at_node n (places_of c) ++ l) (claimed_places n cs)
+    ∙ sym (map-append (λ (k : ℕ). (n, k)) (places_of c) (map place (claimed cs)))
     ∙ ap (at_node n) (sym (map-append place (targets_of c) (claimed cs)))
 
 -- ---- the nodes of a proof
@@ -116,11 +129,13 @@ places_from i [] = []
 places_from i (n ∷ ns) = at_node i (places_in n) ++ places_from (i + 1) ns
 
 -- a table that has visited nodes has the claims of these nodes
-pub visited_claims : (i : ℕ) (a b : State) (nodes : List Node) → 0 < a.proof → Visited (λ x j n y. 0 < x.proof → Claims x (at_node j (places_in n)) y) i a b nodes → Claims a (places_from i nodes) b
+pub visited_claims : (i : ℕ) (a b : State) (nodes : List Node) → 0 < a.proof
+    → Visited (λ x j n y. 0 < x.proof → Claims x (at_node j (places_in n)) y) i a b nodes → Claims a (places_from i nodes) b
 visited_claims i a b [] some h = subst (Claims a []) (sym h) (claims_none a)
 visited_claims i a b (n ∷ ns) some h =
     let here = h.1 some in
-    claims_then a h.0 b (at_node i (places_in n)) (places_from (i + 1) ns) some here (visited_claims (i + 1) h.0 b ns (subst (λ q. 0 < q) (sym here.proof) some) h.2)
+    claims_then a h.0 b (at_node i (places_in n)) (places_from (i + 1) ns) some here
+    (visited_claims (i + 1) h.0 b ns (subst (λ q. 0 < q) (sym here.proof) some) h.2)
 
 pub places_at : (n : ℕ) (ks : List ℕ) → map (λ x. x.1) (at_node n ks) ≡ ks
 places_at n [] = refl
@@ -129,5 +144,6 @@ places_at n (k ∷ ks) = ap (λ l. k ∷ l) (places_at n ks)
 pub places_all : (i : ℕ) (nodes : List Node) → map (λ x. x.1) (places_from i nodes) ≡ flat_map places_in nodes
 places_all i [] = refl
 places_all i (n ∷ ns) =
-    map-append (λ (x : ℕ × ℕ). x.1) (at_node i (places_in n)) (places_from (i + 1) ns) ∙ ap (λ l. l ++ map (λ x. x.1) (places_from (i + 1) ns)) (places_at i (places_in n))
+    map-append (λ (x : ℕ × ℕ). x.1) (at_node i (places_in n)) (places_from (i + 1) ns)
+    ∙ ap (λ l. l ++ map (λ x. x.1) (places_from (i + 1) ns)) (places_at i (places_in n))
     ∙ ap (λ l. places_in n ++ l) (places_all (i + 1) ns)

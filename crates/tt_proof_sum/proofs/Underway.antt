@@ -52,12 +52,15 @@ use Rattle.tt_proof_sum.proofs.Owners.{entered_none, entered_more, group_placed,
 
 -- -- another claim of a stream
 
-reads_more : (sizes : Sizes) (s : Stream) (ks : List GroupClaim) (mid after : Stream) (k : GroupClaim) → ReadsClaims sizes s ks mid → group_at sizes mid ≡ Ok (Some k, after) → ReadsClaims sizes s (ks ++ k ∷ []) after
+reads_more : (sizes : Sizes) (s : Stream) (ks : List GroupClaim) (mid after : Stream) (k : GroupClaim) → ReadsClaims sizes s ks mid
+    → group_at sizes mid ≡ Ok (Some k, after) → ReadsClaims sizes s (ks ++ k ∷ []) after
 reads_more sizes s [] mid after k reads e = (after, ap (group_at sizes) reads ∙ e, refl)
 reads_more sizes s (x ∷ xs) mid after k reads e = (reads.0, reads.1, reads_more sizes reads.0 xs mid after k reads.2 e)
 
-to_more : (p : Problem) (s : Stream) (b : ℕ) (ks : List GroupClaim) (mid after : Stream) (k : GroupClaim) → ReadsTo p s b ks mid → group_at (sizes_of p) mid ≡ Ok (Some k, after) → ReadsTo p s b (ks ++ k ∷ []) after
-to_more p s b ks mid after k r e = record { headed = r.headed; header = r.header; reads = reads_more (sizes_of p) r.headed ks mid after k r.reads e }
+to_more : (p : Problem) (s : Stream) (b : ℕ) (ks : List GroupClaim) (mid after : Stream) (k : GroupClaim) → ReadsTo p s b ks mid
+    → group_at (sizes_of p) mid ≡ Ok (Some k, after) → ReadsTo p s b (ks ++ k ∷ []) after
+to_more p s b ks mid after k r e =
+    record { headed = r.headed; header = r.header; reads = reads_more (sizes_of p) r.headed ks mid after k r.reads e }
 
 unclaimed_owner : (y : Bool) (q o : ℕ) → o ≡ cond (y && false) q o
 unclaimed_owner true q o = refl
@@ -65,7 +68,8 @@ unclaimed_owner false q o = refl
 
 -- ---- the header
 
-pub underway_start : (p : Problem) (before now : Option (List ℕ)) (a : State) (r : Reader) → StaysKnown before now → (is_some before ≡ true → IsHeaderReadingOf (stream_at fresh before) (Ok r) now) → HeaderAgreesWhenCut before (Ok r) now
+pub underway_start : (p : Problem) (before now : Option (List ℕ)) (a : State) (r : Reader) → StaysKnown before now
+    → (is_some before ≡ true → IsHeaderReadingOf (stream_at fresh before) (Ok r) now) → HeaderAgreesWhenCut before (Ok r) now
     → (r.over ≡ false) × (r.fault ≡ None) → AreSizes p r.sizes → Underway p before a r now a 0 0
 underway_start p before now a r known says cut start sizes = record {
   claims = [];
@@ -83,21 +87,30 @@ underway_start p before now a r known says cut start sizes = record {
 
 -- -- another claim
 
-module _ (p : Problem) (is : IsInstance p) (before : Option (List ℕ)) (a : State) (r : Reader) (now : Option (List ℕ)) (b : State) (number sum : ℕ) (u : Underway p before a r now b number sum) where
+module _ (p : Problem) (is : IsInstance p) (before : Option (List ℕ)) (a : State) (r : Reader) (now : Option (List ℕ)) (b : State)
+    (number sum : ℕ) (u : Underway p before a r now b number sum) where
   -- the claim that was read is a claim on the problem
   pub claim_is : (k : GroupClaim) → IsClaimAt r.sizes k → IsClaim p k
   claim_is k claim = claim p (subst (AreSizes p) (sym u.sizes) (are_sizes_of p))
 
   module _ (after : Reader) (later : Option (List ℕ)) (known : StaysKnown now later) where
-    pub reading_claim : (k : GroupClaim) → (is_some now ≡ true → IsReadingOf r (stream_at r.fed now) (Ok (Some k)) (stream_at after.fed later)) → is_some before ≡ true → group_at (sizes_of p) (stream_at r.fed now) ≡ Ok (Some k, stream_at after.fed later)
-    reading_claim k says known_before = subst (λ (z : Sizes). group_at z (stream_at r.fed now) ≡ Ok (Some k, stream_at after.fed later)) u.sizes (says (u.known known_before) u.goes_on)
+    pub reading_claim : (k : GroupClaim)
+        → (is_some now ≡ true → IsReadingOf r (stream_at r.fed now) (Ok (Some k)) (stream_at after.fed later)) → is_some before ≡ true
+        → group_at (sizes_of p) (stream_at r.fed now) ≡ Ok (Some k, stream_at after.fed later)
+    reading_claim k says known_before = subst (λ (z : Sizes). group_at z (stream_at r.fed now) ≡ Ok (Some k, stream_at after.fed later))
+        u.sizes (says (u.known known_before) u.goes_on)
 
-    pub reading_end : (is_some now ≡ true → IsReadingOf r (stream_at r.fed now) (Ok None) (stream_at after.fed later)) → is_some before ≡ true → group_at (sizes_of p) (stream_at r.fed now) ≡ Ok (None, stream_at after.fed later)
-    reading_end says known_before = subst (λ (z : Sizes). group_at z (stream_at r.fed now) ≡ Ok (None, stream_at after.fed later)) u.sizes (says (u.known known_before) u.goes_on)
+    pub reading_end : (is_some now ≡ true → IsReadingOf r (stream_at r.fed now) (Ok None) (stream_at after.fed later))
+        → is_some before ≡ true → group_at (sizes_of p) (stream_at r.fed now) ≡ Ok (None, stream_at after.fed later)
+    reading_end says known_before = subst (λ (z : Sizes). group_at z (stream_at r.fed now) ≡ Ok (None, stream_at after.fed later))
+        u.sizes (says (u.known known_before) u.goes_on)
 
-    pub underway_more : (c : State) (k : GroupClaim) (number' sum' : ℕ) → IsReaderAfter r (Ok (Some k)) after → room_of after.fed < room_of r.fed
-        → (is_some now ≡ true → IsReadingOf r (stream_at r.fed now) (Ok (Some k)) (stream_at after.fed later)) → GroupAgreesWhenCut r now (Ok (Some k)) after.fed later → IsClaimAt r.sizes k
-        → first_owner b (group_places k.group) ≡ None → Marks b (group_places k.group) c → IsGroupBound p k.group k.value → 0 < a.proof → number' ≡ number + 1 → sum' ≡ min (sum + k.value) (2 ^ 64 - 1)
+    pub underway_more : (c : State) (k : GroupClaim) (number' sum' : ℕ) → IsReaderAfter r (Ok (Some k)) after
+        → room_of after.fed < room_of r.fed
+        → (is_some now ≡ true → IsReadingOf r (stream_at r.fed now) (Ok (Some k)) (stream_at after.fed later))
+        → GroupAgreesWhenCut r now (Ok (Some k)) after.fed later → IsClaimAt r.sizes k
+        → first_owner b (group_places k.group) ≡ None → Marks b (group_places k.group) c → IsGroupBound p k.group k.value → 0 < a.proof
+        → number' ≡ number + 1 → sum' ≡ min (sum + k.value) (2 ^ 64 - 1)
         → Underway p before a after later c number' sum'
     underway_more c k number' sum' goes forward says cut claim none marks bound some one more =
         let bound_same : r.bound ≡ after.bound = sym (ap (λ (z : Reader). z.bound) goes.1) in
@@ -106,7 +119,8 @@ module _ (p : Problem) (is : IsInstance p) (before : Option (List ℕ)) (a : Sta
           known = λ e. known (u.known e);
           reads = λ e.
               subst (λ n. ReadsTo p (stream_at fresh before) n (u.claims ++ k ∷ []) (stream_at after.fed later)) bound_same
-              (to_more p (stream_at fresh before) r.bound u.claims (stream_at r.fed now) (stream_at after.fed later) k (u.reads e) (reading_claim k says e));
+              (to_more p (stream_at fresh before) r.bound u.claims (stream_at r.fed now) (stream_at after.fed later) k (u.reads e)
+              (reading_claim k says e));
           cut = λ e rest may.
               let here = cut u.goes_on (u.known e) rest may in
               let first = u.cut e rest here.0 in (
@@ -142,23 +156,27 @@ module _ (p : Problem) (is : IsInstance p) (before : Option (List ℕ)) (a : Sta
         let number_is : a.proof ≡ 1 + length parts = ap (λ (z : State). z.proof) begins ∙ (let n = of.number in omega (arith, n)) in
         record {
           owners = λ k l.
-              u.entered.marks.owners k l ∙ by k l (has_number places k) refl ∙ ap (λ q. cond ((first_claim 1 parts k == 0) && has_number places k) q (first_claim 1 parts k)) number_is
+              u.entered.marks.owners k l ∙ by k l (has_number places k) refl
+              ∙ ap (λ q. cond ((first_claim 1 parts k == 0) && has_number places k) q (first_claim 1 parts k)) number_is
               ∙ sym (first_claim-push 1 parts (GroupsFile file) k (lit< tt));
-          number = let long = length-append parts (GroupsFile file ∷ []) in let same = u.entered.marks.proof in omega (arith, same, number_is, long);
+          number = let long = length-append parts (GroupsFile file ∷ []) in let same = u.entered.marks.proof in
+              omega (arith, same, number_is, long);
           free = u.entered.marks.clash ∙ ap (λ (z : State). z.clash) begins ∙ of.free;
         }
       where
         first_is : (k : ℕ) → k < 32768 → owner a k ≡ first_claim 1 parts k
         first_is k l = ap (λ (z : State). owner z k) begins ∙ of.owners k l
 
-        by : (k : ℕ) → k < 32768 → (z : Bool) → has_number (map place (targets_of_claims u.claims)) k ≡ z → cond z a.proof (owner a k) ≡ cond ((first_claim 1 parts k == 0) && z) a.proof (first_claim 1 parts k)
+        by : (k : ℕ) → k < 32768 → (z : Bool) → has_number (map place (targets_of_claims u.claims)) k ≡ z
+            → cond z a.proof (owner a k) ≡ cond ((first_claim 1 parts k == 0) && z) a.proof (first_claim 1 parts k)
         by k l true e =
             let none : first_claim 1 parts k ≡ 0 = sym (first_is k l) ∙ u.entered.fresh k l e in
             rw (eq-eqb (first_claim 1 parts k) 0 none) refl
         by k l false e = first_is k l ∙ unclaimed_owner (first_claim 1 parts k == 0) a.proof (first_claim 1 parts k)
 
     pub joins : (known : Option (List ℕ)) → Keeps known before → IsOfKind true known → (later : Option (List ℕ)) (after : Reader)
-        → (is_some before ≡ true → group_at (sizes_of p) (stream_at r.fed now) ≡ Ok (None, stream_at after.fed later)) → r.bound ≤ sum → Joins p known parts b (AtLeast r.bound)
+        → (is_some before ≡ true → group_at (sizes_of p) (stream_at r.fed now) ≡ Ok (None, stream_at after.fed later)) → r.bound ≤ sum
+        → Joins p known parts b (AtLeast r.bound)
     joins known kept kind later after finish enough = record {
       part = GroupsFile file;
       is = record {
@@ -168,7 +186,15 @@ module _ (p : Problem) (is : IsInstance p) (before : Option (List ℕ)) (a : Sta
             let k : is_some before ≡ true = ap is_some e in
             let reads = u.reads k in
             reads_spelled p (sizes_of p) (are_sizes_of p) bytes r.bound u.claims
-            (subst (λ (z : Option (List ℕ)). ReadsFile (sizes_of p) (stream_at fresh z) r.bound u.claims) e (record { headed = reads.headed; listed = stream_at r.fed now; ended = stream_at after.fed later; header = reads.header; claims = reads.reads; finish = finish k }));
+            (subst (λ (z : Option (List ℕ)). ReadsFile (sizes_of p) (stream_at fresh z) r.bound u.claims) e
+            (record {
+              headed = reads.headed;
+              listed = stream_at r.fed now;
+              ended = stream_at after.fed later;
+              header = reads.header;
+              claims = reads.reads;
+              finish = finish k;
+            }));
         claims = u.entered.each;
         right = record { bounds = passes.bounds; apart = passes.apart; enough = omega (arith, enough, u.total) };
       };
@@ -181,30 +207,68 @@ module _ (p : Problem) (is : IsInstance p) (before : Option (List ℕ)) (a : Sta
     abbrev s : Stream
     s = stream_at fresh before
 
-    after_claims : (P : ℕ → List GroupClaim → Stream → Type 0) → is_some before ≡ true → P r.bound u.claims (stream_at r.fed now) → AfterClaims p parts s P
+    after_claims : (P : ℕ → List GroupClaim → Stream → Type 0) → is_some before ≡ true → P r.bound u.claims (stream_at r.fed now)
+        → AfterClaims p parts s P
     after_claims P k h =
         let reads = u.reads k in
-        record { bound = r.bound; claims = u.claims; headed = reads.headed; rest = stream_at r.fed now; header = reads.header; reads = reads.reads; passed = passes; is = h }
+        record {
+          bound = r.bound;
+          claims = u.claims;
+          headed = reads.headed;
+          rest = stream_at r.fed now;
+          header = reads.header;
+          reads = reads.reads;
+          passed = passes;
+          is = h;
+        }
 
-    module _ (k : GroupClaim) (claim : IsClaim p k) (known : is_some before ≡ true) (rest : Stream) (reads : group_at (sizes_of p) (stream_at r.fed now) ≡ Ok (Some k, rest)) where
+    module _ (k : GroupClaim) (claim : IsClaim p k) (known : is_some before ≡ true) (rest : Stream)
+        (reads : group_at (sizes_of p) (stream_at r.fed now) ≡ Ok (Some k, rest)) where
       tells_claim : (f : GroupsFault) → ExplainsClaimFault p b number k f → ExplainsGroups p parts s f
       tells_claim (groups.Text f) reported = absurd reported
       tells_claim (groups.ClaimedTwice j) reported =
-          after_claims _ known (sym u.counted ∙ sym reported.0, k, rest, reads, claimed_twice old b parts u.claims of marked (group_targets k.group) (group_placed p is k claim) reported.1)
+          after_claims _ known (
+            sym u.counted ∙ sym reported.0,
+            k,
+            rest,
+            reads,
+            claimed_twice old b parts u.claims of marked
+                (group_targets k.group) (group_placed p is k claim) reported.1,
+          )
       tells_claim (groups.ClaimedElsewhere j e) reported =
-          after_claims _ known (sym u.counted ∙ sym reported.0, k, rest, reads, claimed_before old b parts u.claims of marked (group_targets k.group) e (group_placed p is k claim) reported.1 reported.2)
+          after_claims _ known (
+            sym u.counted ∙ sym reported.0,
+            k,
+            rest,
+            reads,
+            claimed_before old b parts u.claims of marked
+                (group_targets k.group) e (group_placed p is k claim) reported.1 reported.2,
+          )
       tells_claim (groups.Group j f) reported =
-          after_claims _ known (sym u.counted ∙ sym reported.0, k, rest, reads, (all_unclaimed old b parts u.claims of marked (group_targets k.group) (group_placed p is k claim) reported.1, reported.2))
+          after_claims _ known (
+            sym u.counted ∙ sym reported.0,
+            k,
+            rest,
+            reads,
+            (all_unclaimed old b parts u.claims of marked (group_targets k.group) (group_placed p is k claim) reported.1, reported.2),
+          )
       tells_claim groups.TooCheap reported = absurd reported
 
-      pub claim_fault : (bytes : List ℕ) → before ≡ Some bytes → is_groups bytes ≡ true → (e : SumFault) → ExplainsClaim p b number k e → ExplainsAdded p parts bytes e
-      claim_fault bytes e kind (fault.Groups n f) reported = record { kind = kind; fault = subst (λ (z : Option (List ℕ)). ExplainsGroups p parts (stream_at fresh z) f) e (tells_claim f reported.1) }
+      pub claim_fault : (bytes : List ℕ) → before ≡ Some bytes → is_groups bytes ≡ true → (e : SumFault) → ExplainsClaim p b number k e
+          → ExplainsAdded p parts bytes e
+      claim_fault bytes e kind (fault.Groups n f) reported =
+          record {
+            kind = kind;
+            fault = subst (λ (z : Option (List ℕ)). ExplainsGroups p parts (stream_at fresh z) f) e
+                (tells_claim f reported.1);
+          }
       claim_fault bytes e kind fault.OutOfMemory reported = tt
       claim_fault bytes e kind (fault.Proof n f) reported = absurd reported
       claim_fault bytes e kind (fault.ClaimedElsewhere n i o) reported = absurd reported
       claim_fault bytes e kind (fault.TooLarge n) reported = absurd reported
 
-    pub cheap_fault : (bytes : List ℕ) → before ≡ Some bytes → is_groups bytes ≡ true → (later : Option (List ℕ)) (after : Reader) → (is_some before ≡ true → group_at (sizes_of p) (stream_at r.fed now) ≡ Ok (None, stream_at after.fed later))
+    pub cheap_fault : (bytes : List ℕ) → before ≡ Some bytes → is_groups bytes ≡ true → (later : Option (List ℕ)) (after : Reader)
+        → (is_some before ≡ true → group_at (sizes_of p) (stream_at r.fed now) ≡ Ok (None, stream_at after.fed later))
         → sum < r.bound → r.bound < 2 ^ 64 → IsGroupsFault p parts bytes groups.TooCheap
     cheap_fault bytes e kind later after finish below small =
         let k : is_some before ≡ true = ap is_some e in
@@ -236,10 +300,12 @@ read_is (group_text.Text t) e = ap group_text.Text (text_read t e)
     text_read text.OutOfMemory h = absurd cc
 
 -- a fault of the text is reported as a failed read, as being out of memory, or as a fault of the file
-reported_cases : (P : SumFault → Type 0) (n : ℕ) (f : GroupTextFault) → (is_failed_read f ≡ true → P (read_failed_at n)) → P fault.OutOfMemory → (is_environmental f ≡ false → P (fault.Groups n (groups.Text f))) → P (text_fault_at n f)
+reported_cases : (P : SumFault → Type 0) (n : ℕ) (f : GroupTextFault) → (is_failed_read f ≡ true → P (read_failed_at n))
+    → P fault.OutOfMemory → (is_environmental f ≡ false → P (fault.Groups n (groups.Text f))) → P (text_fault_at n f)
 reported_cases P n f read memory other = on (is_failed_read f) refl (is_environmental f) refl
   where
-    on : (x : Bool) → is_failed_read f ≡ x → (y : Bool) → is_environmental f ≡ y → P (cond x (read_failed_at n) (cond y fault.OutOfMemory (fault.Groups n (groups.Text f))))
+    on : (x : Bool) → is_failed_read f ≡ x → (y : Bool) → is_environmental f ≡ y
+        → P (cond x (read_failed_at n) (cond y fault.OutOfMemory (fault.Groups n (groups.Text f))))
     on true e y g = read e
     on false e true g = memory
     on false e false g = other g
@@ -252,43 +318,62 @@ reported_number n f = reported_cases (IsNumbered n) n f (λ e. refl) tt (λ e. r
 
 -- only a failed read is reported as one
 pub reported_read : (n : ℕ) (f : GroupTextFault) → text_fault_at n f ≡ read_failed_at n → f ≡ group_text.Text read_failed
-reported_read n f = reported_cases (λ x. x ≡ read_failed_at n → f ≡ group_text.Text read_failed) n f (λ e h. read_is f e) (λ h. absurd cc) (λ e h. absurd cc)
+reported_read n f = reported_cases (λ x. x ≡ read_failed_at n → f ≡ group_text.Text read_failed) n f (λ e h. read_is f e)
+    (λ h. absurd cc) (λ e h. absurd cc)
 
 pub reported_added : (p : Problem) (parts : List Part) (bytes : List ℕ) → is_groups bytes ≡ true → (n : ℕ) (f : GroupTextFault)
-    → (is_environmental f ≡ false → (header_at (stream_of bytes) ≡ Err f) ⊎ AfterClaims p parts (stream_of bytes) (λ b claims rest. (t : TextFault) × (f ≡ group_text.Text t) × (group_at (sizes_of p) rest ≡ Err t)))
+    → (is_environmental f ≡ false → (header_at (stream_of bytes) ≡ Err f) ⊎ AfterClaims p parts (stream_of bytes)
+    (λ b claims rest. (t : TextFault) × (f ≡ group_text.Text t) × (group_at (sizes_of p) rest ≡ Err t)))
     → ExplainsAdded p parts bytes (text_fault_at n f)
 reported_added p parts bytes kind n f explains =
-    reported_cases (ExplainsAdded p parts bytes) n f (λ e. record { kind = inl refl; fault = (λ x. cc, inl tt) }) tt (λ e. record { kind = kind; fault = (e, explains e) })
+    reported_cases (ExplainsAdded p parts bytes) n f (λ e. record { kind = inl refl; fault = (λ x. cc, inl tt) }) tt
+    (λ e. record { kind = kind; fault = (e, explains e) })
 
 loud : (b : Bool) (P : Type 0) → OnFalse b P → b ≡ false → P
 loud true P h e = absurd cc
 loud false P h e = h
 
 -- the header fails
-pub header_fault : (p : Problem) (parts : List Part) (bytes : List ℕ) (before now : Option (List ℕ)) → before ≡ Some bytes → is_groups bytes ≡ true → (n : ℕ) (f : GroupTextFault)
+pub header_fault : (p : Problem) (parts : List Part) (bytes : List ℕ) (before now : Option (List ℕ)) → before ≡ Some bytes
+    → is_groups bytes ≡ true → (n : ℕ) (f : GroupTextFault)
     → (is_some before ≡ true → IsHeaderReadingOf (stream_at fresh before) (Err f) now) → ExplainsAdded p parts bytes (text_fault_at n f)
 header_fault p parts bytes before now e kind n f says =
     reported_added p parts bytes kind n f
-    (λ l. inl (subst (λ (z : Option (List ℕ)). header_at (stream_at fresh z) ≡ Err f) e (loud (is_environmental f) (header_at (stream_at fresh before) ≡ Err f) (says (ap is_some e)) l)))
+    (λ l. inl (subst (λ (z : Option (List ℕ)). header_at (stream_at fresh z) ≡ Err f) e
+    (loud (is_environmental f) (header_at (stream_at fresh before) ≡ Err f) (says (ap is_some e)) l)))
 
 -- a failed read within the header
-pub header_cut : (p : Problem) (before now : Option (List ℕ)) (f : GroupTextFault) → f ≡ group_text.Text read_failed → StaysKnown before now → HeaderAgreesWhenCut before (Err f) now → (bytes : List ℕ) → before ≡ Some bytes → HoldsOfGiven bytes now (AreGroupsCutOff p)
+pub header_cut : (p : Problem) (before now : Option (List ℕ)) (f : GroupTextFault) → f ≡ group_text.Text read_failed
+    → StaysKnown before now → HeaderAgreesWhenCut before (Err f) now → (bytes : List ℕ) → before ≡ Some bytes
+    → HoldsOfGiven bytes now (AreGroupsCutOff p)
 header_cut p before now f is known cut =
-    of_given (AreGroupsCutOff p) before now known (λ k. let h = cut k (ap is_failed_read is) in (h.0, inl (h.1 ∙ ap (λ (z : GroupTextFault). Err z) is)))
+    of_given (AreGroupsCutOff p) before now known (λ k. let h = cut k (ap is_failed_read is) in
+    (h.0, inl (h.1 ∙ ap (λ (z : GroupTextFault). Err z) is)))
 
 -- reading the next claim fails
-module _ (p : Problem) (is : IsInstance p) (before : Option (List ℕ)) (a : State) (r : Reader) (now : Option (List ℕ)) (b : State) (number sum : ℕ) (u : Underway p before a r now b number sum)
+module _ (p : Problem) (is : IsInstance p) (before : Option (List ℕ)) (a : State) (r : Reader) (now : Option (List ℕ)) (b : State)
+    (number sum : ℕ) (u : Underway p before a r now b number sum)
     (after : Reader) (later : Option (List ℕ)) (t : TextFault) where
-  pub text_fault : (parts : List Part) (old : State) → IsTableOf old parts → a ≡ begun old → (is_some now ≡ true → IsReadingOf r (stream_at r.fed now) (Err t) (stream_at after.fed later)) → (bytes : List ℕ) → before ≡ Some bytes
+  pub text_fault : (parts : List Part) (old : State) → IsTableOf old parts → a ≡ begun old
+      → (is_some now ≡ true → IsReadingOf r (stream_at r.fed now) (Err t) (stream_at after.fed later)) → (bytes : List ℕ)
+      → before ≡ Some bytes
       → is_groups bytes ≡ true → (n : ℕ) → ExplainsAdded p parts bytes (text_fault_at n (group_text.Text t))
   text_fault parts old of begins says bytes e kind n =
       let k : is_some before ≡ true = ap is_some e in
       reported_added p parts bytes kind n (group_text.Text t)
-      (λ l. inr (subst (λ (z : Option (List ℕ)). AfterClaims p parts (stream_at fresh z) (λ b claims rest. (x : TextFault) × (group_text.Text t ≡ group_text.Text x) × (group_at (sizes_of p) rest ≡ Err x))) e
-      (after_claims p is before a r now b number sum u parts old of begins _ k
-      (t, refl, subst (λ (z : Sizes). group_at z (stream_at r.fed now) ≡ Err t) u.sizes (loud (is_environmental (group_text.Text t)) (group_at r.sizes (stream_at r.fed now) ≡ Err t) (says (u.known k)) l)))))
+      (λ l. inr (subst
+      (λ (z : Option (List ℕ)). AfterClaims p parts (stream_at fresh z)
+      (λ b claims rest. (x : TextFault) × (group_text.Text t ≡ group_text.Text x) × (group_at (sizes_of p) rest ≡ Err x))) e
+      (after_claims p is before a r now b number sum u parts old of begins _ k (
+        t,
+        refl,
+        subst (λ (z : Sizes). group_at z (stream_at r.fed now) ≡ Err t) u.sizes
+            (loud (is_environmental (group_text.Text t)) (group_at r.sizes (stream_at r.fed now) ≡ Err t) (says (u.known k)) l),
+      ))))
 
-  pub claim_cut : group_text.Text t ≡ group_text.Text read_failed → StaysKnown now later → GroupAgreesWhenCut r now (Err t) after.fed later → (bytes : List ℕ) → before ≡ Some bytes → HoldsOfGiven bytes later (AreGroupsCutOff p)
+  pub claim_cut : group_text.Text t ≡ group_text.Text read_failed → StaysKnown now later
+      → GroupAgreesWhenCut r now (Err t) after.fed later → (bytes : List ℕ) → before ≡ Some bytes
+      → HoldsOfGiven bytes later (AreGroupsCutOff p)
   claim_cut is_read known cut bytes e =
       let read : t ≡ read_failed = cc in
       of_given (AreGroupsCutOff p) before later (λ k. known (u.known k)) (λ k.
@@ -304,19 +389,22 @@ module _ (p : Problem) (is : IsInstance p) (before : Option (List ℕ)) (a : Sta
           header = first.1.header;
           reads = first.1.reads;
           passed = record { bounds = claims.bounds; apart = claims.apart; free = refl };
-          is = subst (λ (z : Sizes). group_at z (cut_at (rest_of later) r.fed now) ≡ Err read_failed) u.sizes (here.1 ∙ ap (λ (z : TextFault). Err z) read);
+          is = subst (λ (z : Sizes). group_at z (cut_at (rest_of later) r.fed now) ≡ Err read_failed) u.sizes
+              (here.1 ∙ ap (λ (z : TextFault). Err z) read);
         }),
       )) bytes e
 
 -- the two cases: the total reaches the bound, or not
-pub reached_ok : (result : Result Bound SumFault) (file sum bound : ℕ) (P : Bound → Type 0) → result ≡ cond (nat_lt sum bound) (Err (fault.Groups file groups.TooCheap)) (Ok (AtLeast bound)) → (bound ≤ sum → P (AtLeast bound)) → IfOk result P
+pub reached_ok : (result : Result Bound SumFault) (file sum bound : ℕ) (P : Bound → Type 0) → result ≡ cond (nat_lt sum bound)
+    (Err (fault.Groups file groups.TooCheap)) (Ok (AtLeast bound)) → (bound ≤ sum → P (AtLeast bound)) → IfOk result P
 reached_ok result file sum bound P e h = on (nat_lt sum bound) refl e
   where
     on : (z : Bool) → nat_lt sum bound ≡ z → result ≡ cond z (Err (fault.Groups file groups.TooCheap)) (Ok (AtLeast bound)) → IfOk result P
     on true t f = subst (λ (x : Result Bound SumFault). IfOk x P) (sym f) tt
     on false t f = subst (λ (x : Result Bound SumFault). IfOk x P) (sym f) (h (ltb-false sum bound t))
 
-pub reached_err : (result : Result Bound SumFault) (file sum bound : ℕ) (P : SumFault → Type 0) → result ≡ cond (nat_lt sum bound) (Err (fault.Groups file groups.TooCheap)) (Ok (AtLeast bound)) → (sum < bound → P (fault.Groups file groups.TooCheap)) → IfErr result P
+pub reached_err : (result : Result Bound SumFault) (file sum bound : ℕ) (P : SumFault → Type 0) → result ≡ cond (nat_lt sum bound)
+    (Err (fault.Groups file groups.TooCheap)) (Ok (AtLeast bound)) → (sum < bound → P (fault.Groups file groups.TooCheap)) → IfErr result P
 reached_err result file sum bound P e h = on (nat_lt sum bound) refl e
   where
     on : (z : Bool) → nat_lt sum bound ≡ z → result ≡ cond z (Err (fault.Groups file groups.TooCheap)) (Ok (AtLeast bound)) → IfErr result P
@@ -327,7 +415,8 @@ abbrev failed : SumFault → Result Bound SumFault
 failed e = Err e
 
 -- a fault of the text that is reported as a failed read is a failed read
-pub reported_failed : (result : SumFault) (file n : ℕ) (f : GroupTextFault) → result ≡ text_fault_at file f → file ≡ n → failed result ≡ failed (read_failed_at n) → f ≡ group_text.Text read_failed
+pub reported_failed : (result : SumFault) (file n : ℕ) (f : GroupTextFault) → result ≡ text_fault_at file f → file ≡ n
+    → failed result ≡ failed (read_failed_at n) → f ≡ group_text.Text read_failed
 reported_failed result file n f reported same e =
     let is : result ≡ read_failed_at n = cc in
     reported_read file f (sym reported ∙ is ∙ ap read_failed_at (sym same))

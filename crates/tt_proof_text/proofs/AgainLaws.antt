@@ -51,7 +51,8 @@ kinds_of : (courses rooms : List (ℕ × ℕ)) → by_kind (prices_of courses ro
 kinds_of [] rooms = all_rooms rooms
 kinds_of (k ∷ ks) rooms = ap (with_course k) (kinds_of ks rooms)
 
-pieces_of : (courses rooms : List (ℕ × ℕ)) → flat_map price_pieces (prices_of courses rooms) ≡ flat_map (priced_pieces COURSE_LETTER) courses ++ flat_map (priced_pieces ROOM_LETTER) rooms
+pieces_of : (courses rooms : List (ℕ × ℕ)) → flat_map price_pieces (prices_of courses rooms) ≡ flat_map
+    (priced_pieces COURSE_LETTER) courses ++ flat_map (priced_pieces ROOM_LETTER) rooms
 pieces_of courses rooms =
     flat_map-append price_pieces (map of_course courses) (map of_room rooms)
     ∙ ap (λ (ps : List Piece). ps ++ flat_map price_pieces (map of_room rooms)) (flat_map-map price_pieces of_course courses)
@@ -62,11 +63,16 @@ claim_spelled (Capacity c u) = refl
 claim_spelled (Days c) = refl
 claim_spelled (Compact q) = refl
 claim_spelled (Stable c) = refl
-claim_spelled (Prices courses rooms) =
-    (prices_of courses rooms, kinds_of courses rooms, ap (λ (ps : List Piece). Text (codes "P") ∷ (ps ++ Text (codes "/") ∷ [])) (sym (pieces_of courses rooms)))
+claim_spelled (Prices courses rooms) = (
+  prices_of courses rooms,
+  kinds_of courses rooms,
+  ap (λ (ps : List Piece). Text (codes "P") ∷ (ps ++ Text (codes "/") ∷ []))
+      (sym (pieces_of courses rooms)),
+)
 claim_spelled (Stacked c) = refl
 
-each_spelled : {X : Type 0} (S : X → List Piece → Type 0) (f : X → List Piece) → ((x : X) → S x (f x)) → (xs : List X) → SpellsEach S xs (flat_map f xs)
+each_spelled : {X : Type 0} (S : X → List Piece → Type 0) (f : X → List Piece) → ((x : X) → S x (f x)) → (xs : List X)
+    → SpellsEach S xs (flat_map f xs)
 each_spelled S f spelled [] = refl
 each_spelled S f spelled (x ∷ xs) = (f x, flat_map f xs, spelled x, each_spelled S f spelled xs, refl)
 
@@ -78,12 +84,15 @@ node_spelled (Leaf (Clique cs)) = refl
 node_spelled (Leaf (Slots cs)) = refl
 node_spelled (Leaf (Cost claims)) = (flat_map claim_pieces claims, each_spelled SpellsClaim claim_pieces claim_spelled claims, refl)
 
-pieces_are : (v : ℕ) (b : Bound) (nodes : List Node) → all_pieces (proof_lines v b nodes) ≡ header_pieces v b ++ (flat_map node_pieces nodes ++ fixed word.End ∷ [])
+pieces_are : (v : ℕ) (b : Bound) (nodes : List Node) → all_pieces (proof_lines v b nodes) ≡ header_pieces v b ++
+    (flat_map node_pieces nodes ++ fixed word.End ∷ [])
 pieces_are v b nodes =
     ap (λ (ps : List Piece). header_pieces v b ++ ps)
-    (all_pieces-append (map node_pieces nodes) ((fixed word.End ∷ []) ∷ []) ∙ ap (λ (ps : List Piece). ps ++ fixed word.End ∷ []) (all_pieces-map node_pieces nodes))
+    (all_pieces-append (map node_pieces nodes) ((fixed word.End ∷ []) ∷ []) ∙ ap (λ (ps : List Piece). ps ++ fixed word.End ∷ [])
+    (all_pieces-map node_pieces nodes))
 
-tree_again : (p : Problem) (v : ℕ) (b : Bound) (tree : Tree) (bytes : List ℕ) → (1 ≤ v) × (v ≤ 2) → All IsNarrowNode (preorder tree) → All (IsNode p v) (preorder tree) → Writes v b (preorder tree) bytes → SpellsProof p bytes v b tree
+tree_again : (p : Problem) (v : ℕ) (b : Bound) (tree : Tree) (bytes : List ℕ) → (1 ≤ v) × (v ≤ 2) → All IsNarrowNode (preorder tree)
+    → All (IsNode p v) (preorder tree) → Writes v b (preorder tree) bytes → SpellsProof p bytes v b tree
 tree_again p v b tree bytes version narrow each writes =
     let fit = proof_fit v b (preorder tree) writes.within.parts.bound narrow in
     let text = writes.text in
@@ -92,7 +101,9 @@ tree_again p v b tree bytes version narrow each writes =
       bound = writes.within.parts.bound;
       body = flat_map node_pieces (preorder tree);
       nodes = each_spelled SpellsNode node_pieces node_spelled (preorder tree);
-      tokens = rw text (subst (λ (ps : List Piece). Begins ps (tokens_of (proof_text v b (preorder tree))) []) (pieces_are v b (preorder tree)) (lines_begin (proof_lines v b (preorder tree)) 0 (lines_writable (proof_lines v b (preorder tree)) fit)));
+      tokens = rw text (subst (λ (ps : List Piece). Begins ps (tokens_of (proof_text v b (preorder tree))) [])
+          (pieces_are v b (preorder tree))
+          (lines_begin (proof_lines v b (preorder tree)) 0 (lines_writable (proof_lines v b (preorder tree)) fit)));
       each = each;
       within = record {
         size = rw text writes.within.bytes;
@@ -102,6 +113,8 @@ tree_again p v b tree bytes version narrow each writes =
       };
     }
 
-pub proof_again : (p : Problem) (v : ℕ) (b : Bound) (nodes : List Node) (tree : Tree) (bytes : List ℕ) → (1 ≤ v) × (v ≤ 2) → All IsNarrowNode nodes → preorder tree ≡ nodes → All (IsNode p v) nodes → Writes v b nodes bytes → SpellsProof p bytes v b tree
+pub proof_again : (p : Problem) (v : ℕ) (b : Bound) (nodes : List Node) (tree : Tree) (bytes : List ℕ) → (1 ≤ v) × (v ≤ 2)
+    → All IsNarrowNode nodes → preorder tree ≡ nodes → All (IsNode p v) nodes → Writes v b nodes bytes → SpellsProof p bytes v b tree
 proof_again p v b nodes tree bytes version narrow of each writes =
-    subst (λ (ns : List Node). All IsNarrowNode ns → All (IsNode p v) ns → Writes v b ns bytes → SpellsProof p bytes v b tree) of (tree_again p v b tree bytes version) narrow each writes
+    subst (λ (ns : List Node). All IsNarrowNode ns → All (IsNode p v) ns → Writes v b ns bytes → SpellsProof p bytes v b tree) of
+    (tree_again p v b tree bytes version) narrow each writes

@@ -41,13 +41,16 @@ regrouped true false c d = refl
 regrouped false b c d = refl
 
 -- a tree followed by other nodes: the tree starts at the first depth, and the other nodes at the next ones
-shallow-tree : (tree : Tree) (d : ℕ) (ds : List ℕ) (rest : List Node) → are_shallow d ds (preorder tree ++ rest) ≡ (is_shallow_tree d tree && are_shallow (next_depth ds) (later_depths ds) rest)
+shallow-tree : (tree : Tree) (d : ℕ) (ds : List ℕ) (rest : List Node) → are_shallow d ds (preorder tree ++ rest) ≡
+    (is_shallow_tree d tree && are_shallow (next_depth ds) (later_depths ds) rest)
 shallow-tree (Tip leaf) d ds rest = refl
 shallow-tree (Fork g first second) d ds rest =
-    let firsts = ap (are_shallow (d + 1) ((d + 1) ∷ ds)) (append_assoc (preorder first) (preorder second) rest) ∙ shallow-tree first (d + 1) ((d + 1) ∷ ds) (preorder second ++ rest) in
+    let firsts = ap (are_shallow (d + 1) ((d + 1) ∷ ds)) (append_assoc (preorder first) (preorder second) rest)
+    ∙ shallow-tree first (d + 1) ((d + 1) ∷ ds) (preorder second ++ rest) in
     let seconds = ap (λ (b : Bool). is_shallow_tree (d + 1) first && b) (shallow-tree second (d + 1) ds rest) in
     ap (λ (b : Bool). nat_lt d MAX_FACTS && b) (firsts ∙ seconds)
-    ∙ regrouped (nat_lt d MAX_FACTS) (is_shallow_tree (d + 1) first) (is_shallow_tree (d + 1) second) (are_shallow (next_depth ds) (later_depths ds) rest)
+    ∙ regrouped (nat_lt d MAX_FACTS) (is_shallow_tree (d + 1) first) (is_shallow_tree (d + 1) second)
+    (are_shallow (next_depth ds) (later_depths ds) rest)
 
 abbrev IsLow : List Fact → Closed → Type 0
 IsLow path leaf = length path ≤ MAX_FACTS
@@ -56,13 +59,16 @@ longer : (path : List Fact) (g : Pattern) (holds : Bool) (d : ℕ) → length pa
 longer path g holds d e = length-append path _ ∙ omega arith
 
 -- the paths of a shallow tree are short
-shallow_paths : (tree : Tree) (path : List Fact) (d : ℕ) → length path ≡ d → d ≤ MAX_FACTS → is_shallow_tree d tree ≡ true → AllLeaves IsLow path tree
+shallow_paths : (tree : Tree) (path : List Fact) (d : ℕ) → length path ≡ d → d ≤ MAX_FACTS → is_shallow_tree d tree ≡ true
+    → AllLeaves IsLow path tree
 shallow_paths (Tip leaf) path d e low h = omega arith
 shallow_paths (Fork g first second) path d e low h =
     let here = and_parts (nat_lt d MAX_FACTS) _ h in
     let both = and_parts (is_shallow_tree (d + 1) first) (is_shallow_tree (d + 1) second) here.1 in
-    let lower : d + 1 ≤ MAX_FACTS = grind (arith, nat_tests) in
-    (shallow_paths first (with_fact path g true) (d + 1) (longer path g true d e) lower both.0, shallow_paths second (with_fact path g false) (d + 1) (longer path g false d e) lower both.1)
+    let lower : d + 1 ≤ MAX_FACTS = grind (arith, nat_tests) in (
+      shallow_paths first (with_fact path g true) (d + 1) (longer path g true d e) lower both.0,
+      shallow_paths second (with_fact path g false) (d + 1) (longer path g false d e) lower both.1,
+    )
 
 -- a tree with short paths is shallow
 paths_shallow : (tree : Tree) (path : List Fact) (d : ℕ) → length path ≡ d → AllLeaves IsLow path tree → is_shallow_tree d tree ≡ true
@@ -70,7 +76,8 @@ paths_shallow (Tip leaf) path d e h = refl
 paths_shallow (Fork g first second) path d e h =
     let low = root_low MAX_FACTS first (with_fact path g true) h.0 in
     and_from (nat_lt d MAX_FACTS) _ (lt-ltb d MAX_FACTS (omega (arith, low, longer path g true d e)))
-    (and_from _ _ (paths_shallow first (with_fact path g true) (d + 1) (longer path g true d e) h.0) (paths_shallow second (with_fact path g false) (d + 1) (longer path g false d e) h.1))
+    (and_from _ _ (paths_shallow first (with_fact path g true) (d + 1) (longer path g true d e) h.0)
+    (paths_shallow second (with_fact path g false) (d + 1) (longer path g false d e) h.1))
 
 whole : (tree : Tree) → are_shallow 0 [] (preorder tree) ≡ is_shallow_tree 0 tree
 whole tree = ap (are_shallow 0 []) (sym (append-nil (preorder tree))) ∙ shallow-tree tree 0 [] [] ∙ and-true (is_shallow_tree 0 tree)
@@ -82,7 +89,8 @@ shallow_to : (nodes : List Node) → IsPreorder nodes → AreShallow nodes → a
 shallow_to nodes is h = ap (are_shallow 0 []) (sym is.1) ∙ whole is.0 ∙ paths_shallow is.0 [] 0 refl (h is.0 is.1)
 
 -- the test returns whether the nodes of a tree are not too deep
-pub depth_reported : (nodes : List Node) (answer : Bool) → IsPreorder nodes → answer ≡ are_shallow 0 [] nodes → IsTrue answer ↔ AreShallow nodes
+pub depth_reported : (nodes : List Node) (answer : Bool) → IsPreorder nodes → answer ≡ are_shallow 0 [] nodes
+    → IsTrue answer ↔ AreShallow nodes
 depth_reported nodes answer tree is = (λ t. shallow_from nodes (sym is ∙ t), λ h. is ∙ shallow_to nodes tree h)
 
 -- -- the second children that are not read yet
@@ -117,20 +125,24 @@ reverse_pushed : (old new : List ℕ) (d : ℕ) → new ≡ old ++ d ∷ [] → 
 reverse_pushed old new d e = ap (λ (ds : List ℕ). reverse ds) e ∙ reverse-append old (d ∷ [])
 
 -- no depth is removed from an empty list
-nothing_popped : (old new : List ℕ) → old ≡ new ++ [] → (0 < length old → ⊥) → (next_depth (reverse old) ≡ 0) × (later_depths (reverse old) ≡ reverse new)
+nothing_popped : (old new : List ℕ) → old ≡ new ++ [] → (0 < length old → ⊥) → (next_depth (reverse old) ≡ 0)
+    × (later_depths (reverse old) ≡ reverse new)
 nothing_popped [] new e none = (refl, ap (λ (ds : List ℕ). reverse ds) (e ∙ append-nil new))
 nothing_popped (x ∷ xs) new e none = absurd (none (omega arith))
 
 -- the depth that is removed is the first of the reversed list
-reverse_popped : (old new : List ℕ) (o : Option ℕ) → old ≡ new ++ option_to_list o → (IsSome o ↔ (0 < length old)) → (next_depth (reverse old) ≡ unwrap_or o 0) × (later_depths (reverse old) ≡ reverse new)
+reverse_popped : (old new : List ℕ) (o : Option ℕ) → old ≡ new ++ option_to_list o → (IsSome o ↔ (0 < length old))
+    → (next_depth (reverse old) ≡ unwrap_or o 0) × (later_depths (reverse old) ≡ reverse new)
 reverse_popped old new None e some = nothing_popped old new e (λ more. (let held : false ≡ true = some.1 more in cc))
 reverse_popped old new (Some d) e some = rw (reverse_pushed new old d e) (refl, refl)
 
 -- ---- the walk over the nodes
 
 -- the next node is read
-node_read : (d : ℕ) (ds : List ℕ) (nodes : List Node) (i : ℕ) (node read : Node) → i < length nodes → node ≡ get_or nodes i node → node ≡ read → are_shallow d ds (drop i nodes) ≡ are_shallow d ds (read ∷ drop (i + 1) nodes)
-node_read d ds nodes i node read below is e = at_drop_more (are_shallow d ds) nodes i node below ∙ ap (λ (n : Node). are_shallow d ds (n ∷ drop (i + 1) nodes)) (sym is ∙ e)
+node_read : (d : ℕ) (ds : List ℕ) (nodes : List Node) (i : ℕ) (node read : Node) → i < length nodes → node ≡ get_or nodes i node
+    → node ≡ read → are_shallow d ds (drop i nodes) ≡ are_shallow d ds (read ∷ drop (i + 1) nodes)
+node_read d ds nodes i node read below is e = at_drop_more (are_shallow d ds) nodes i node below
+    ∙ ap (λ (n : Node). are_shallow d ds (n ∷ drop (i + 1) nodes)) (sym is ∙ e)
 
 -- the invariant of a walk at a node at depth d, with second children at the depths ds still to come
 pub record KeepsDepths (nodes : List Node) (i d : ℕ) (ds : List ℕ) : Type 0 where
@@ -143,16 +155,19 @@ pub walk_begins : (nodes : List Node) (pending : List ℕ) → pending ≡ [] �
 walk_begins nodes pending none = rw none (record { reported = refl; low = lit≤ tt; falling = tt })
 
 -- there is room for another second child if the depth is not too great
-pub walk_room : (nodes : List Node) (i d : ℕ) (pending : List ℕ) → KeepsDepths nodes i d (reverse pending) → d ≢ MAX_FACTS → length pending < MAX_FACTS
+pub walk_room : (nodes : List Node) (i d : ℕ) (pending : List ℕ) → KeepsDepths nodes i d (reverse pending) → d ≢ MAX_FACTS
+    → length pending < MAX_FACTS
 walk_room nodes i d pending keeps free = omega (arith, keeps.low, length-reverse pending, length-falling d (reverse pending) keeps.falling)
 
 -- the first child of a split is next, and the second child later
-pub walk_split : (nodes : List Node) (i d e : ℕ) (old new : List ℕ) (node : Node) (g : Pattern) → i < length nodes → node ≡ get_or nodes i node → node ≡ Split g → d ≢ MAX_FACTS → e ≡ d + 1 → new ≡ old ++ (d + 1) ∷ []
+pub walk_split : (nodes : List Node) (i d e : ℕ) (old new : List ℕ) (node : Node) (g : Pattern) → i < length nodes
+    → node ≡ get_or nodes i node → node ≡ Split g → d ≢ MAX_FACTS → e ≡ d + 1 → new ≡ old ++ (d + 1) ∷ []
     → KeepsDepths nodes i d (reverse old) → KeepsDepths nodes (i + 1) e (reverse new)
 walk_split nodes i d e old new node g below is split free deeper pushed keeps =
     let within : d < MAX_FACTS = omega (arith, keeps.low) in
     let ds = reverse old in
-    let here : are_shallow d ds (Split g ∷ drop (i + 1) nodes) ≡ are_shallow (d + 1) ((d + 1) ∷ ds) (drop (i + 1) nodes) = rw (lt-ltb d MAX_FACTS within) refl in
+    let here : are_shallow d ds (Split g ∷ drop (i + 1) nodes) ≡ are_shallow (d + 1) ((d + 1) ∷ ds) (drop (i + 1) nodes) =
+    rw (lt-ltb d MAX_FACTS within) refl in
     rw (deeper, reverse_pushed old new (d + 1) pushed)
     (record {
       reported = sym here ∙ sym (node_read d ds nodes i node (Split g) below is split) ∙ keeps.reported;
@@ -161,7 +176,9 @@ walk_split nodes i d e old new node g below is split free deeper pushed keeps =
     })
 
 -- after a leaf, the last of the second children is next
-pub walk_leaf : (nodes : List Node) (i d e : ℕ) (old new : List ℕ) (node : Node) (leaf : Closed) (popped : Option ℕ) → i < length nodes → node ≡ get_or nodes i node → node ≡ Leaf leaf → e ≡ unwrap_or popped 0 → old ≡ new ++ option_to_list popped → (IsSome popped ↔ (0 < length old))
+pub walk_leaf : (nodes : List Node) (i d e : ℕ) (old new : List ℕ) (node : Node) (leaf : Closed) (popped : Option ℕ) → i < length nodes
+    → node ≡ get_or nodes i node → node ≡ Leaf leaf → e ≡ unwrap_or popped 0 → old ≡ new ++ option_to_list popped
+    → (IsSome popped ↔ (0 < length old))
     → KeepsDepths nodes i d (reverse old) → KeepsDepths nodes (i + 1) e (reverse new)
 walk_leaf nodes i d e old new node leaf popped below is closed next split_off some keeps =
     let ds = reverse old in
@@ -174,11 +191,14 @@ walk_leaf nodes i d e old new node leaf popped below is closed next split_off so
     })
 
 -- a split at the greatest depth has children that are too deep
-pub walk_too_deep : (nodes : List Node) (i d : ℕ) (ds : List ℕ) (node : Node) (g : Pattern) → IsPreorder nodes → KeepsDepths nodes i d ds → i < length nodes → node ≡ get_or nodes i node → node ≡ Split g → d ≡ MAX_FACTS → IsTrue false ↔ AreShallow nodes
+pub walk_too_deep : (nodes : List Node) (i d : ℕ) (ds : List ℕ) (node : Node) (g : Pattern) → IsPreorder nodes
+    → KeepsDepths nodes i d ds → i < length nodes → node ≡ get_or nodes i node → node ≡ Split g → d ≡ MAX_FACTS
+    → IsTrue false ↔ AreShallow nodes
 walk_too_deep nodes i d ds node g tree keeps below is split deep =
     let here : are_shallow d ds (Split g ∷ drop (i + 1) nodes) ≡ false = rw deep refl in
     depth_reported nodes false tree (sym here ∙ sym (node_read d ds nodes i node (Split g) below is split) ∙ keeps.reported)
 
 -- at the end of the walk, no node is too deep
-pub walk_done : (nodes : List Node) (i d : ℕ) (ds : List ℕ) → IsPreorder nodes → KeepsDepths nodes i d ds → length nodes ≤ i → IsTrue true ↔ AreShallow nodes
+pub walk_done : (nodes : List Node) (i d : ℕ) (ds : List ℕ) → IsPreorder nodes → KeepsDepths nodes i d ds → length nodes ≤ i
+    → IsTrue true ↔ AreShallow nodes
 walk_done nodes i d ds tree keeps end = depth_reported nodes true tree (sym (at_drop_all (are_shallow d ds) nodes i end) ∙ keeps.reported)

@@ -12,7 +12,8 @@ end_line : List Piece
 end_line = Text (codes "end") ∷ []
 
 -- a split on a curriculum, and its two leaves
-a_split : proof_lines 1 Nothing (Split (record { who = Curriculum 0; room = None; day = Some 0; period = Some 12 }) ∷ Leaf (Clique (1 ∷ 0 ∷ [])) ∷ Leaf (Cost []) ∷ [])
+a_split : proof_lines 1 Nothing (Split (record { who = Curriculum 0; room = None; day = Some 0; period = Some 12 }) ∷ Leaf
+    (Clique (1 ∷ 0 ∷ [])) ∷ Leaf (Cost []) ∷ [])
     ≡ (Text (codes "CTTP") ∷ Text (codes "1") ∷ Text (codes "bound") ∷ Text (codes "none") ∷ [])
     ∷ (Text (codes "S") ∷ Index 113 0 ∷ Text (codes "*") ∷ Index 100 0 ∷ Index 112 12 ∷ [])
     ∷ (Text (codes "K") ∷ Index 99 1 ∷ Index 99 0 ∷ Text (codes ";") ∷ [])
@@ -24,7 +25,8 @@ a_split = refl
 -- the prices of courses before those of rooms
 some_prices : proof_lines 2 (AtLeast 5) (Leaf (Cost (Prices ((0, 5) ∷ (1, 5) ∷ []) ((0, 5) ∷ []) ∷ Stacked 1 ∷ [])) ∷ [])
     ≡ (Text (codes "CTTP") ∷ Text (codes "2") ∷ Text (codes "bound") ∷ Number 5 ∷ [])
-    ∷ (Text (codes "B") ∷ Text (codes "P") ∷ Index 99 0 ∷ Number 5 ∷ Index 99 1 ∷ Number 5 ∷ Index 114 0 ∷ Number 5 ∷ Text (codes "/") ∷ Text (codes "T") ∷ Index 99 1 ∷ Text (codes ";") ∷ [])
+    ∷ (Text (codes "B") ∷ Text (codes "P") ∷ Index 99 0 ∷ Number 5 ∷ Index 99 1 ∷ Number 5 ∷ Index 114 0 ∷ Number 5 ∷ Text
+    (codes "/") ∷ Text (codes "T") ∷ Index 99 1 ∷ Text (codes ";") ∷ [])
     ∷ end_line ∷ []
 unfolding end_line
 some_prices = refl

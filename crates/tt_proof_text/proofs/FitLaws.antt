@@ -58,7 +58,13 @@ who_fit (Course c) narrow = index_fit COURSE_LETTER c refl (omega arith)
 who_fit (Curriculum q) narrow = index_fit CURRICULUM_LETTER q refl (omega arith)
 
 pattern_fit : (g : Pattern) → IsNarrowPattern g → AreFit (pattern_pieces g)
-pattern_fit g narrow = (who_fit g.who narrow.who, (given_fit ROOM_LETTER g.room refl narrow.room, (given_fit DAY_LETTER g.day refl narrow.day, (given_fit PERIOD_LETTER g.period refl narrow.period, tt))))
+pattern_fit g narrow = (
+  who_fit g.who narrow.who,
+  (
+    given_fit ROOM_LETTER g.room refl narrow.room,
+    (given_fit DAY_LETTER g.day refl narrow.day, (given_fit PERIOD_LETTER g.period refl narrow.period, tt)),
+  ),
+)
 
 -- ---- lists of courses
 
@@ -73,11 +79,14 @@ listed_fit cs narrow = fit_append (map course_piece cs) (Text (codes ";") ∷ []
 
 -- ---- claims
 
-prices_fit : (letter : ℕ) (ks : List (ℕ × ℕ)) → is_separator letter ≡ false → All IsNarrowPair ks → AreFit (flat_map (priced_pieces letter) ks)
+prices_fit : (letter : ℕ) (ks : List (ℕ × ℕ)) → is_separator letter ≡ false → All IsNarrowPair ks
+    → AreFit (flat_map (priced_pieces letter) ks)
 prices_fit letter [] apart narrow = tt
 prices_fit letter (k ∷ ks) apart narrow =
-    let here = All-head IsNarrowPair k ks narrow in
-    (index_fit letter k.0 apart (omega (arith, here.0)), (number_fit k.1 (omega (arith, here.1)), prices_fit letter ks apart (All-tail IsNarrowPair k ks narrow)))
+    let here = All-head IsNarrowPair k ks narrow in (
+      index_fit letter k.0 apart (omega (arith, here.0)),
+      (number_fit k.1 (omega (arith, here.1)), prices_fit letter ks apart (All-tail IsNarrowPair k ks narrow)),
+    )
 
 claim_word_fit : (claim : Claim) → IsFit (Text (claim_word claim))
 claim_word_fit (Capacity c u) = letter_fit 67 refl
@@ -88,20 +97,25 @@ claim_word_fit (Prices courses rooms) = letter_fit 80 refl
 claim_word_fit (Stacked c) = letter_fit 84 refl
 
 claim_rest_fit : (claim : Claim) → IsNarrowClaim claim → AreFit (claim_rest claim)
-claim_rest_fit (Capacity c u) narrow = (index_fit COURSE_LETTER c refl (omega (arith, narrow.0)), (number_fit u (omega (arith, narrow.1)), tt))
+claim_rest_fit (Capacity c u) narrow =
+    (index_fit COURSE_LETTER c refl (omega (arith, narrow.0)), (number_fit u (omega (arith, narrow.1)), tt))
 claim_rest_fit (Days c) narrow = (index_fit COURSE_LETTER c refl (omega arith), tt)
 claim_rest_fit (Compact q) narrow = (index_fit CURRICULUM_LETTER q refl (omega arith), tt)
 claim_rest_fit (Stable c) narrow = (index_fit COURSE_LETTER c refl (omega arith), tt)
 claim_rest_fit (Prices courses rooms) narrow =
     fit_append (flat_map (priced_pieces COURSE_LETTER) courses ++ flat_map (priced_pieces ROOM_LETTER) rooms) (Text (codes "/") ∷ [])
-    (fit_append (flat_map (priced_pieces COURSE_LETTER) courses) (flat_map (priced_pieces ROOM_LETTER) rooms) (prices_fit COURSE_LETTER courses refl narrow.0) (prices_fit ROOM_LETTER rooms refl narrow.1))
+    (fit_append (flat_map (priced_pieces COURSE_LETTER) courses) (flat_map (priced_pieces ROOM_LETTER) rooms)
+    (prices_fit COURSE_LETTER courses refl narrow.0) (prices_fit ROOM_LETTER rooms refl narrow.1))
     (letter_fit 47 refl, tt)
 claim_rest_fit (Stacked c) narrow = (index_fit COURSE_LETTER c refl (omega arith), tt)
 
 claims_fit : (claims : List Claim) → All IsNarrowClaim claims → AreFit (flat_map claim_pieces claims)
 claims_fit [] narrow = tt
-claims_fit (c ∷ cs) narrow =
-    (claim_word_fit c, fit_append (claim_rest c) (flat_map claim_pieces cs) (claim_rest_fit c (All-head IsNarrowClaim c cs narrow)) (claims_fit cs (All-tail IsNarrowClaim c cs narrow)))
+claims_fit (c ∷ cs) narrow = (
+  claim_word_fit c,
+  fit_append (claim_rest c) (flat_map claim_pieces cs) (claim_rest_fit c (All-head IsNarrowClaim c cs narrow))
+      (claims_fit cs (All-tail IsNarrowClaim c cs narrow)),
+)
 
 -- ---- nodes
 
@@ -111,11 +125,16 @@ node_fit (Leaf (Empty g)) narrow = (letter_fit 69 refl, pattern_fit g narrow)
 node_fit (Leaf (Many c)) narrow = (letter_fit 77 refl, (index_fit COURSE_LETTER c refl (omega arith), tt))
 node_fit (Leaf (Clique cs)) narrow = (letter_fit 75 refl, listed_fit cs narrow)
 node_fit (Leaf (Slots cs)) narrow = (letter_fit 72 refl, listed_fit cs narrow)
-node_fit (Leaf (Cost claims)) narrow = (letter_fit 66 refl, fit_append (flat_map claim_pieces claims) (Text (codes ";") ∷ []) (claims_fit claims narrow) (letter_fit 59 refl, tt))
+node_fit (Leaf (Cost claims)) narrow = (
+  letter_fit 66 refl,
+  fit_append (flat_map claim_pieces claims) (Text (codes ";") ∷ []) (claims_fit claims narrow)
+      (letter_fit 59 refl, tt),
+)
 
 nodes_fit : (nodes : List Node) → All IsNarrowNode nodes → LinesFit (map node_pieces nodes)
 nodes_fit [] narrow = tt
-nodes_fit (node ∷ nodes) narrow = (node_fit node (All-head IsNarrowNode node nodes narrow), nodes_fit nodes (All-tail IsNarrowNode node nodes narrow))
+nodes_fit (node ∷ nodes) narrow =
+    (node_fit node (All-head IsNarrowNode node nodes narrow), nodes_fit nodes (All-tail IsNarrowNode node nodes narrow))
 
 -- ---- the whole text
 
@@ -128,9 +147,14 @@ bound_fit (AtLeast n) h = number_fit n h
 bound_fit Nothing h = record { writable = record { some = lit< tt; within = refl }; short = lit≤ tt }
 
 header_fit : (v : ℕ) (b : Bound) → IsBound b → AreFit (header_pieces v b)
-header_fit v b h =
-    (record { writable = record { some = lit< tt; within = refl }; short = lit≤ tt }, (version_fit (v == 1), (record { writable = record { some = lit< tt; within = refl }; short = lit≤ tt }, (bound_fit b h, tt))))
+header_fit v b h = (
+  record { writable = record { some = lit< tt; within = refl }; short = lit≤ tt },
+  (version_fit (v == 1), (record { writable = record { some = lit< tt; within = refl }; short = lit≤ tt }, (bound_fit b h, tt))),
+)
 
 pub proof_fit : (v : ℕ) (b : Bound) (nodes : List Node) → IsBound b → All IsNarrowNode nodes → LinesFit (proof_lines v b nodes)
-proof_fit v b nodes bound narrow =
-    (header_fit v b bound, lines_append (map node_pieces nodes) _ (nodes_fit nodes narrow) ((record { writable = record { some = lit< tt; within = refl }; short = lit≤ tt }, tt), tt))
+proof_fit v b nodes bound narrow = (
+  header_fit v b bound,
+  lines_append (map node_pieces nodes) _ (nodes_fit nodes narrow)
+      ((record { writable = record { some = lit< tt; within = refl }; short = lit≤ tt }, tt), tt),
+)

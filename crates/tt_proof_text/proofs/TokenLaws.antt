@@ -33,18 +33,23 @@ abbrev pub IsShort : Placed → Type 0
 IsShort t = length t.text ≤ 32
 
 -- one piece and the separator after it
-piece_short : (p : Piece) (at s : ℕ) (more : List ℕ) → IsFit p → is_separator s ≡ true → ((k : ℕ) → All IsShort (tokens_from false k more)) → All IsShort (tokens_from false at (text_of p ++ s ∷ more))
+piece_short : (p : Piece) (at s : ℕ) (more : List ℕ) → IsFit p → is_separator s ≡ true
+    → ((k : ℕ) → All IsShort (tokens_from false k more)) → All IsShort (tokens_from false at (text_of p ++ s ∷ more))
 piece_short p at s more fit sep h =
-    subst (All IsShort) (sym (tokens-written at (text_of p) more s (piece-token p fit.writable) sep)) (All-cons IsShort _ _ fit.short (h (at + length (text_of p) + 1)))
+    subst (All IsShort) (sym (tokens-written at (text_of p) more s (piece-token p fit.writable) sep))
+    (All-cons IsShort _ _ fit.short (h (at + length (text_of p) + 1)))
 
-line_short : (ps : List Piece) (at : ℕ) (more : List ℕ) → AreFit ps → ((k : ℕ) → All IsShort (tokens_from false k more)) → All IsShort (tokens_from false at (line_text ps ++ more))
+line_short : (ps : List Piece) (at : ℕ) (more : List ℕ) → AreFit ps → ((k : ℕ) → All IsShort (tokens_from false k more))
+    → All IsShort (tokens_from false at (line_text ps ++ more))
 line_short [] at more fit h = subst (All IsShort) (sym (after_separator at 10 more refl)) (h (at + 1))
 line_short (p ∷ []) at more fit h =
     let grouped : (text_of p ++ 10 ∷ []) ++ more ≡ text_of p ++ 10 ∷ more = append_assoc (text_of p) (10 ∷ []) more in
     subst (λ (bs : List ℕ). All IsShort (tokens_from false at bs)) (sym grouped) (piece_short p at 10 more fit.0 refl h)
 line_short (p ∷ q ∷ ps) at more fit h =
-    let grouped : (text_of p ++ 32 ∷ line_text (q ∷ ps)) ++ more ≡ text_of p ++ 32 ∷ (line_text (q ∷ ps) ++ more) = append_assoc (text_of p) (32 ∷ line_text (q ∷ ps)) more in
-    subst (λ (bs : List ℕ). All IsShort (tokens_from false at bs)) (sym grouped) (piece_short p at 32 (line_text (q ∷ ps) ++ more) fit.0 refl (λ k. line_short (q ∷ ps) k more fit.1 h))
+    let grouped : (text_of p ++ 32 ∷ line_text (q ∷ ps)) ++ more ≡ text_of p ++ 32 ∷ (line_text (q ∷ ps) ++ more) =
+    append_assoc (text_of p) (32 ∷ line_text (q ∷ ps)) more in
+    subst (λ (bs : List ℕ). All IsShort (tokens_from false at bs)) (sym grouped)
+    (piece_short p at 32 (line_text (q ∷ ps) ++ more) fit.0 refl (λ k. line_short (q ∷ ps) k more fit.1 h))
 
 pub lines_short : (ls : List (List Piece)) (at : ℕ) → LinesFit ls → All IsShort (tokens_from false at (lines_text ls))
 unfolding tokens_from

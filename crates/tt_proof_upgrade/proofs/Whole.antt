@@ -15,7 +15,8 @@ use Rattle.tt_proof_check.specs.Streams.{sizes_of, Fails}
 use Rattle.tt_proof_check.proofs.Sizes.{sizes_are}
 use Rattle.tt_proof_upgrade.specs.Texts.{IsRead, IsCollected, NodeTextFails, NodeIsCutOff, IsTextFault, TextIsCutOff}
 
-module _ (p : Problem) (sizes : Sizes) (are : AreSizes p sizes) (s : Stream) (v : ℕ) (b : Bound) (headed : Stream) (header : header_at s ≡ Ok ((v, b), headed)) where
+module _ (p : Problem) (sizes : Sizes) (are : AreSizes p sizes) (s : Stream) (v : ℕ) (b : Bound) (headed : Stream)
+    (header : header_at s ≡ Ok ((v, b), headed)) where
   -- reading the nodes fails
   pub nodes_break : (f : TextFault) → NodeTextFails sizes v headed f → IsTextFault p s f
   nodes_break f h = inr (v, b, headed, header, inl (subst (λ (x : Sizes). NodeTextFails x v headed f) (sizes_are p sizes are) h))
@@ -42,5 +43,6 @@ module _ (p : Problem) (sizes : Sizes) (are : AreSizes p sizes) (s : Stream) (v 
     }
 
 -- a property of the stream, for bytes that are known
-pub of_bytes : (P : Stream → Type 0) (bytes : List ℕ) (known : Option (List ℕ)) → known ≡ Some bytes → (is_some known ≡ true → P (stream_at fresh known)) → P (stream_at fresh (Some bytes))
+pub of_bytes : (P : Stream → Type 0) (bytes : List ℕ) (known : Option (List ℕ)) → known ≡ Some bytes
+    → (is_some known ≡ true → P (stream_at fresh known)) → P (stream_at fresh (Some bytes))
 of_bytes P bytes known e h = subst (λ (k : Option (List ℕ)). P (stream_at fresh k)) e (h (ap is_some e))

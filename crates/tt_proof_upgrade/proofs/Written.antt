@@ -70,7 +70,8 @@ node_of_two p v (node.Leaf leaf) h = let parts = leaf_parts p v leaf h in leaf_w
 same_tree : (x y : Tree) (nodes : List Node) → preorder x ≡ nodes → preorder y ≡ nodes → x ≡ y
 same_tree x y nodes e d = (begins_whole x y [] (e ∙ sym d ∙ sym (append-nil (preorder y)))).0
 
-same_text : (sizes : Sizes) (s : Stream) (w v : ℕ) (b c : Bound) (tree other : Tree) → Reads sizes s w b tree → Reads sizes s v c other → (b ≡ c) × (tree ≡ other)
+same_text : (sizes : Sizes) (s : Stream) (w v : ℕ) (b c : Bound) (tree other : Tree) → Reads sizes s w b tree → Reads sizes s v c other
+    → (b ≡ c) × (tree ≡ other)
 same_text sizes s w v b c tree other r q =
     let same = same_header ((w, b), r.headed) ((v, c), q.headed) (sym r.header ∙ q.header) in
     let nodes = subst (λ (x : (ℕ × Bound) × Stream). ReadsNodes sizes x.0.0 0 x.1 (preorder other) q.noded) (sym same) q.nodes in (
@@ -108,7 +109,8 @@ module _ (p : Problem) (s : Stream) (v : ℕ) (b : Bound) (nodes : List Node) (r
     write_tells OutOfMemory t = tt
 
 -- a proof that was read, checked and written is written again
-pub upgraded : (p : Problem) (bytes out : List ℕ) (v : ℕ) (b : Bound) (nodes : List Node) → IsRead p (stream_of bytes) v b nodes → Proves p b nodes → AreNodesOf p v nodes → Writes 2 b nodes out
+pub upgraded : (p : Problem) (bytes out : List ℕ) (v : ℕ) (b : Bound) (nodes : List Node) → IsRead p (stream_of bytes) v b nodes
+    → Proves p b nodes → AreNodesOf p v nodes → Writes 2 b nodes out
     → ((tree : Tree) → preorder tree ≡ nodes → All (IsNode p 2) nodes → SpellsProof p out 2 b tree) → IsUpgraded p bytes b out
 upgraded p bytes out v b nodes r h are w again = record {
   version = v;
@@ -122,7 +124,8 @@ upgraded p bytes out v b nodes r h are w again = record {
 -- -- a text that derives its bound is refused only by silent faults
 
 -- a fault of the text is being out of memory, or is reported unchanged
-cases_of_fault : (f : TextFault) (Q : UpgradeFault → Type 0) → Q OutOfMemory → (¬ (f ≡ text.OutOfMemory) → Q (Proof (check.Text f))) → Q (fault_from_text f)
+cases_of_fault : (f : TextFault) (Q : UpgradeFault → Type 0) → Q OutOfMemory → (¬ (f ≡ text.OutOfMemory) → Q (Proof (check.Text f)))
+    → Q (fault_from_text f)
 cases_of_fault (text.Ended at) Q a b = b (λ e. cc)
 cases_of_fault (text.Expected w at) Q a b = b (λ e. cc)
 cases_of_fault (text.UnknownWord at) Q a b = b (λ e. cc)
@@ -138,7 +141,8 @@ silent_text : (f : TextFault) → checked.IsEnvironmental (check.Text f) → IsE
 silent_text f (inl e) = absurd cc
 silent_text f (inr e) = inr (inl (ap Proof e))
 
-pub text_tells : (p : Problem) (s : Stream) (f : TextFault) → (¬ (f ≡ text.OutOfMemory) → IsTextFault p s f) → IsUpgradeFault p s (fault_from_text f)
+pub text_tells : (p : Problem) (s : Stream) (f : TextFault) → (¬ (f ≡ text.OutOfMemory) → IsTextFault p s f)
+    → IsUpgradeFault p s (fault_from_text f)
 text_tells p s f h = cases_of_fault f (IsUpgradeFault p s) tt (λ n. (n, h n))
 
 module _ (p : Problem) (is : IsInstance p) (bytes : List ℕ) (b : Bound) (proved : IsProved p bytes b) where
@@ -149,26 +153,32 @@ module _ (p : Problem) (is : IsInstance p) (bytes : List ℕ) (b : Bound) (prove
   reads = spelled_reads p (sizes_of p) (are_sizes_of p) (are_small p (sizes_of p) is (are_sizes_of p)) bytes proved.0 b tree proved.2
 
   header_is : (P : ℕ → Bound → Stream → Type 0) → HasHeader (stream_of bytes) P → P proved.0 b reads.headed
-  header_is P h = subst (λ (x : (ℕ × Bound) × Stream). P x.0.0 x.0.1 x.1) (same_header ((h.0, h.1), h.2) ((proved.0, b), reads.headed) (sym h.3 ∙ reads.header)) h.4
+  header_is P h = subst (λ (x : (ℕ × Bound) × Stream). P x.0.0 x.0.1 x.1)
+      (same_header ((h.0, h.1), h.2) ((proved.0, b), reads.headed) (sym h.3 ∙ reads.header)) h.4
 
   -- the bound read is this one
   pub bound_read : (v : ℕ) (c : Bound) (nodes : List Node) → IsRead p (stream_of bytes) v c nodes → c ≡ b
   bound_read v c nodes r = (same_text (sizes_of p) (stream_of bytes) v proved.0 c b r.tree tree r.reads reads).0
 
   pub silent : (e : UpgradeFault) → IsUpgradeFault p (stream_of bytes) e → IsEnvironmental e
-  silent (Proof (check.Text f)) (n, inl h) = silent_text f (fails_silently f (header_at (stream_of bytes)) ((proved.0, b), reads.headed) reads.header n h)
-  silent (Proof (check.Text f)) (n, inr h) = silent_text f (elim (header_is (λ v c rest. NodeTextFails (sizes_of p) v rest f ⊎ EndTextFails p v rest f) h) [
-    | inl a ↦ node_silent p proved.0 reads.headed reads.noded tree reads.nodes f n a.nodes a.rest a.tree a.next a.more a.reads a.begins a.fails
-    | inr a ↦ end_silent p proved.0 reads.headed reads.noded tree reads.nodes reads.ended reads.finish f n a.tree a.rest a.reads a.fails
-  ])
+  silent (Proof (check.Text f)) (n, inl h) =
+      silent_text f (fails_silently f (header_at (stream_of bytes)) ((proved.0, b), reads.headed) reads.header n h)
+  silent (Proof (check.Text f)) (n, inr h) =
+      silent_text f (elim (header_is (λ v c rest. NodeTextFails (sizes_of p) v rest f ⊎ EndTextFails p v rest f) h) [
+        | inl a ↦ node_silent p proved.0 reads.headed reads.noded tree reads.nodes f n a.nodes a.rest a.tree a.next a.more a.reads a.begins
+            a.fails
+        | inr a ↦ end_silent p proved.0 reads.headed reads.noded tree reads.nodes reads.ended reads.finish f n a.tree a.rest a.reads a.fails
+      ])
   silent (Proof (check.Rule i f)) h =
       let same = same_text (sizes_of p) (stream_of bytes) h.version proved.0 h.bound b h.tree tree h.reads reads in
       let here = subst (λ (c : Bound). FailsAt p c h.tree i f) same.0 h.is in
-      absurd (never_fails p b tree h.tree i f (tree_passes p b tree proved.2.within.depth proved.3) (ap (λ (t : Tree). slice_get (on_paths [] t) i) (sym same.1)) here)
+      absurd (never_fails p b tree h.tree i f (tree_passes p b tree proved.2.within.depth proved.3)
+      (ap (λ (t : Tree). slice_get (on_paths [] t) i) (sym same.1)) here)
   silent (Proof (check.TooDeep i)) h =
       let same = same_text (sizes_of p) (stream_of bytes) h.version proved.0 h.bound b h.tree tree h.reads reads in
       let here = subst (λ (c : Bound). IsDeepAt p c h.tree i) same.0 h.is in
-      absurd (never_deep p b tree h.tree i (tree_passes p b tree proved.2.within.depth proved.3) (ap (λ (t : Tree). slice_get (on_paths [] t) i) (sym same.1)) here)
+      absurd (never_deep p b tree h.tree i (tree_passes p b tree proved.2.within.depth proved.3)
+      (ap (λ (t : Tree). slice_get (on_paths [] t) i) (sym same.1)) here)
   silent (Proof check.OutOfMemory) h = absurd h
   silent TooLarge h = inr (inr refl)
   silent OutOfMemory h = inl refl

@@ -23,5 +23,6 @@ by_teacher = refl
 
 by_curriculum : report_lines mini table Curriculum
     ≡ (Text (codes "curriculum") ∷ Text (codes "q") ∷ [])
-    ∷ (Number 0 ∷ Number 0 ∷ Text (codes "a") ∷ Text (codes "R") ∷ []) ∷ (Number 0 ∷ Number 1 ∷ Text (codes "b") ∷ Text (codes "R") ∷ []) ∷ (Number 0 ∷ Number 2 ∷ []) ∷ []
+    ∷ (Number 0 ∷ Number 0 ∷ Text (codes "a") ∷ Text (codes "R") ∷ []) ∷
+    (Number 0 ∷ Number 1 ∷ Text (codes "b") ∷ Text (codes "R") ∷ []) ∷ (Number 0 ∷ Number 2 ∷ []) ∷ []
 by_curriculum = refl

@@ -26,10 +26,12 @@ use Rattle.tt_text.proofs.Texts.{rows_text}
 -- another number
 pub texts_more : {Y : Type 0} (f : ℕ → List Y) (i : ℕ) → flat_map f (range_below (i + 1)) ≡ flat_map f (range_below i) ++ f i
 texts_more f i =
-    ap (flat_map f) (range_below_more i) ∙ flat_map-append f (range_below i) (i ∷ []) ∙ ap (λ z. flat_map f (range_below i) ++ z) (append-nil (f i))
+    ap (flat_map f) (range_below_more i) ∙ flat_map-append f (range_below i) (i ∷ []) ∙ ap (λ z. flat_map f (range_below i) ++ z)
+    (append-nil (f i))
 
 -- a text is extended by that of another number
-pub puts_further : {W : Type 0} (C : W → Option (List ℕ)) (F : W → Bool) (f : ℕ → List ℕ) (i : ℕ) (first old new : Output W) → Puts C F first old (flat_map f (range_below i)) → Puts C F old new (f i) → Puts C F first new (flat_map f (range_below (i + 1)))
+pub puts_further : {W : Type 0} (C : W → Option (List ℕ)) (F : W → Bool) (f : ℕ → List ℕ) (i : ℕ) (first old new : Output W)
+    → Puts C F first old (flat_map f (range_below i)) → Puts C F old new (f i) → Puts C F first new (flat_map f (range_below (i + 1)))
 puts_further C F f i first old new before more =
     subst (Puts C F first new) (sym (texts_more f i)) (puts_both C F first old new (flat_map f (range_below i)) (f i) before more)
 
@@ -39,7 +41,8 @@ line_is p [] = refl
 line_is p (q ∷ ps) =
     ap (λ z. text_of p ++ 32 ∷ z) (line_is q ps) ∙ ap (λ z. text_of p ++ 32 ∷ z) (sym (append_assoc (text_of q) (next_texts ps) (10 ∷ [])))
 
-pub next_texts-of_flat_map : {X : Type 0} (f : X → List Piece) (xs : List X) → next_texts (flat_map f xs) ≡ flat_map (λ x. next_texts (f x)) xs
+pub next_texts-of_flat_map : {X : Type 0} (f : X → List Piece) (xs : List X) → next_texts (flat_map f xs) ≡ flat_map
+    (λ x. next_texts (f x)) xs
 next_texts-of_flat_map f [] = refl
 next_texts-of_flat_map f (x ∷ xs) =
     flat_map-append (λ p. 32 ∷ text_of p) (f x) (flat_map f xs) ∙ ap (λ z. next_texts (f x) ++ z) (next_texts-of_flat_map f xs)
@@ -48,13 +51,15 @@ pub filter-filter : {X : Type 0} (p q : X → Bool) (xs : List X) → filter p (
 filter-filter p q [] = refl
 filter-filter p q (x ∷ xs) = step (p x) (q x) refl ∙ ap (λ z. cond (p x && q x) (x ∷ z) z) (filter-filter p q xs)
   where
-    step : (a b : Bool) → p x ≡ a → filter p (cond b (x ∷ filter q xs) (filter q xs)) ≡ cond (a && b) (x ∷ filter p (filter q xs)) (filter p (filter q xs))
+    step : (a b : Bool) → p x ≡ a → filter p (cond b (x ∷ filter q xs) (filter q xs)) ≡ cond (a && b) (x ∷ filter p (filter q xs))
+        (filter p (filter q xs))
     step true true e = ap (λ c. cond c (x ∷ filter p (filter q xs)) (filter p (filter q xs))) e
     step false true e = ap (λ c. cond c (x ∷ filter p (filter q xs)) (filter p (filter q xs))) e
     step true false e = refl
     step false false e = refl
 
-pub lines_text-of_flat_map : {X : Type 0} (f : X → List (List Piece)) (xs : List X) → lines_text (flat_map f xs) ≡ flat_map (λ x. lines_text (f x)) xs
+pub lines_text-of_flat_map : {X : Type 0} (f : X → List (List Piece)) (xs : List X) → lines_text (flat_map f xs) ≡ flat_map
+    (λ x. lines_text (f x)) xs
 lines_text-of_flat_map f [] = refl
 lines_text-of_flat_map f (x ∷ xs) = both (f x) (flat_map f xs) ∙ ap (λ z. lines_text (f x) ++ z) (lines_text-of_flat_map f xs)
   where
@@ -62,7 +67,8 @@ lines_text-of_flat_map f (x ∷ xs) = both (f x) (flat_map f xs) ∙ ap (λ z. l
     both [] ms = refl
     both (l ∷ ls) ms = ap (λ z. line_text l ++ z) (both ls ms) ∙ sym (append_assoc (line_text l) (lines_text ls) (lines_text ms))
 
-pub flat_map-of_flat_map : {X Y Z : Type 0} (f : Y → List Z) (g : X → List Y) (xs : List X) → flat_map f (flat_map g xs) ≡ flat_map (λ x. flat_map f (g x)) xs
+pub flat_map-of_flat_map : {X Y Z : Type 0} (f : Y → List Z) (g : X → List Y) (xs : List X) → flat_map f (flat_map g xs) ≡ flat_map
+    (λ x. flat_map f (g x)) xs
 flat_map-of_flat_map f g [] = refl
 flat_map-of_flat_map f g (x ∷ xs) = flat_map-append f (g x) (flat_map g xs) ∙ ap (λ z. flat_map f (g x) ++ z) (flat_map-of_flat_map f g xs)
 
@@ -88,49 +94,66 @@ module _ {W : Type 0} (C : W → Option (List ℕ)) (F : W → Bool) where
   entries_begun p b first all left is = record { text = []; puts = puts_nothing C F first; whole = ap (entries_text p b) is }
 
   -- an entry that belongs to the block
-  pub entry_shown : (p : Problem) (b : Block) (e : Cell) (es left all : List Cell) (first old new : Output W) → left ≡ e ∷ es → belongs_to p b e ≡ true → EntriesPut p b first old all left → Puts C F old new (next_texts (shown_in p b e)) → EntriesPut p b first new all es
+  pub entry_shown : (p : Problem) (b : Block) (e : Cell) (es left all : List Cell) (first old new : Output W) → left ≡ e ∷ es
+      → belongs_to p b e ≡ true → EntriesPut p b first old all left → Puts C F old new (next_texts (shown_in p b e))
+      → EntriesPut p b first new all es
   entry_shown p b e es left all first old new is belongs before more = record {
     text = before.text ++ next_texts (shown_in p b e);
     puts = puts_both C F first old new before.text (next_texts (shown_in p b e)) before.puts more;
     whole = append_assoc before.text (next_texts (shown_in p b e)) (entries_text p b es)
-        ∙ ap (λ c. before.text ++ flat_map (λ x. next_texts (shown_in p b x)) (cond c (e ∷ filter (belongs_to p b) es) (filter (belongs_to p b) es))) (sym belongs)
+        ∙ ap (λ c. before.text ++ flat_map (λ x. next_texts (shown_in p b x))
+        (cond c (e ∷ filter (belongs_to p b) es) (filter (belongs_to p b) es))) (sym belongs)
         ∙ ap (λ l. before.text ++ entries_text p b l) (sym is)
         ∙ before.whole;
   }
 
   -- an entry of another block
-  pub entry_passed : (p : Problem) (b : Block) (e : Cell) (es left all : List Cell) (first now : Output W) → left ≡ e ∷ es → belongs_to p b e ≡ false → EntriesPut p b first now all left → EntriesPut p b first now all es
+  pub entry_passed : (p : Problem) (b : Block) (e : Cell) (es left all : List Cell) (first now : Output W) → left ≡ e ∷ es
+      → belongs_to p b e ≡ false → EntriesPut p b first now all left → EntriesPut p b first now all es
   entry_passed p b e es left all first now is other before = record {
     text = before.text;
     puts = before.puts;
-    whole = ap (λ c. before.text ++ flat_map (λ x. next_texts (shown_in p b x)) (cond c (e ∷ filter (belongs_to p b) es) (filter (belongs_to p b) es))) (sym other)
+    whole = ap (λ c. before.text ++ flat_map (λ x. next_texts (shown_in p b x))
+        (cond c (e ∷ filter (belongs_to p b) es) (filter (belongs_to p b) es))) (sym other)
         ∙ ap (λ l. before.text ++ entries_text p b l) (sym is)
         ∙ before.whole;
   }
 
   -- no entry is left
-  pub entries_all : (p : Problem) (b : Block) (left all : List Cell) (first now : Output W) → left ≡ [] → EntriesPut p b first now all left → Puts C F first now (entries_text p b all)
+  pub entries_all : (p : Problem) (b : Block) (left all : List Cell) (first now : Output W) → left ≡ []
+      → EntriesPut p b first now all left → Puts C F first now (entries_text p b all)
   entries_all p b left all first now none before =
-      subst (Puts C F first now) (sym (append-nil before.text) ∙ ap (λ l. before.text ++ entries_text p b l) (sym none) ∙ before.whole) before.puts
+      subst (Puts C F first now) (sym (append-nil before.text) ∙ ap (λ l. before.text ++ entries_text p b l) (sym none)
+      ∙ before.whole) before.puts
 
 -- the line of a period: day, period and its entries of the block
-pub slot_is : (p : Problem) (b : Block) (t : List Cell) (d s : ℕ) → slot_text p t b (slot d s) ≡ decimal d ++ (32 ∷ (decimal s ++ (entries_text p b (filter (is_at (slot d s)) t) ++ 10 ∷ [])))
+pub slot_is : (p : Problem) (b : Block) (t : List Cell) (d s : ℕ) → slot_text p t b (slot d s) ≡ decimal d ++
+    (32 ∷ (decimal s ++ (entries_text p b (filter (is_at (slot d s)) t) ++ 10 ∷ [])))
 slot_is p b t d s =
     ap (λ z. decimal d ++ 32 ∷ z) (line_is (Number s) (flat_map (shown_in p b) (filter (λ e. belongs_to p b e && is_at (slot d s) e) t)))
-    ∙ ap (λ es. decimal d ++ 32 ∷ (decimal s ++ (next_texts (flat_map (shown_in p b) es) ++ 10 ∷ []))) (sym (filter-filter (belongs_to p b) (is_at (slot d s)) t))
-    ∙ ap (λ z. decimal d ++ 32 ∷ (decimal s ++ (z ++ 10 ∷ []))) (next_texts-of_flat_map (shown_in p b) (filter (belongs_to p b) (filter (is_at (slot d s)) t)))
+    ∙ ap (λ es. decimal d ++ 32 ∷ (decimal s ++ (next_texts (flat_map (shown_in p b) es) ++ 10 ∷ [])))
+    (sym (filter-filter (belongs_to p b) (is_at (slot d s)) t))
+    ∙ ap (λ z. decimal d ++ 32 ∷ (decimal s ++ (z ++ 10 ∷ [])))
+    (next_texts-of_flat_map (shown_in p b) (filter (belongs_to p b) (filter (is_at (slot d s)) t)))
 
 module _ {W : Type 0} (C : W → Option (List ℕ)) (F : W → Bool) where
   -- the parts put in turn are the line
-  pub slot_put : (p : Problem) (b : Block) (t es : List Cell) (day period d s : ℕ) (first mid next last end : Output W) → d ≡ day → s ≡ period → es ≡ filter (is_at (slot day period)) t → Puts C F first mid (decimal d) → Puts C F mid next (32 ∷ decimal s) → Puts C F next last (entries_text p b es) → Puts C F last end (10 ∷ []) → Puts C F first end (slot_text p t b (slot day period))
+  pub slot_put : (p : Problem) (b : Block) (t es : List Cell) (day period d s : ℕ) (first mid next last end : Output W) → d ≡ day
+      → s ≡ period → es ≡ filter (is_at (slot day period)) t → Puts C F first mid (decimal d) → Puts C F mid next (32 ∷ decimal s)
+      → Puts C F next last (entries_text p b es) → Puts C F last end (10 ∷ []) → Puts C F first end (slot_text p t b (slot day period))
   slot_put p b t es day period d s first mid next last end day_is period_is es_is puts_day puts_period puts_entries puts_end =
       let numbers = puts_both C F first mid next (decimal d) (32 ∷ decimal s) puts_day puts_period in
       let entries = puts_both C F first next last (decimal d ++ 32 ∷ decimal s) (entries_text p b es) numbers puts_entries in
-      let text : ((decimal d ++ 32 ∷ decimal s) ++ entries_text p b es) ++ 10 ∷ [] ≡ decimal day ++ (32 ∷ (decimal period ++ (entries_text p b (filter (is_at (slot day period)) t) ++ 10 ∷ []))) = rw (es_is, day_is, period_is) (simp append_assoc) in
-      subst (Puts C F first end) (text ∙ sym (slot_is p b t day period)) (puts_both C F first last end ((decimal d ++ 32 ∷ decimal s) ++ entries_text p b es) (10 ∷ []) entries puts_end)
+      let text : ((decimal d ++ 32 ∷ decimal s) ++ entries_text p b es) ++ 10 ∷ [] ≡ decimal day ++
+      (32 ∷ (decimal period ++ (entries_text p b (filter (is_at (slot day period)) t) ++ 10 ∷ []))) =
+      rw (es_is, day_is, period_is) (simp append_assoc) in
+      subst (Puts C F first end) (text ∙ sym (slot_is p b t day period))
+      (puts_both C F first last end ((decimal d ++ 32 ∷ decimal s) ++ entries_text p b es) (10 ∷ []) entries puts_end)
 
   -- the parts of a head line
-  pub head_put : (head : List Piece) (bytes kind name : List ℕ) (first mid last end : Output W) → head ≡ Text kind ∷ Text name ∷ [] → bytes ≡ kind → Puts C F first mid bytes → Puts C F mid last (32 ∷ name) → Puts C F last end (10 ∷ []) → Puts C F first end (line_text head)
+  pub head_put : (head : List Piece) (bytes kind name : List ℕ) (first mid last end : Output W) → head ≡ Text kind ∷ Text name ∷ []
+      → bytes ≡ kind → Puts C F first mid bytes → Puts C F mid last (32 ∷ name) → Puts C F last end (10 ∷ [])
+      → Puts C F first end (line_text head)
   head_put head bytes kind name first mid last end head_is kind_is puts_kind puts_name puts_end =
       let both = puts_both C F first mid last bytes (32 ∷ name) puts_kind puts_name in
       subst (Puts C F first end)
@@ -138,12 +161,16 @@ module _ {W : Type 0} (C : W → Option (List ℕ)) (F : W → Bool) where
       (puts_both C F first last end (bytes ++ 32 ∷ name) (10 ∷ []) both puts_end)
 
   -- the course of an entry
-  pub course_put : (p : Problem) (b : Block) (e : Cell) (course : List ℕ) (first end : Output W) → shown_in p b e ≡ course_text p e ∷ [] → course ≡ text_of (course_text p e) → Puts C F first end (32 ∷ course) → Puts C F first end (next_texts (shown_in p b e))
+  pub course_put : (p : Problem) (b : Block) (e : Cell) (course : List ℕ) (first end : Output W) → shown_in p b e ≡ course_text p e ∷ []
+      → course ≡ text_of (course_text p e) → Puts C F first end (32 ∷ course) → Puts C F first end (next_texts (shown_in p b e))
   course_put p b e course first end shown course_is puts =
-      subst (Puts C F first end) (ap (λ z. 32 ∷ z) (course_is ∙ sym (append-nil (text_of (course_text p e)))) ∙ ap next_texts (sym shown)) puts
+      subst (Puts C F first end) (ap (λ z. 32 ∷ z) (course_is ∙ sym (append-nil (text_of (course_text p e))))
+      ∙ ap next_texts (sym shown)) puts
 
   -- the course and the room of an entry
-  pub course_and_room_put : (p : Problem) (b : Block) (e : Cell) (course room : List ℕ) (first mid end : Output W) → shown_in p b e ≡ course_and_room p e → course ≡ text_of (course_text p e) → room ≡ text_of (room_text p e) → Puts C F first mid (32 ∷ course) → Puts C F mid end (32 ∷ room) → Puts C F first end (next_texts (shown_in p b e))
+  pub course_and_room_put : (p : Problem) (b : Block) (e : Cell) (course room : List ℕ) (first mid end : Output W)
+      → shown_in p b e ≡ course_and_room p e → course ≡ text_of (course_text p e) → room ≡ text_of (room_text p e)
+      → Puts C F first mid (32 ∷ course) → Puts C F mid end (32 ∷ room) → Puts C F first end (next_texts (shown_in p b e))
   course_and_room_put p b e course room first mid end shown course_is room_is puts_course puts_room =
       subst (Puts C F first end)
       (ap (λ z. 32 ∷ (z ++ 32 ∷ room)) course_is
@@ -154,16 +181,20 @@ module _ {W : Type 0} (C : W → Option (List ℕ)) (F : W → Bool) where
 -- ---- blocks
 
 -- the lines of a block
-block_is : (p : Problem) (t : List Cell) (head : List Piece) (f : Slot → List Piece) → lines_text (head ∷ map f (all_slots p)) ≡ line_text head ++ flat_map (λ d. flat_map (λ s. line_text (f (slot d s))) (range_below p.periods)) (all_days p)
+block_is : (p : Problem) (t : List Cell) (head : List Piece) (f : Slot → List Piece)
+    → lines_text (head ∷ map f (all_slots p)) ≡ line_text head ++ flat_map
+    (λ d. flat_map (λ s. line_text (f (slot d s))) (range_below p.periods)) (all_days p)
 block_is p t head f =
     ap (λ z. line_text head ++ z)
     (rows_text f (all_slots p)
     ∙ flat_map-of_flat_map (λ s. line_text (f s)) (λ d. map (slot d) (range_below p.periods)) (all_days p)
-    ∙ flat_map-same (λ d. flat_map (λ s. line_text (f s)) (map (slot d) (range_below p.periods))) (λ d. flat_map (λ s. line_text (f (slot d s))) (range_below p.periods)) (all_days p)
+    ∙ flat_map-same (λ d. flat_map (λ s. line_text (f s)) (map (slot d) (range_below p.periods)))
+    (λ d. flat_map (λ s. line_text (f (slot d s))) (range_below p.periods)) (all_days p)
     (λ d. flat_map-of_map (λ s. line_text (f s)) (slot d) (range_below p.periods)))
 
 -- a list, by the numbers of its elements
-front_by_numbers : {X Y : Type 0} (f : X → List Y) (xs : List X) (d : X) (i : ℕ) → i ≤ length xs → flat_map f (take i xs) ≡ flat_map (λ k. f (get_or xs k d)) (range_below i)
+front_by_numbers : {X Y : Type 0} (f : X → List Y) (xs : List X) (d : X) (i : ℕ) → i ≤ length xs → flat_map f (take i xs) ≡ flat_map
+    (λ k. f (get_or xs k d)) (range_below i)
 front_by_numbers f xs d zero h = refl
 front_by_numbers f xs d (suc i) h =
     let one : suc i ≡ i + 1 = omega arith in
@@ -175,26 +206,36 @@ front_by_numbers f xs d (suc i) h =
     ∙ sym (texts_more (λ k. f (get_or xs k d)) i)
     ∙ ap (λ n. flat_map (λ k. f (get_or xs k d)) (range_below n)) (sym one)
 
-by_numbers : {X Y : Type 0} (f : X → List Y) (xs : List X) (d : X) → flat_map f xs ≡ flat_map (λ k. f (get_or xs k d)) (range_below (length xs))
+by_numbers : {X Y : Type 0} (f : X → List Y) (xs : List X) (d : X) → flat_map f xs ≡ flat_map (λ k. f (get_or xs k d))
+    (range_below (length xs))
 by_numbers f xs d =
     ap (flat_map f) (sym (take_all (length xs) xs (omega arith))) ∙ front_by_numbers f xs d (length xs) (omega arith)
 
-pub rooms_are : (p : Problem) (t : List Cell) → report_text p t Room ≡ flat_map (λ r. block_text p t (of.Room r)) (range_below (length p.rooms))
+pub rooms_are : (p : Problem) (t : List Cell) → report_text p t Room ≡ flat_map (λ r. block_text p t (of.Room r))
+    (range_below (length p.rooms))
 rooms_are p t =
     lines_text-of_flat_map (λ r. block p (head_of p (of.Room r)) (shown_in p (of.Room r)) (belongs_to p (of.Room r)) t) (all_rooms p)
-    ∙ flat_map-same (λ r. lines_text (block p (head_of p (of.Room r)) (shown_in p (of.Room r)) (belongs_to p (of.Room r)) t)) (λ r. block_text p t (of.Room r)) (all_rooms p)
+    ∙ flat_map-same (λ r. lines_text (block p (head_of p (of.Room r)) (shown_in p (of.Room r)) (belongs_to p (of.Room r)) t))
+    (λ r. block_text p t (of.Room r)) (all_rooms p)
     (λ r. block_is p t (head_of p (of.Room r)) (slot_line (shown_in p (of.Room r)) (belongs_to p (of.Room r)) t))
 
-pub curricula_are : (p : Problem) (t : List Cell) → report_text p t Curriculum ≡ flat_map (λ q. block_text p t (of.Curriculum q)) (range_below (length p.curricula))
+pub curricula_are : (p : Problem) (t : List Cell) → report_text p t Curriculum ≡ flat_map (λ q. block_text p t (of.Curriculum q))
+    (range_below (length p.curricula))
 curricula_are p t =
-    lines_text-of_flat_map (λ q. block p (head_of p (of.Curriculum q)) (shown_in p (of.Curriculum q)) (belongs_to p (of.Curriculum q)) t) (all_curricula p)
-    ∙ flat_map-same (λ q. lines_text (block p (head_of p (of.Curriculum q)) (shown_in p (of.Curriculum q)) (belongs_to p (of.Curriculum q)) t)) (λ q. block_text p t (of.Curriculum q)) (all_curricula p)
+    lines_text-of_flat_map (λ q. block p (head_of p (of.Curriculum q)) (shown_in p (of.Curriculum q))
+    (belongs_to p (of.Curriculum q)) t) (all_curricula p)
+    ∙ flat_map-same
+    (λ q. lines_text (block p (head_of p (of.Curriculum q)) (shown_in p (of.Curriculum q)) (belongs_to p (of.Curriculum q)) t))
+    (λ q. block_text p t (of.Curriculum q)) (all_curricula p)
     (λ q. block_is p t (head_of p (of.Curriculum q)) (slot_line (shown_in p (of.Curriculum q)) (belongs_to p (of.Curriculum q)) t))
 
-pub teachers_are : (p : Problem) (t : List Cell) → report_text p t Teacher ≡ flat_map (λ k. block_text p t (of.Teacher k)) (range_below (length (teachers p)))
+pub teachers_are : (p : Problem) (t : List Cell) → report_text p t Teacher ≡ flat_map (λ k. block_text p t (of.Teacher k))
+    (range_below (length (teachers p)))
 teachers_are p t =
-    let named : List ℕ → List (List Piece) = λ name. block p (Text (codes "teacher") ∷ Text name ∷ []) (course_and_room p) (is_taught_by p name) t in
+    let named : List ℕ → List (List Piece) = λ name. block p (Text (codes "teacher") ∷ Text name ∷ []) (course_and_room p)
+    (is_taught_by p name) t in
     lines_text-of_flat_map named (teachers p)
     ∙ by_numbers (λ name. lines_text (named name)) (teachers p) []
-    ∙ flat_map-same (λ k. lines_text (named (get_or (teachers p) k []))) (λ k. block_text p t (of.Teacher k)) (range_below (length (teachers p)))
+    ∙ flat_map-same (λ k. lines_text (named (get_or (teachers p) k []))) (λ k. block_text p t (of.Teacher k))
+    (range_below (length (teachers p)))
     (λ k. block_is p t (head_of p (of.Teacher k)) (slot_line (shown_in p (of.Teacher k)) (belongs_to p (of.Teacher k)) t))

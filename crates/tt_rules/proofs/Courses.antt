@@ -14,7 +14,8 @@ use Rattle.tt_instance_data.specs.declared.cell.Cell.{Cell}
 
 module _ (test : Cell → Bool) (t : List Cell) where
   -- whether some entry of one of the courses passes
-  pub any_of_courses : (cs : List ℕ) → list_any (λ c. list_any (λ e. is_of c e && test e) t) cs ≡ list_any (λ e. has_number cs e.course && test e) t
+  pub any_of_courses : (cs : List ℕ) → list_any (λ c. list_any (λ e. is_of c e && test e) t) cs ≡ list_any
+      (λ e. has_number cs e.course && test e) t
   any_of_courses [] = sym (never t)
     where
       never : (es : List Cell) → list_any (λ e. false && test e) es ≡ false
@@ -24,7 +25,8 @@ module _ (test : Cell → Bool) (t : List Cell) where
       ap (λ b. list_any (λ e. is_of c e && test e) t || b) (any_of_courses cs)
       ∙ sym (list_any-or (λ e. is_of c e && test e) (λ e. has_number cs e.course && test e) t)
       ∙ list_any-same (λ e. (is_of c e && test e) || (has_number cs e.course && test e)) (λ e. has_number (c ∷ cs) e.course && test e) t
-      (λ e. joined (is_of c e) (has_number cs e.course) (test e) ∙ ap (λ b. (b || has_number cs e.course) && test e) (test_turned e.course c))
+      (λ e. joined (is_of c e) (has_number cs e.course) (test e) ∙ ap (λ b. (b || has_number cs e.course) && test e)
+      (test_turned e.course c))
     where
       joined : (a b x : Bool) → ((a && x) || (b && x)) ≡ ((a || b) && x)
       joined true b true = refl
@@ -33,14 +35,16 @@ module _ (test : Cell → Bool) (t : List Cell) where
       joined false b x = refl
 
   -- the number of entries of distinct courses that pass
-  pub count_of_courses : (cs : List ℕ) → each_two (λ a b. not (a == b)) cs ≡ true → sum_by (λ c. count_by (λ e. is_of c e && test e) t) cs ≡ count_by (λ e. has_number cs e.course && test e) t
+  pub count_of_courses : (cs : List ℕ) → each_two (λ a b. not (a == b)) cs ≡ true
+      → sum_by (λ c. count_by (λ e. is_of c e && test e) t) cs ≡ count_by (λ e. has_number cs e.course && test e) t
   count_of_courses [] once = sym (sum_by-nothing t)
   count_of_courses (c ∷ cs) once =
       let two = and_parts (list_all (λ b. not (c == b)) cs) (each_two (λ a b. not (a == b)) cs) once in
       let own : Cell → ℕ = λ e. one_if (is_of c e && test e) in
       let others : Cell → ℕ = λ e. one_if (has_number cs e.course && test e) in
       let both = sum_by-plus own others t in
-      let first : sum_by (λ a. count_by (λ e. is_of a e && test e) t) (c ∷ cs) ≡ sum_by own t + sum_by (λ a. count_by (λ e. is_of a e && test e) t) cs = sum_by-cons (λ a. count_by (λ e. is_of a e && test e) t) c cs in
+      let first : sum_by (λ a. count_by (λ e. is_of a e && test e) t) (c ∷ cs) ≡ sum_by own t + sum_by
+      (λ a. count_by (λ e. is_of a e && test e) t) cs = sum_by-cons (λ a. count_by (λ e. is_of a e && test e) t) c cs in
       let all = sum_by-same (λ e. own e + others e) (λ e. one_if (has_number (c ∷ cs) e.course && test e)) t (λ e. apart e two.0) in
       omega (arith, first, both, all, count_of_courses cs two.1)
     where
@@ -65,7 +69,8 @@ module _ (test : Cell → Bool) (t : List Cell) where
         | inr other ↦ ap (λ b. b && has_number cs n) (ne_eqb n c other)
       ]
 
-      apart : (e : Cell) → list_all (λ b. not (c == b)) cs ≡ true → one_if (is_of c e && test e) + one_if (has_number cs e.course && test e) ≡ one_if (has_number (c ∷ cs) e.course && test e)
+      apart : (e : Cell) → list_all (λ b. not (c == b)) cs ≡ true → one_if (is_of c e && test e) + one_if
+          (has_number cs e.course && test e) ≡ one_if (has_number (c ∷ cs) e.course && test e)
       apart e h =
           joined (is_of c e) (has_number cs e.course) (test e) (not_both e.course (none h))
           ∙ ap (λ b. one_if ((b || has_number cs e.course) && test e)) (test_turned e.course c)

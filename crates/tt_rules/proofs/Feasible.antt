@@ -33,10 +33,12 @@ collide-itself p x = and_right ((x.day == x.day) && (x.period == x.period)) (con
 -- ---- the counts
 
 -- a course's entries in all periods, added up, are at most all its entries
-pub in_periods : (p : Problem) (t : List Cell) (c : ℕ) → sum_by (λ s. count_by (λ e. is_of c e && is_at s e) t) (all_slots p) ≤ entries_of t c
+pub in_periods : (p : Problem) (t : List Cell) (c : ℕ) → sum_by (λ s. count_by (λ e. is_of c e && is_at s e) t)
+    (all_slots p) ≤ entries_of t c
 in_periods p t c =
     spread_down (λ e. one_if (is_of c e)) (λ s e. one_if (is_of c e && is_at s e)) t (all_slots p)
-    (each (λ e. sum_by (λ s. one_if (is_of c e && is_at s e)) (all_slots p) ≤ one_if (is_of c e)) (λ e. once_at_most (is_of c e) (λ s. is_at s e) 1 (all_slots p) (count_slots p e)) t)
+    (each (λ e. sum_by (λ s. one_if (is_of c e && is_at s e)) (all_slots p) ≤ one_if (is_of c e))
+    (λ e. once_at_most (is_of c e) (λ s. is_at s e) 1 (all_slots p) (count_slots p e)) t)
 
 -- a course has an entry in each of its periods
 pub periods-le_entries : (p : Problem) (t : List Cell) (c : ℕ) → periods_of p t c ≤ entries_of t c
@@ -56,7 +58,8 @@ module _ (p : Problem) (t : List Cell) (ok : IsFeasible p t) where
       each_below_at (λ k. lectures_off p t k ≡ 0) (length p.courses) c (sum_by-zero_each (lectures_off p t) (all_courses p) ok.lectures) h
 
   no_entries : (c : ℕ) → length p.courses ≤ c → entries_of t c ≡ 0
-  no_entries c h = none_counted (is_of c) t (λ x m e. let r = in_range x m in let k = eqb-true x.course c e in absurd (omega (arith, r.course)))
+  no_entries c h = none_counted (is_of c) t (λ x m e. let r = in_range x m in let k = eqb-true x.course c e in
+      absurd (omega (arith, r.course)))
 
   -- each course has its lectures
   pub lectures_met : (c : ℕ) → entries_of t c ≡ lectures p c
@@ -77,8 +80,10 @@ module _ (p : Problem) (t : List Cell) (ok : IsFeasible p t) where
       let one : Slot → ℕ = λ s. one_if (list_any (λ e. is_of c e && is_at s e) t) in
       let many : Slot → ℕ = λ s. count_by (λ e. is_of c e && is_at s e) t in
       let at_most = in_periods p t c in
-      let tight = sum_by-tight one many (all_slots p) (each (λ s. one s ≤ many s) (λ s. one_if_any (λ e. is_of c e && is_at s e) t) (all_slots p)) (omega (arith, in_distinct_periods c)) in
-      each_weaker (λ s. many s ≤ one s) (λ s. many s ≤ 1) (λ s h. let k = one_if-le (list_any (λ e. is_of c e && is_at s e) t) in omega arith) (all_slots p) tight
+      let tight = sum_by-tight one many (all_slots p) (each (λ s. one s ≤ many s) (λ s. one_if_any (λ e. is_of c e && is_at s e) t)
+      (all_slots p)) (omega (arith, in_distinct_periods c)) in
+      each_weaker (λ s. many s ≤ one s) (λ s. many s ≤ 1) (λ s h. let k = one_if-le (list_any (λ e. is_of c e && is_at s e) t) in
+      omega arith) (all_slots p) tight
 
   pub once_at : (c : ℕ) (x : Cell) → InRange p x → count_by (λ e. is_of c e && is_at (slot_of x) e) t ≤ 1
   once_at c x h = each_slot_at p (λ s. count_by (λ e. is_of c e && is_at s e) t ≤ 1) x.day x.period (once_a_period c) h.day h.period
@@ -86,8 +91,10 @@ module _ (p : Problem) (t : List Cell) (ok : IsFeasible p t) where
   -- a room has at most one entry in a period
   pub one_in_room : AllByRecursion (λ r. AllByRecursion (λ s. entries_in t r s ≤ 1) (all_slots p)) (all_rooms p)
   one_in_room =
-      each_weaker (λ r. sum_by (λ s. entries_in t r s - 1) (all_slots p) ≡ 0) (λ r. AllByRecursion (λ s. entries_in t r s ≤ 1) (all_slots p))
-      (λ r h. each_weaker (λ s. entries_in t r s - 1 ≡ 0) (λ s. entries_in t r s ≤ 1) (λ s k. omega arith) (all_slots p) (sum_by-zero_each (λ s. entries_in t r s - 1) (all_slots p) h))
+      each_weaker (λ r. sum_by (λ s. entries_in t r s - 1) (all_slots p) ≡ 0)
+      (λ r. AllByRecursion (λ s. entries_in t r s ≤ 1) (all_slots p))
+      (λ r h. each_weaker (λ s. entries_in t r s - 1 ≡ 0) (λ s. entries_in t r s ≤ 1) (λ s k. omega arith) (all_slots p)
+      (sum_by-zero_each (λ s. entries_in t r s - 1) (all_slots p) h))
       (all_rooms p) (sum_by-zero_each (λ r. sum_by (λ s. entries_in t r s - 1) (all_slots p)) (all_rooms p) ok.room_occupancy)
 
   -- a room has at most one entry in a period, also a room that is out of range and has none
@@ -105,7 +112,8 @@ module _ (p : Problem) (t : List Cell) (ok : IsFeasible p t) where
   pub one_in : (x : Cell) → InRange p x → entries_in t x.room (slot_of x) ≤ 1
   one_in x h =
       each_slot_at p (λ s. entries_in t x.room s ≤ 1) x.day x.period
-      (each_below_at (λ r. AllByRecursion (λ s. entries_in t r s ≤ 1) (all_slots p)) (length p.rooms) x.room one_in_room h.room) h.day h.period
+      (each_below_at (λ r. AllByRecursion (λ s. entries_in t r s ≤ 1) (all_slots p)) (length p.rooms) x.room one_in_room h.room) h.day
+      h.period
 
   -- two courses that conflict have no period in common
   pub no_collision : (x y : Cell) → Contains t x → Contains t y → collide p x y ≡ true → ⊥

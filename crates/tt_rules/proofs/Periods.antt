@@ -20,18 +20,23 @@ own_slot q e h =
     (and_from (e.day == e.day) (e.period == e.period) (eq-eqb e.day e.day refl) (eq-eqb e.period e.period refl))
 
 -- each chosen entry is in exactly one period
-pub slots_of_entries : (q : Problem) (t : List Cell) (chosen : Cell → Bool) → IsTimetable q t → sum_by (λ s. count_by (λ e. chosen e && is_at s e) t) (all_slots q) ≡ count_by chosen t
+pub slots_of_entries : (q : Problem) (t : List Cell) (chosen : Cell → Bool) → IsTimetable q t
+    → sum_by (λ s. count_by (λ e. chosen e && is_at s e) t) (all_slots q) ≡ count_by chosen t
 slots_of_entries q t chosen ok =
     let f : Cell → ℕ = λ e. one_if (chosen e) in
     let w : Slot → Cell → ℕ = λ s e. one_if (chosen e && is_at s e) in
     let up = spread_up f w t (all_slots q)
-    (each_weaker (InRange q) (λ e. f e ≤ sum_by (λ s. w s e) (all_slots q)) (λ e h. once_at_least (chosen e) (λ s. is_at s e) 1 (all_slots q) (own_slot q e h)) t (recursion_from_All (InRange q) t ok)) in
+    (each_weaker (InRange q) (λ e. f e ≤ sum_by (λ s. w s e) (all_slots q))
+    (λ e h. once_at_least (chosen e) (λ s. is_at s e) 1 (all_slots q) (own_slot q e h)) t (recursion_from_All (InRange q) t ok)) in
     let down = spread_down f w t (all_slots q)
-    (each (λ e. sum_by (λ s. w s e) (all_slots q) ≤ f e) (λ e. once_at_most (chosen e) (λ s. is_at s e) 1 (all_slots q) (count_slots q e)) t) in
+    (each (λ e. sum_by (λ s. w s e) (all_slots q) ≤ f e)
+    (λ e. once_at_most (chosen e) (λ s. is_at s e) 1 (all_slots q) (count_slots q e)) t) in
     omega (arith, up, down)
 
 -- the chosen entries except the first of each period: the number of chosen entries minus the number of their periods
-pub entries_but_first : (q : Problem) (t : List Cell) (chosen : Cell → Bool) → IsTimetable q t → sum_by (λ s. count_by (λ e. chosen e && is_at s e) t - 1) (all_slots q) ≡ count_by chosen t - count_by (λ s. list_any (λ e. chosen e && is_at s e) t) (all_slots q)
+pub entries_but_first : (q : Problem) (t : List Cell) (chosen : Cell → Bool) → IsTimetable q t
+    → sum_by (λ s. count_by (λ e. chosen e && is_at s e) t - 1) (all_slots q) ≡ count_by chosen t - count_by
+    (λ s. list_any (λ e. chosen e && is_at s e) t) (all_slots q)
 entries_but_first q t chosen ok =
     let here : Slot → Cell → Bool = λ s e. chosen e && is_at s e in
     let others : Slot → ℕ = λ s. count_by (here s) t - 1 in

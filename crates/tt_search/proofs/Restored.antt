@@ -19,7 +19,8 @@ course_at t u i inside same =
     ∙ ap (λ l. get_or l i 0) same ∙ get_or-map (λ e. e.course) u i no_entry 0 within
 
 -- the moved entry is the entry of the other list
-moved_is : (t u : List Cell) (i : ℕ) (x : Cell) → i < length t → courses_of t ≡ courses_of u → x ≡ entry_at u i → record { course = (entry_at t i).course; room = x.room; day = x.day; period = x.period } ≡ x
+moved_is : (t u : List Cell) (i : ℕ) (x : Cell) → i < length t → courses_of t ≡ courses_of u → x ≡ entry_at u i
+    → record { course = (entry_at t i).course; room = x.room; day = x.day; period = x.period } ≡ x
 moved_is t u i x inside same is =
     ap (λ c. record x { course = c }) (course_at t u i inside same ∙ ap (λ e. e.course) (sym is))
 
@@ -28,7 +29,8 @@ pub courses_restored : (t u : List Cell) (i r d s : ℕ) → courses_of t ≡ co
 courses_restored t u i r d s same = courses-stepped t (Move i r d s) ∙ same
 
 -- another entry agrees with the other list
-pub front_restored : (t u : List Cell) (i : ℕ) (x : Cell) → i < length t → courses_of t ≡ courses_of u → x ≡ entry_at u i → take i t ≡ take i u → take (i + 1) (stepped t (Move i x.room x.day x.period)) ≡ take (i + 1) u
+pub front_restored : (t u : List Cell) (i : ℕ) (x : Cell) → i < length t → courses_of t ≡ courses_of u → x ≡ entry_at u i
+    → take i t ≡ take i u → take (i + 1) (stepped t (Move i x.room x.day x.period)) ≡ take (i + 1) u
 front_restored t u i x inside same is front =
     let moved : Cell = record { course = (entry_at t i).course; room = x.room; day = x.day; period = x.period } in
     let within : i < length u = omega (arith, length_same t u same) in

@@ -33,13 +33,16 @@ completed_none p t inside = record {
 }
 
 -- there is room for the lectures of all courses so far
-pub few_more : (p : Problem) (n m : ℕ) (t u : List Cell) → IsInstance p → IsCompletedTo p n t u → n < length p.courses → m ≤ lectures p n → length t ≤ 12288 → length u + m ≤ 16384
-few_more p n m t u ok done h at_most small = omega (arith, done.size, sum_by_more_le (λ (c : Course). c.lectures) p.courses n no_course h, ok.within.lectures)
+pub few_more : (p : Problem) (n m : ℕ) (t u : List Cell) → IsInstance p → IsCompletedTo p n t u → n < length p.courses
+    → m ≤ lectures p n → length t ≤ 12288 → length u + m ≤ 16384
+few_more p n m t u ok done h at_most small =
+    omega (arith, done.size, sum_by_more_le (λ (c : Course). c.lectures) p.courses n no_course h, ok.within.lectures)
 
 max_sum : (a l : ℕ) → a + (l - a) ≡ max a l
 max_sum a l = omega arith
 
-pub completed_more : (p : Problem) (n m : ℕ) (t u v : List Cell) → IsCompletedTo p n t u → n < length p.courses → m ≡ lectures p n - entries_of t n → HasMore p n m u v → Begins u v → IsCompletedTo p (n + 1) t v
+pub completed_more : (p : Problem) (n m : ℕ) (t u v : List Cell) → IsCompletedTo p n t u → n < length p.courses
+    → m ≡ lectures p n - entries_of t n → HasMore p n m u v → Begins u v → IsCompletedTo p (n + 1) t v
 completed_more p n m t u v done h is more after = record {
   in_range = more.in_range done.in_range;
   begins = begins_after t u v done.begins after;

@@ -13,7 +13,8 @@ both = at 0 0 0 0 ∷ at 1 0 0 1 ∷ []
 
 both_placed : IsConstructed mini both
 both_placed = record {
-  in_range = All-cons (InRange mini) (at 0 0 0 0) (at 1 0 0 1 ∷ []) (inside 0 0 (lit< tt) (lit< tt)) (All-cons (InRange mini) (at 1 0 0 1) [] (inside 1 1 (lit< tt) (lit< tt)) (All-nil (InRange mini)));
+  in_range = All-cons (InRange mini) (at 0 0 0 0) (at 1 0 0 1 ∷ []) (inside 0 0 (lit< tt) (lit< tt))
+      (All-cons (InRange mini) (at 1 0 0 1) [] (inside 1 1 (lit< tt) (lit< tt)) (All-nil (InRange mini)));
   lectures_placed = λ some. placed;
   without_rooms = λ none. cc;
 }

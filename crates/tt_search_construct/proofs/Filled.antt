@@ -27,7 +27,8 @@ none_more p c t = record { in_range = λ h. h; size = omega arith; counts = λ k
     by_test false n = omega arith
 
 -- the case of another entry
-pub one_more : (p : Problem) (c n : ℕ) (old t u : List Cell) (e : Cell) → HasMore p c n old t → InRange p e → e.course ≡ c → u ≡ t ++ e ∷ [] → HasMore p c (n + 1) old u
+pub one_more : (p : Problem) (c n : ℕ) (old t u : List Cell) (e : Cell) → HasMore p c n old t → InRange p e → e.course ≡ c
+    → u ≡ t ++ e ∷ [] → HasMore p c (n + 1) old u
 one_more p c n old t u e more inside of_course is = subst (HasMore p c (n + 1) old) (sym is) (record {
   in_range = λ h. All-append (InRange p) t (e ∷ []) (more.in_range h) (All-cons (InRange p) e [] inside (All-nil (InRange p)));
   size = omega (arith, more.size, length-append t (e ∷ []));
@@ -57,15 +58,23 @@ pub filled_none : (p : Problem) → IsFilledTo p 0 []
 filled_none p = record { in_range = All-nil (InRange p); size = refl; placed = λ c h. absurd (omega arith); others = λ c h. refl }
 
 -- there is room for the lectures of the next course
-pub few_more : (p : Problem) (n : ℕ) (t : List Cell) → IsInstance p → IsFilledTo p n t → n < length p.courses → length t + lectures p n ≤ 4096
-few_more p n t ok filled h = omega (arith, filled.size, sum_by_more_le (λ (c : Course). c.lectures) p.courses n no_course h, ok.within.lectures)
+pub few_more : (p : Problem) (n : ℕ) (t : List Cell) → IsInstance p → IsFilledTo p n t → n < length p.courses
+    → length t + lectures p n ≤ 4096
+few_more p n t ok filled h = omega (
+  arith,
+  filled.size,
+  sum_by_more_le (λ (c : Course). c.lectures) p.courses n no_course h,
+  ok.within.lectures,
+)
 
-pub filled_more : (p : Problem) (n : ℕ) (t u : List Cell) → IsFilledTo p n t → n < length p.courses → HasMore p n (lectures p n) t u → IsFilledTo p (n + 1) u
+pub filled_more : (p : Problem) (n : ℕ) (t u : List Cell) → IsFilledTo p n t → n < length p.courses → HasMore p n (lectures p n) t u
+    → IsFilledTo p (n + 1) u
 filled_more p n t u filled h more = record {
   in_range = more.in_range filled.in_range;
   size = omega (arith, more.size, filled.size, sum_by_more (λ (c : Course). c.lectures) p.courses n no_course h);
   placed = λ c l. elim (cases_eq n c) [ inl e ↦ here c e | inr e ↦ before c e (omega arith) ];
-  others = λ c l. let e = ne_eqb n c (λ e. omega arith) in let k = rw e at (more.counts c) in omega (arith, k, filled.others c (omega arith));
+  others = λ c l. let e = ne_eqb n c (λ e. omega arith) in let k = rw e at (more.counts c) in
+      omega (arith, k, filled.others c (omega arith));
 }
   where
     here : (c : ℕ) → n ≡ c → entries_of u c ≡ lectures p c

@@ -22,7 +22,8 @@ exchanged = at 1 0 0 0 ∷ at 0 0 0 1 ∷ []
 
 is_timetable : (s : ℕ) → s < 3 → IsTimetable mini (at 0 0 0 0 ∷ at 1 0 0 s ∷ [])
 is_timetable s k =
-    All-cons (InRange mini) (at 0 0 0 0) (at 1 0 0 s ∷ []) (inside 0 0 (lit< tt) (lit< tt)) (All-cons (InRange mini) (at 1 0 0 s) [] (inside 1 s (lit< tt) k) (All-nil (InRange mini)))
+    All-cons (InRange mini) (at 0 0 0 0) (at 1 0 0 s ∷ []) (inside 0 0 (lit< tt) (lit< tt))
+    (All-cons (InRange mini) (at 1 0 0 s) [] (inside 1 s (lit< tt) k) (All-nil (InRange mini)))
   where
     inside : (c s : ℕ) → c < 2 → s < 3 → InRange mini (at c 0 0 s)
     inside c s h k = record { course = h; room = lit< tt; day = lit< tt; period = k }

@@ -40,8 +40,13 @@ pub leads_here : (p : Problem) (t : List Cell) (n : ℕ) → LeadsWithin p t n t
 leads_here p t n = record { made = 0; path = here p t; within = omega arith }
 
 -- another step, or none
-pub leads_on : {p : Problem} {t u : List Cell} {n : ℕ} (s : Step) → LeadsWithin p t n u → CanStep p u s → LeadsWithin p t (n + 1) (stepped u s)
-leads_on {p} {t} {u} {n} s led able = record { made = led.made + 1; path = step p t u led.made s led.path able; within = omega (arith, led.within) }
+pub leads_on : {p : Problem} {t u : List Cell} {n : ℕ} (s : Step) → LeadsWithin p t n u → CanStep p u s
+    → LeadsWithin p t (n + 1) (stepped u s)
+leads_on {p} {t} {u} {n} s led able = record {
+  made = led.made + 1;
+  path = step p t u led.made s led.path able;
+  within = omega (arith, led.within);
+}
 
 pub leads_longer : {p : Problem} {t u : List Cell} {n : ℕ} → LeadsWithin p t n u → LeadsWithin p t (n + 1) u
 leads_longer led = record { made = led.made; path = led.path; within = omega (arith, led.within) }
@@ -63,7 +68,9 @@ leads_then led next within =
     record { made = far.made; path = far.path; within = omega (arith, far.within, next.within, within) }
 
 -- from a first timetable to one that is no worse, and then a descent
-pub no_worse_then_down : (p : Problem) (t v : List Cell) (first best : Filled) (draws steps : ℕ) (settled : Bool) → first ≡ record { problem = p; entries = t } → best.problem ≡ first.problem → IsNoWorse first.problem first.entries best.entries → LeadsWithin first.problem first.entries draws best.entries
+pub no_worse_then_down : (p : Problem) (t v : List Cell) (first best : Filled) (draws steps : ℕ) (settled : Bool)
+    → first ≡ record { problem = p; entries = t } → best.problem ≡ first.problem → IsNoWorse first.problem first.entries best.entries
+    → LeadsWithin first.problem first.entries draws best.entries
     → IsDescent best.problem best.entries steps v settled → IsDescended p t draws steps v
 no_worse_then_down p t v first best draws steps settled is problem kept led down = record {
   best = best.entries;

@@ -32,21 +32,25 @@ module _ (at end other : ℕ) (p : Problem) where
   below_same t n (Err number.TooLarge) = (other_offset at t.at, λ v e. cc)
 
   -- the verdicts on a name
-  course_same : (t : Placed) (n : ℕ) (course : Option ℕ) → SameVerdict token_offset at (t.at ≢ at) (found (fault.UnknownCourse t.at) course) (found (fault.UnknownCourse n) course)
+  course_same : (t : Placed) (n : ℕ) (course : Option ℕ) → SameVerdict token_offset at (t.at ≢ at)
+      (found (fault.UnknownCourse t.at) course) (found (fault.UnknownCourse n) course)
   course_same t n None = (other_offset at t.at, λ v e. cc)
   course_same t n (Some i) = refl
 
-  room_same : (t : Placed) (n : ℕ) (room : Option ℕ) → SameVerdict token_offset at (t.at ≢ at) (found (fault.UnknownRoom t.at) room) (found (fault.UnknownRoom n) room)
+  room_same : (t : Placed) (n : ℕ) (room : Option ℕ) → SameVerdict token_offset at (t.at ≢ at) (found (fault.UnknownRoom t.at) room)
+      (found (fault.UnknownRoom n) room)
   room_same t n None = (other_offset at t.at, λ v e. cc)
   room_same t n (Some i) = refl
 
   -- a number below a bound
   index_alike : (bound : ℕ) → ReadsAlike token_offset at (Unit {0}) (index_at end bound) (index_at other bound)
   unfolding index_at
-  index_alike bound = then_token _ _ _ _ refl (λ t n. then_verdict _ _ _ _ (below_same t n (number_of (bound - 1) t.text)) (λ v. ok_reads v))
+  index_alike bound = then_token _ _ _ _ refl (λ t n. then_verdict _ _ _ _ (below_same t n (number_of (bound - 1) t.text))
+      (λ v. ok_reads v))
 
   -- an entry whose first token has been taken
-  entry_alike : (t : Placed) (n : ℕ) → ReadsAlike token_offset at (t.at ≢ at) (entry_at end p t) (entry_at other p (record { text = t.text; at = n }))
+  entry_alike : (t : Placed) (n : ℕ) → ReadsAlike token_offset at (t.at ≢ at) (entry_at end p t)
+      (entry_at other p (record { text = t.text; at = n }))
   unfolding entry_at
   entry_alike t n =
       then_verdict _ _ _ _ (course_same t n (index_of_name (course_ids p) t.text)) (λ course. then_token _ _ _ _ refl (λ u m.
@@ -60,12 +64,14 @@ module _ (at end other : ℕ) (p : Problem) where
   EntriesAlike n = (before : List Cell) → EndsAlike token_offset at (Unit {0}) (entries_at end p n before) (entries_at other p n before)
 
   -- no further entries are allowed
-  full_stays : (before : List Cell) (ts : List Placed) → NoneAt at ts → Stays token_offset at (λ _. Unit {0}) (entries_at end p zero before ts)
+  full_stays : (before : List Cell) (ts : List Placed) → NoneAt at ts → Stays token_offset at (λ _. Unit {0})
+      (entries_at end p zero before ts)
   unfolding entries_at
   full_stays before [] none = tt
   full_stays before (t ∷ ts) none = other_offset at t.at none.0
 
-  full_joins : (before : List Cell) (ts us : List Placed) → Shared at ts us → Joins token_offset at (λ _. Unit {0}) (λ _ _. Unit {0}) (entries_at end p zero before ts) (entries_at other p zero before us)
+  full_joins : (before : List Cell) (ts us : List Placed) → Shared at ts us → Joins token_offset at (λ _. Unit {0}) (λ _ _. Unit {0})
+      (entries_at end p zero before ts) (entries_at other p zero before us)
   unfolding entries_at
   full_joins before ts us (Apart none) = stays_joins token_offset at (λ _. Unit {0}) (λ _ _. Unit {0}) _ _ (full_stays before ts none)
   full_joins before ts us (Next n shared) = inr (λ y e. cc)
@@ -82,14 +88,18 @@ module _ (at end other : ℕ) (p : Problem) where
     next_stays [] none = tt
     next_stays (t ∷ ts) none = (first_alike t 0).stays none.0 ts none.1
 
-    next_joins : (ts us : List Placed) → Shared at ts us → Joins token_offset at (λ _. Unit {0}) (λ _ _. Unit {0}) (entries_at end p (suc n) before ts) (entries_at other p (suc n) before us)
+    next_joins : (ts us : List Placed) → Shared at ts us → Joins token_offset at (λ _. Unit {0}) (λ _ _. Unit {0})
+        (entries_at end p (suc n) before ts) (entries_at other p (suc n) before us)
     unfolding entries_at
     next_joins ts us (Apart none) = stays_joins token_offset at (λ _. Unit {0}) (λ _ _. Unit {0}) _ _ (next_stays ts none)
     next_joins ts us (Next {t} {ts = rest} {us = others} m shared) = (first_alike t m).joins rest others shared
 
   entries_alike : (n : ℕ) → EntriesAlike n
   entries_alike zero before = record { stays = λ c ts none. full_stays before ts none; joins = full_joins before }
-  entries_alike (suc n) before = record { stays = λ c ts none. next_stays n (entries_alike n) before ts none; joins = next_joins n (entries_alike n) before }
+  entries_alike (suc n) before = record {
+    stays = λ c ts none. next_stays n (entries_alike n) before ts none;
+    joins = next_joins n (entries_alike n) before;
+  }
 
 -- -- the meaning of a fault at a token
 
@@ -99,13 +109,17 @@ unfolding solution_of
 read_from p bytes = refl
 
 -- a token of the bytes begins at the offset of the fault
-pub fault_stands : (p : Problem) (bytes : List ℕ) (e : SolutionFault) (at : ℕ) → solution_of p bytes ≡ Err e → token_offset e ≡ Some at → Any (λ t. t.at ≡ at) (tokens_of bytes)
+pub fault_stands : (p : Problem) (bytes : List ℕ) (e : SolutionFault) (at : ℕ) → solution_of p bytes ≡ Err e → token_offset e ≡ Some at
+    → Any (λ t. t.at ≡ at) (tokens_of bytes)
 fault_stands p bytes e at failed reported =
     let end : ℕ = length bytes in
-    fault_at_token token_offset at _ _ (entries_alike at end end p MAX_ENTRIES []) (tokens_of bytes) e (sym (read_from p bytes) ∙ failed) reported
+    fault_at_token token_offset at _ _ (entries_alike at end end p MAX_ENTRIES []) (tokens_of bytes) e
+    (sym (read_from p bytes) ∙ failed) reported
 
 -- bytes that begin the same way spell no solution
-pub fault_stays : (p : Problem) (bytes other : List ℕ) (e : SolutionFault) (at : ℕ) → IsWithinLimits p → solution_of p bytes ≡ Err e → token_offset e ≡ Some at → BeginsAs at bytes other → (t : List Cell) → ¬ SpellsTable p other t
+pub fault_stays : (p : Problem) (bytes other : List ℕ) (e : SolutionFault) (at : ℕ) → IsWithinLimits p → solution_of p bytes ≡ Err e
+    → token_offset e ≡ Some at → BeginsAs at bytes other → (t : List Cell) → ¬ SpellsTable p other t
 fault_stays p bytes other e at within failed reported begins t spelled =
-    fault_of_all token_offset at _ _ (entries_alike at (length bytes) (length other) p MAX_ENTRIES []) (tokens_of bytes) e (sym (read_from p bytes) ∙ failed) reported
+    fault_of_all token_offset at _ _ (entries_alike at (length bytes) (length other) p MAX_ENTRIES []) (tokens_of bytes) e
+    (sym (read_from p bytes) ∙ failed) reported
     (tokens_of other) (begins_shared at bytes other begins) t (sym (read_from p other) ∙ solution_read p other t within spelled)

@@ -17,7 +17,8 @@ first_here by t g i h own =
     omega (arith, none)
 
 -- if the entry at i is of another group, the first of the group comes later
-first_past : (by : GroupBy) (t : List Cell) (g i : ℕ) → i < length t → (group_of by (get_or t i nobody) ≡ g → ⊥) → first_at by t g i ≡ first_at by t g (i + 1)
+first_past : (by : GroupBy) (t : List Cell) (g i : ℕ) → i < length t → (group_of by (get_or t i nobody) ≡ g → ⊥)
+    → first_at by t g i ≡ first_at by t g (i + 1)
 first_past by t g i h other =
     let one = prefix_len-drop_yes (λ e. not (in_group by g e)) t i nobody h (ap not (ne_eqb (group_of by (get_or t i nobody)) g other)) in
     omega (arith, one)
@@ -39,7 +40,8 @@ module _ (by : GroupBy) (t : List Cell) (g i : ℕ) (own : group_of by (get_or t
     | inr other ↦ get_or-set_other first g k i 0 other ∙ named k below ∙ sym (first_past by t k i h (λ e. other (sym e ∙ own)))
   ]
 
-  pub named_more : (first next : List ℕ) → g < 2048 → i < length next → NamesFirst by t first (i + 1) → NamesNext by t next (i + 1) → NamesNext by t (set next i (get_or first g 0)) i
+  pub named_more : (first next : List ℕ) → g < 2048 → i < length next → NamesFirst by t first (i + 1) → NamesNext by t next (i + 1)
+      → NamesNext by t (set next i (get_or first g 0)) i
   named_more first next below inside begins named j from within = elim (cases_eq j i) [
     | inl same ↦
         get_or-set_at next i j (get_or first g 0) 0 same inside ∙ begins g below
@@ -49,13 +51,15 @@ module _ (by : GroupBy) (t : List Cell) (g i : ℕ) (own : group_of by (get_or t
   ]
 
 -- the first entry of a group leads the group
-led : (by : GroupBy) (g : ℕ) (es : List Cell) → led_group by (drop (prefix_len (λ e. not (in_group by g e)) es) es) ≡ filter (in_group by g) es
+led : (by : GroupBy) (g : ℕ) (es : List Cell) → led_group by (drop (prefix_len (λ e. not (in_group by g e)) es) es) ≡ filter
+    (in_group by g) es
 led by g [] = refl
 led by g (e ∷ es) =
     here e es (prefix_len (λ x. not (in_group by g x)) es) (in_group by g e)
     ∙ both (in_group by g e) (λ own. ap (λ k. e ∷ filter (in_group by k) es) (eqb-true (group_of by e) g own)) (led by g es)
   where
-    here : (e : Cell) (es : List Cell) (n : ℕ) (b : Bool) → led_group by (drop (cond (not b) (1 + n) 0) (e ∷ es)) ≡ cond b (e ∷ filter (in_group by (group_of by e)) es) (led_group by (drop n es))
+    here : (e : Cell) (es : List Cell) (n : ℕ) (b : Bool) → led_group by (drop (cond (not b) (1 + n) 0) (e ∷ es)) ≡ cond b
+        (e ∷ filter (in_group by (group_of by e)) es) (led_group by (drop n es))
     here e es n true = refl
     here e es n false = ap (led_group by) (sym (drop-drop n 1 (e ∷ es)))
 
@@ -68,12 +72,14 @@ led_from by t g i =
     ap (led_group by) (sym (drop-drop (prefix_len (λ e. not (in_group by g e)) (drop i t)) i t)) ∙ led by g (drop i t)
 
 -- the link of an entry leads to the rest of its group
-pub led_after : (by : GroupBy) (t : List Cell) (next : List ℕ) (i : ℕ) → IsChained by t next → i < length t → led_group by (drop (get_or next i 0) t) ≡ filter (in_group by (group_of by (get_or t i nobody))) (drop (i + 1) t)
+pub led_after : (by : GroupBy) (t : List Cell) (next : List ℕ) (i : ℕ) → IsChained by t next → i < length t
+    → led_group by (drop (get_or next i 0) t) ≡ filter (in_group by (group_of by (get_or t i nobody))) (drop (i + 1) t)
 led_after by t next i chained h =
     ap (λ k. led_group by (drop k t)) (chained.named i (omega arith) h) ∙ led_from by t (group_of by (get_or t i nobody)) (i + 1)
 
 -- an entry leads itself and then the rest of its group
-pub led_here : (by : GroupBy) (t : List Cell) (next : List ℕ) (i : ℕ) → IsChained by t next → i < length t → led_group by (drop i t) ≡ get_or t i nobody ∷ led_group by (drop (get_or next i 0) t)
+pub led_here : (by : GroupBy) (t : List Cell) (next : List ℕ) (i : ℕ) → IsChained by t next → i < length t
+    → led_group by (drop i t) ≡ get_or t i nobody ∷ led_group by (drop (get_or next i 0) t)
 led_here by t next i chained h =
     at_drop_more (led_group by) t i nobody h ∙ ap (λ es. get_or t i nobody ∷ es) (sym (led_after by t next i chained h))
 
@@ -83,4 +89,5 @@ led_few by t i = at_most (drop i t) (omega (arith, length-drop i t))
   where
     at_most : (es : List Cell) → length es ≤ length t → length (led_group by es) ≤ length t
     at_most [] h = h
-    at_most (e ∷ es) h = omega (arith, h, length-filter (in_group by (group_of by e)) es, count_by-le-length (in_group by (group_of by e)) es)
+    at_most (e ∷ es) h =
+        omega (arith, h, length-filter (in_group by (group_of by e)) es, count_by-le-length (in_group by (group_of by e)) es)

@@ -10,23 +10,27 @@ use Rattle.tt_table.specs.declared.fault.SolutionFault.TheVariants as fault
 use Rattle.tt_table.specs.Reading.{is_environmental, Fails, entry_at, entries_at}
 
 -- no token is left
-pub entries_none : (end : ℕ) (p : Problem) (n : ℕ) (before : List Cell) (ts : List Placed) → ts ≡ [] → entries_at end p n before ts ≡ Ok before
+pub entries_none : (end : ℕ) (p : Problem) (n : ℕ) (before : List Cell) (ts : List Placed) → ts ≡ []
+    → entries_at end p n before ts ≡ Ok before
 unfolding entries_at
 entries_none end p n before ts none = rw none refl
 
 -- an entry is read
-pub entries_step : (end : ℕ) (p : Problem) (n : ℕ) (before : List Cell) (first : Placed) (more ts mid : List Placed) (e : Cell) → ts ≡ first ∷ more → entry_at end p first more ≡ Ok (e, mid)
+pub entries_step : (end : ℕ) (p : Problem) (n : ℕ) (before : List Cell) (first : Placed) (more ts mid : List Placed) (e : Cell)
+    → ts ≡ first ∷ more → entry_at end p first more ≡ Ok (e, mid)
     → entries_at end p (suc n) before ts ≡ entries_at end p n (before ++ e ∷ []) mid
 unfolding entries_at
 entries_step end p n before first more ts mid e split is = rw (split, is) refl
 
 -- a token is left, but no further entry is allowed
-pub entries_full : (end n : ℕ) (p : Problem) (before : List Cell) (first : Placed) (more ts : List Placed) → n ≡ 0 → ts ≡ first ∷ more → entries_at end p n before ts ≡ Err (fault.TooMany first.at)
+pub entries_full : (end n : ℕ) (p : Problem) (before : List Cell) (first : Placed) (more ts : List Placed) → n ≡ 0 → ts ≡ first ∷ more
+    → entries_at end p n before ts ≡ Err (fault.TooMany first.at)
 unfolding entries_at
 entries_full end n p before first more ts none split = rw (none, split) refl
 
 -- an entry is refused
-pub entries_fail : (f : SolutionFault) (end n m : ℕ) (p : Problem) (before : List Cell) (first : Placed) (more ts : List Placed) → n ≡ suc m → ts ≡ first ∷ more
+pub entries_fail : (f : SolutionFault) (end n m : ℕ) (p : Problem) (before : List Cell) (first : Placed) (more ts : List Placed)
+    → n ≡ suc m → ts ≡ first ∷ more
     → Fails f (entry_at end p first more) → Fails f (entries_at end p n before ts)
 unfolding entries_at
 entries_fail f end n m p before first more ts left split fails =

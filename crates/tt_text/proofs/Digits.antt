@@ -16,7 +16,8 @@ le-value_on n [] = omega arith
 le-value_on n (d ∷ ds) = omega (arith, le-value_on (10 * n + (d - 48)) ds)
 
 -- digits that pass the limit are refused; the bytes after them determine the fault
-pub refused_digits : (limit n d : ℕ) (text rest ds : List ℕ) → rest ≡ d ∷ ds → value_on n rest ≡ value_on 0 text → all_ascii_digits rest ≡ all_ascii_digits text → length rest ≤ length text → is_ascii_digit d ≡ true → limit < 10 * n + (d - 48)
+pub refused_digits : (limit n d : ℕ) (text rest ds : List ℕ) → rest ≡ d ∷ ds → value_on n rest ≡ value_on 0 text
+    → all_ascii_digits rest ≡ all_ascii_digits text → length rest ≤ length text → is_ascii_digit d ≡ true → limit < 10 * n + (d - 48)
     → Err (if all_ascii_digits ds then TooLarge else NotANumber) ≡ number_of limit text
 unfolding number_of
 refused_digits limit n d text rest ds is value digits some digit above = on (all_ascii_digits ds) refl

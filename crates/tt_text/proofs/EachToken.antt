@@ -7,14 +7,16 @@ use Rattle.tt_text.proofs.Runs.{is_a_token}
 
 -- the run of bytes from the first byte of a token satisfies `IsToken`
 begun : (b : ℕ) (bs : List ℕ) → is_separator b ≡ false → IsToken (take (prefix_len in_token (b ∷ bs)) (b ∷ bs))
-begun b bs e = is_a_token (prefix_len in_token (b ∷ bs)) (b ∷ bs) _ refl refl (let some : prefix_len in_token (b ∷ bs) ≡ 1 + prefix_len in_token bs = rw e refl in omega arith)
+begun b bs e = is_a_token (prefix_len in_token (b ∷ bs)) (b ∷ bs) _ refl refl
+    (let some : prefix_len in_token (b ∷ bs) ≡ 1 + prefix_len in_token bs = rw e refl in omega arith)
 
 -- each element satisfies `IsToken`
 abbrev AreAll : List Placed → Type 0
 AreAll ts = AllByRecursion (λ t. IsToken t.text) ts
 
 -- another byte in front
-step : (inside : Bool) (at b : ℕ) (bs : List ℕ) (v : Bool) → is_separator b ≡ v → ((into : Bool) → AreAll (tokens_from into (at + 1) bs)) → AreAll (tokens_from inside at (b ∷ bs))
+step : (inside : Bool) (at b : ℕ) (bs : List ℕ) (v : Bool) → is_separator b ≡ v
+    → ((into : Bool) → AreAll (tokens_from into (at + 1) bs)) → AreAll (tokens_from inside at (b ∷ bs))
 unfolding tokens_from
 step inside at b bs true e more = rw e (more false)
 step true at b bs false e more = rw e (more true)
@@ -46,7 +48,8 @@ piece_token (Number n) text is token = tt
 piece_token (Index letter n) text is token = tt
 
 -- each text among the pieces that tokens begin with is a token
-pub each_piece_token : (ps : List Piece) (ts rest : List Placed) → Begins ps ts rest → AllByRecursion (λ t. IsToken t.text) ts → AllByRecursion IsTokenPiece ps
+pub each_piece_token : (ps : List Piece) (ts rest : List Placed) → Begins ps ts rest → AllByRecursion (λ t. IsToken t.text) ts
+    → AllByRecursion IsTokenPiece ps
 each_piece_token [] ts rest h all = tt
 each_piece_token (p ∷ ps) [] rest h all = absurd h
 each_piece_token (p ∷ ps) (t ∷ ts) rest h all = (piece_token p t.text h.0 all.0, each_piece_token ps ts rest h.1 all.1)

@@ -19,16 +19,20 @@ use Rattle.tt_text.proofs.Places.{over_gap, all_run, nothing_more}
 -- -- the place of the fault
 
 -- a separator within the limit
-pub fault-separator : (most n k b : ℕ) (xs : List ℕ) → is_separator b ≡ true → n < most → fault_from most n k (b ∷ xs) ≡ fault_from most (n + 1) 0 xs
+pub fault-separator : (most n k b : ℕ) (xs : List ℕ) → is_separator b ≡ true → n < most → fault_from most n k (b ∷ xs) ≡ fault_from most
+    (n + 1) 0 xs
 unfolding fault_from
 fault-separator most n k b xs e h = let no : leb most n ≡ false = lt-leb _ _ h in rw (no, e) refl
 
 -- a byte of a token within the limits
-pub fault-inside : (most n k b : ℕ) (xs : List ℕ) → is_separator b ≡ false → n < most → k < 32 → fault_from most n k (b ∷ xs) ≡ fault_from most (n + 1) (k + 1) xs
+pub fault-inside : (most n k b : ℕ) (xs : List ℕ) → is_separator b ≡ false → n < most → k < 32
+    → fault_from most n k (b ∷ xs) ≡ fault_from most (n + 1) (k + 1) xs
 unfolding fault_from
-fault-inside most n k b xs e h s = let no : leb most n ≡ false = lt-leb _ _ h in let short : leb 32 k ≡ false = lt-leb _ _ s in rw (no, e, short) refl
+fault-inside most n k b xs e h s = let no : leb most n ≡ false = lt-leb _ _ h in let short : leb 32 k ≡ false = lt-leb _ _ s in
+    rw (no, e, short) refl
 
-fault-long : (most n b : ℕ) (xs : List ℕ) → is_separator b ≡ false → n < most → fault_from most n 32 (b ∷ xs) ≡ Some (record { byte = n; fault = TokenTooLong (n - 32) })
+fault-long : (most n b : ℕ) (xs : List ℕ) → is_separator b ≡ false → n < most → fault_from most n 32 (b ∷ xs) ≡ Some
+    (record { byte = n; fault = TokenTooLong (n - 32) })
 unfolding fault_from
 fault-long most n b xs e h = let no : leb most n ≡ false = lt-leb _ _ h in rw (no, e) refl
 
@@ -40,7 +44,8 @@ pub fault-nothing : (most n k : ℕ) → fault_from most n k [] ≡ None
 unfolding fault_from
 fault-nothing most n k = refl
 
-gap_fault : (most n : ℕ) (g xs : List ℕ) → list_all is_separator g ≡ true → n + length g ≤ most → fault_from most n 0 (g ++ xs) ≡ fault_from most (n + length g) 0 xs
+gap_fault : (most n : ℕ) (g xs : List ℕ) → list_all is_separator g ≡ true → n + length g ≤ most
+    → fault_from most n 0 (g ++ xs) ≡ fault_from most (n + length g) 0 xs
 gap_fault most n [] xs all h = ap (λ (m : ℕ). fault_from most m 0 xs) (sym (add-zero n))
 gap_fault most n (b ∷ g) xs all h =
     let parts = and_parts (is_separator b) (list_all is_separator g) all in
@@ -49,15 +54,18 @@ gap_fault most n (b ∷ g) xs all h =
     let same : (n + 1) + length g ≡ n + length (b ∷ g) = omega arith in
     first ∙ more ∙ ap (λ (m : ℕ). fault_from most m 0 xs) same
 
-token_fault : (most n k : ℕ) (t xs : List ℕ) → list_all in_token t ≡ true → n + length t ≤ most → k + length t ≤ 32 → fault_from most n k (t ++ xs) ≡ fault_from most (n + length t) (k + length t) xs
-token_fault most n k [] xs all h s = ap (λ (m : ℕ). fault_from most m k xs) (sym (add-zero n)) ∙ ap (λ (m : ℕ). fault_from most (n + 0) m xs) (sym (add-zero k))
+token_fault : (most n k : ℕ) (t xs : List ℕ) → list_all in_token t ≡ true → n + length t ≤ most → k + length t ≤ 32
+    → fault_from most n k (t ++ xs) ≡ fault_from most (n + length t) (k + length t) xs
+token_fault most n k [] xs all h s = ap (λ (m : ℕ). fault_from most m k xs) (sym (add-zero n))
+    ∙ ap (λ (m : ℕ). fault_from most (n + 0) m xs) (sym (add-zero k))
 token_fault most n k (b ∷ t) xs all h s =
     let parts = and_parts (in_token b) (list_all in_token t) all in
     let first = fault-inside most n k b (t ++ xs) (not-true (is_separator b) parts.0) (omega arith) (omega arith) in
     let more = token_fault most (n + 1) (k + 1) t xs parts.1 (omega arith) (omega arith) in
     let same : (n + 1) + length t ≡ n + length (b ∷ t) = omega arith in
     let same_k : (k + 1) + length t ≡ k + length (b ∷ t) = omega arith in
-    first ∙ more ∙ ap (λ (m : ℕ). fault_from most m ((k + 1) + length t) xs) same ∙ ap (λ (m : ℕ). fault_from most (n + length (b ∷ t)) m xs) same_k
+    first ∙ more ∙ ap (λ (m : ℕ). fault_from most m ((k + 1) + length t) xs) same
+    ∙ ap (λ (m : ℕ). fault_from most (n + length (b ∷ t)) m xs) same_k
 
 -- the fault is at byte n or later
 abbrev pub NotBefore : ℕ → Option Fault → Type 0
@@ -68,8 +76,12 @@ later : (m n : ℕ) (o : Option Fault) → m ≤ n → NotBefore n o → NotBefo
 later m n None h p = tt
 later m n (Some f) h p = omega arith
 
-late_step : (most n k b : ℕ) (xs : List ℕ) (past separator long : Bool) → NotBefore (n + 1) (fault_from most (n + 1) 0 xs) → NotBefore (n + 1) (fault_from most (n + 1) (k + 1) xs)
-    → NotBefore n (cond past (Some (record { byte = n; fault = TooManyBytes })) (cond separator (fault_from most (n + 1) 0 xs) (cond long (Some (record { byte = n; fault = TokenTooLong (n - k) })) (fault_from most (n + 1) (k + 1) xs))))
+late_step : (most n k b : ℕ) (xs : List ℕ) (past separator long : Bool) → NotBefore (n + 1) (fault_from most (n + 1) 0 xs)
+    → NotBefore (n + 1) (fault_from most (n + 1) (k + 1) xs)
+    → NotBefore n
+    (cond past (Some (record { byte = n; fault = TooManyBytes }))
+    (cond separator (fault_from most (n + 1) 0 xs) (cond long (Some (record { byte = n; fault = TokenTooLong (n - k) }))
+    (fault_from most (n + 1) (k + 1) xs))))
 late_step most n k b xs true separator long p q = omega arith
 late_step most n k b xs false true long p q = later n (n + 1) (fault_from most (n + 1) 0 xs) (omega arith) p
 late_step most n k b xs false false true p q = omega arith
@@ -78,7 +90,8 @@ late_step most n k b xs false false false p q = later n (n + 1) (fault_from most
 pub late : (most n k : ℕ) (xs : List ℕ) → NotBefore n (fault_from most n k xs)
 unfolding fault_from
 late most n k [] = tt
-late most n k (b ∷ xs) = late_step most n k b xs (leb most n) (is_separator b) (leb 32 k) (late most (n + 1) 0 xs) (late most (n + 1) (k + 1) xs)
+late most n k (b ∷ xs) = late_step most n k b xs (leb most n) (is_separator b) (leb 32 k) (late most (n + 1) 0 xs)
+    (late most (n + 1) (k + 1) xs)
 
 -- ---- tokens before the fault
 
@@ -118,19 +131,23 @@ none_step f n b bs false e h more =
     ap (take_while (ends_before (Some f))) first ∙ while-no (ends_before (Some f)) made (tokens_from true (n + 1) bs) late_end
 
 -- if the fault is within the first token, no token ends before it
-no_tokens : (f : Fault) (n : ℕ) (xs : List ℕ) → f.byte ≤ n + prefix_len in_token xs → take_while (ends_before (Some f)) (tokens_from false n xs) ≡ []
+no_tokens : (f : Fault) (n : ℕ) (xs : List ℕ) → f.byte ≤ n + prefix_len in_token xs → take_while (ends_before (Some f))
+    (tokens_from false n xs) ≡ []
 unfolding tokens_from
 no_tokens f n [] h = refl
 no_tokens f n (b ∷ bs) h = none_step f n b bs (is_separator b) refl h (λ m. no_tokens f (n + 1) bs m)
 
 -- ---- streams
 
-pub stream_is : (most n : ℕ) (xs : List ℕ) (fault : Option Fault) (end : ℕ) (ts : List Placed) → fault_from most n 0 xs ≡ fault → n + length xs ≡ end → tokens_from false n xs ≡ ts → stream_from most n xs ≡ stream_with fault end ts
+pub stream_is : (most n : ℕ) (xs : List ℕ) (fault : Option Fault) (end : ℕ) (ts : List Placed) → fault_from most n 0 xs ≡ fault
+    → n + length xs ≡ end → tokens_from false n xs ≡ ts → stream_from most n xs ≡ stream_with fault end ts
 unfolding stream_from
-stream_is most n xs fault end ts a b c = ap (λ f. stream_with f (n + length xs) (tokens_from false n xs)) a ∙ ap (λ (m : ℕ). stream_with fault m (tokens_from false n xs)) b ∙ ap (stream_with fault end) c
+stream_is most n xs fault end ts a b c = ap (λ f. stream_with f (n + length xs) (tokens_from false n xs)) a
+    ∙ ap (λ (m : ℕ). stream_with fault m (tokens_from false n xs)) b ∙ ap (stream_with fault end) c
 
 -- a gap adds nothing to the stream
-pub stream-gap : (most n : ℕ) (g xs : List ℕ) → list_all is_separator g ≡ true → n + length g ≤ most → stream_from most n (g ++ xs) ≡ stream_from most (n + length g) xs
+pub stream-gap : (most n : ℕ) (g xs : List ℕ) → list_all is_separator g ≡ true → n + length g ≤ most
+    → stream_from most n (g ++ xs) ≡ stream_from most (n + length g) xs
 stream-gap most n g xs all h =
     let len : n + length (g ++ xs) ≡ (n + length g) + length xs = omega (arith, length-append g xs) in
     stream_is most n (g ++ xs) _ _ _ (gap_fault most n g xs all h) len (over_gap n g xs all)
@@ -140,11 +157,14 @@ pub stream-nothing : (most n : ℕ) → stream_from most n [] ≡ stopped (Ok n)
 unfolding tokens_from
 stream-nothing most n = stream_is most n [] None n [] (fault-nothing most n 0) (add-zero n) refl
 
-with_first : (fault : Option Fault) (end : ℕ) (t : Placed) (ts : List Placed) → ends_before fault t ≡ true → stream_with fault end (t ∷ ts) ≡ with_token t (stream_with fault end ts)
-with_first fault end t ts e = ap (λ (l : List Placed). record { tokens = l; stop = stop_of fault end }) (while-yes (ends_before fault) t ts e)
+with_first : (fault : Option Fault) (end : ℕ) (t : Placed) (ts : List Placed) → ends_before fault t ≡ true
+    → stream_with fault end (t ∷ ts) ≡ with_token t (stream_with fault end ts)
+with_first fault end t ts e = ap (λ (l : List Placed). record { tokens = l; stop = stop_of fault end })
+    (while-yes (ends_before fault) t ts e)
 
 -- a token with a byte after it
-pub stream-token : (most n b : ℕ) (t xs : List ℕ) → list_all in_token t ≡ true → 0 < length t → length t ≤ 32 → n + length t < most → is_separator b ≡ true
+pub stream-token : (most n b : ℕ) (t xs : List ℕ) → list_all in_token t ≡ true → 0 < length t → length t ≤ 32 → n + length t < most
+    → is_separator b ≡ true
     → stream_from most n (t ++ b ∷ xs) ≡ with_token (record { text = t; at = n }) (stream_from most (n + length t) (b ∷ xs))
 stream-token most n b t xs all some short h e =
     let m : ℕ = n + length t in
@@ -176,7 +196,8 @@ tokens-last n t all some =
 pub stream-last : (most n : ℕ) (t : List ℕ) → list_all in_token t ≡ true → 0 < length t → length t ≤ 32 → n + length t ≤ most
     → stream_from most n t ≡ with_token (record { text = t; at = n }) (stream_from most (n + length t) [])
 stream-last most n t all some short h =
-    let before : fault_from most n 0 t ≡ None = ap (fault_from most n 0) (sym (append_nil t)) ∙ token_fault most n 0 t [] all h (omega arith) ∙ fault-nothing most (n + length t) (0 + length t) in
+    let before : fault_from most n 0 t ≡ None = ap (fault_from most n 0) (sym (append_nil t)) ∙ token_fault most n 0 t [] all h
+    (omega arith) ∙ fault-nothing most (n + length t) (0 + length t) in
     stream_is most n t None (n + length t) _ before refl (tokens-last n t all some)
     ∙ ap (with_token (record { text = t; at = n })) (sym (stream-nothing most (n + length t)))
   where
@@ -184,7 +205,8 @@ stream-last most n t all some short h =
     append_nil [] = refl
     append_nil (x ∷ xs) = ap (λ l. x ∷ l) (append_nil xs)
 
-fault_stops : (most n : ℕ) (xs : List ℕ) (f : Fault) → fault_from most n 0 xs ≡ Some f → f.byte ≤ n + prefix_len in_token xs → stream_from most n xs ≡ stopped (Err f.fault)
+fault_stops : (most n : ℕ) (xs : List ℕ) (f : Fault) → fault_from most n 0 xs ≡ Some f → f.byte ≤ n + prefix_len in_token xs
+    → stream_from most n xs ≡ stopped (Err f.fault)
 fault_stops most n xs f e h =
     stream_is most n xs (Some f) (n + length xs) (tokens_from false n xs) e refl refl
     ∙ ap (λ (ts : List Placed). record { tokens = ts; stop = Err f.fault }) (no_tokens f n xs h)
@@ -199,14 +221,16 @@ long_run most n k (b ∷ []) xs all h len some =
     let byte : n ≡ n + length (b ∷ []) - 1 = omega arith in
     let is : n - 32 ≡ n - k = omega arith in
     ap (λ (m : ℕ). fault_from most n m (b ∷ xs)) here ∙ fault-long most n b xs (not-true (is_separator b) parts.0) (omega arith)
-    ∙ ap (λ (m : ℕ). Some (record { byte = n; fault = TokenTooLong m })) is ∙ ap (λ (m : ℕ). Some (record { byte = m; fault = TokenTooLong (n - k) })) byte
+    ∙ ap (λ (m : ℕ). Some (record { byte = n; fault = TokenTooLong m })) is
+    ∙ ap (λ (m : ℕ). Some (record { byte = m; fault = TokenTooLong (n - k) })) byte
 long_run most n k (b ∷ c ∷ t) xs all h len some =
     let parts = and_parts (in_token b) (list_all in_token (c ∷ t)) all in
     let first = fault-inside most n k b ((c ∷ t) ++ xs) (not-true (is_separator b) parts.0) (omega arith) (omega arith) in
     let more = long_run most (n + 1) (k + 1) (c ∷ t) xs parts.1 (omega arith) (omega arith) (omega arith) in
     let byte : (n + 1) + length (c ∷ t) - 1 ≡ n + length (b ∷ c ∷ t) - 1 = omega arith in
     let is : (n + 1) - (k + 1) ≡ n - k = omega arith in
-    first ∙ more ∙ ap (λ (m : ℕ). Some (record { byte = (n + 1) + length (c ∷ t) - 1; fault = TokenTooLong m })) is ∙ ap (λ (m : ℕ). Some (record { byte = m; fault = TokenTooLong (n - k) })) byte
+    first ∙ more ∙ ap (λ (m : ℕ). Some (record { byte = (n + 1) + length (c ∷ t) - 1; fault = TokenTooLong m })) is
+    ∙ ap (λ (m : ℕ). Some (record { byte = m; fault = TokenTooLong (n - k) })) byte
 
 -- a token of 33 bytes or more
 pub stream-long : (most n : ℕ) (t xs : List ℕ) → list_all in_token t ≡ true → length t ≡ 33 → n + 33 ≤ most
@@ -215,7 +239,8 @@ stream-long most n t xs all len h =
     let run = length-run t xs all in
     let is : n - 0 ≡ n = omega arith in
     let f : Fault = record { byte = n + length t - 1; fault = TokenTooLong n } in
-    let here : fault_from most n 0 (t ++ xs) ≡ Some f = long_run most n 0 t xs all (omega arith) (omega arith) (omega arith) ∙ ap (λ (m : ℕ). Some (record { byte = n + length t - 1; fault = TokenTooLong m })) is in
+    let here : fault_from most n 0 (t ++ xs) ≡ Some f = long_run most n 0 t xs all (omega arith) (omega arith) (omega arith)
+    ∙ ap (λ (m : ℕ). Some (record { byte = n + length t - 1; fault = TokenTooLong m })) is in
     fault_stops most n (t ++ xs) f here (omega arith)
 
 -- a byte past the limit
@@ -230,7 +255,8 @@ stream-past most n b t xs all short here =
 -- ---- a scan
 
 stops_step : (n b : ℕ) (bs : List ℕ) (v : Bool) → is_separator b ≡ v → prefix_len in_token (b ∷ take n bs) < suc n
-    → (prefix_len in_token (take n bs) < n → AtGap (drop (prefix_len in_token (take n bs)) bs)) → AtGap (drop (prefix_len in_token (b ∷ take n bs)) (b ∷ bs))
+    → (prefix_len in_token (take n bs) < n → AtGap (drop (prefix_len in_token (take n bs)) bs))
+    → AtGap (drop (prefix_len in_token (b ∷ take n bs)) (b ∷ bs))
 stops_step n b bs true e h more =
     let none : prefix_len in_token (b ∷ take n bs) ≡ zero = rw e refl in
     subst (λ (m : ℕ). AtGap (drop m (b ∷ bs))) (sym none) e
@@ -247,11 +273,14 @@ empty_run : (n : ℕ) (xs : List ℕ) → prefix_len in_token (take (suc n) xs) 
 empty_run n [] h = refl
 empty_run n (b ∷ bs) h = empty_step n b bs (is_separator b) refl h
   where
-    empty_step : (n b : ℕ) (bs : List ℕ) (v : Bool) → is_separator b ≡ v → prefix_len in_token (take (suc n) (b ∷ bs)) ≡ 0 → prefix_len in_token (b ∷ bs) ≡ 0
+    empty_step : (n b : ℕ) (bs : List ℕ) (v : Bool) → is_separator b ≡ v → prefix_len in_token (take (suc n) (b ∷ bs)) ≡ 0
+        → prefix_len in_token (b ∷ bs) ≡ 0
     empty_step n b bs true e h = rw e refl
-    empty_step n b bs false e h = let one : prefix_len in_token (take (suc n) (b ∷ bs)) ≡ 1 + prefix_len in_token (take n bs) = rw e refl in absurd (omega (arith, one, h))
+    empty_step n b bs false e h = let one : prefix_len in_token (take (suc n) (b ∷ bs)) ≡ 1 + prefix_len in_token (take n bs) =
+        rw e refl in absurd (omega (arith, one, h))
 
-pub scan_is : (bytes begun front : List ℕ) (gap most len : ℕ) → gap ≡ prefix_len is_separator bytes → gap ≤ length bytes → begun ≡ drop gap bytes
+pub scan_is : (bytes begun front : List ℕ) (gap most len : ℕ) → gap ≡ prefix_len is_separator bytes → gap ≤ length bytes
+    → begun ≡ drop gap bytes
     → most ≡ min 33 (length begun) → front ≡ take most begun → len ≡ prefix_len in_token front → IsScan bytes gap len
 scan_is bytes begun front gap most len gap_is gap_le begun_is most_is front_is len_is =
     let front33 : front ≡ take 33 begun = front_is ∙ ap (λ (m : ℕ). take m begun) most_is ∙ take_min 33 begun in
@@ -266,7 +295,9 @@ scan_is bytes begun front gap most len gap_is gap_le begun_is most_is front_is l
       at_most = omega arith;
       separators = rw gap_is (run_passes is_separator bytes);
       token = ap (λ (l : List ℕ). list_all in_token (take len l)) (sym begun_is) ∙ ap (list_all in_token) within_front ∙ whole;
-      stops = λ (s : len ≤ 32). subst AtGap (drop-drop len gap bytes) (subst (λ (l : List ℕ). AtGap (drop len l)) begun_is (subst (λ (m : ℕ). AtGap (drop m begun)) (sym run) (run_stops 33 begun (omega (arith, s, run)))));
+      stops = λ (s : len ≤ 32). subst AtGap (drop-drop len gap bytes)
+          (subst (λ (l : List ℕ). AtGap (drop len l)) begun_is
+          (subst (λ (m : ℕ). AtGap (drop m begun)) (sym run) (run_stops 33 begun (omega (arith, s, run)))));
       begins = λ (s : len ≡ 0).
           let is : drop gap bytes ≡ drop (prefix_len is_separator bytes) bytes = ap (λ (m : ℕ). drop m bytes) gap_is in
           let none : prefix_len in_token begun ≡ 0 = empty_run 32 begun (sym run ∙ s) in
@@ -280,7 +311,8 @@ plain_run : (xs : List ℕ) → list_all in_token (take (prefix_len is_plain xs)
 plain_run [] = refl
 plain_run (x ∷ xs) = plain_step x xs (is_plain x) refl (plain_run xs)
   where
-    plain_step : (x : ℕ) (xs : List ℕ) (v : Bool) → is_plain x ≡ v → list_all in_token (take (prefix_len is_plain xs) xs) ≡ true → list_all in_token (take (prefix_len is_plain (x ∷ xs)) (x ∷ xs)) ≡ true
+    plain_step : (x : ℕ) (xs : List ℕ) (v : Bool) → is_plain x ≡ v → list_all in_token (take (prefix_len is_plain xs) xs) ≡ true
+        → list_all in_token (take (prefix_len is_plain (x ∷ xs)) (x ∷ xs)) ≡ true
     plain_step x xs true e h =
         let n : prefix_len is_plain (x ∷ xs) ≡ suc (prefix_len is_plain xs) = rw e (omega arith) in
         ap (λ (m : ℕ). list_all in_token (take m (x ∷ xs))) n ∙ rw (plain_in_token x e) h
@@ -288,7 +320,8 @@ plain_run (x ∷ xs) = plain_step x xs (is_plain x) refl (plain_run xs)
         let n : prefix_len is_plain (x ∷ xs) ≡ zero = rw e refl in
         ap (λ (m : ℕ). list_all in_token (take m (x ∷ xs))) n
 
-gap_over_step : (b : ℕ) (bs : List ℕ) (v : Bool) → is_separator b ≡ v → (AtGap (drop (prefix_len is_separator bs) bs) → drop (prefix_len is_separator bs) bs ≡ [])
+gap_over_step : (b : ℕ) (bs : List ℕ) (v : Bool) → is_separator b ≡ v
+    → (AtGap (drop (prefix_len is_separator bs) bs) → drop (prefix_len is_separator bs) bs ≡ [])
     → AtGap (drop (prefix_len is_separator (b ∷ bs)) (b ∷ bs)) → drop (prefix_len is_separator (b ∷ bs)) (b ∷ bs) ≡ []
 gap_over_step b bs true e more h =
     let same : prefix_len is_separator (b ∷ bs) ≡ suc (prefix_len is_separator bs) = rw e (omega arith) in
@@ -304,7 +337,8 @@ gap_over [] h = refl
 gap_over (b ∷ bs) h = gap_over_step b bs (is_separator b) refl (gap_over bs) h
 
 -- a scan of plain bytes with a separator after them
-pub plain_scan_is : (bytes : List ℕ) (gap end : ℕ) → gap ≡ prefix_len is_separator bytes → end ≡ gap + prefix_len is_plain (drop gap bytes) → end < length bytes → end - gap ≤ 32
+pub plain_scan_is : (bytes : List ℕ) (gap end : ℕ) → gap ≡ prefix_len is_separator bytes → end ≡ gap + prefix_len is_plain
+    (drop gap bytes) → end < length bytes → end - gap ≤ 32
     → is_separator (get_or bytes end 0) ≡ true → IsScan bytes gap (end - gap)
 plain_scan_is bytes gap end gap_is end_is more short after =
     let len_is : end - gap ≡ prefix_len is_plain (drop gap bytes) = omega arith in

@@ -27,13 +27,15 @@ pub record HasPiece {F : Type 0} (none : F) (ts : List Placed) (p : Piece) (qs :
 
 module _ {F : Type 0} where
   -- a token that was read is a piece
-  pub takes_piece : (none : F) (ts : List Placed) (t : Placed × List Placed) (p : Piece) → token_or none ts ≡ Ok t → IsPiece p t.0.text → Takes ts (p ∷ []) t.1
+  pub takes_piece : (none : F) (ts : List Placed) (t : Placed × List Placed) (p : Piece) → token_or none ts ≡ Ok t → IsPiece p t.0.text
+      → Takes ts (p ∷ []) t.1
   takes_piece none ts t p e piece = record {
     take = λ qs rest h. subst (λ (xs : List Placed). Begins (p ∷ qs) xs rest) (sym (token_takes none ts t e)) (piece, h);
   }
 
   -- tokens that begin with a piece have a first token
-  pub has_piece : (none : F) (ts : List Placed) (p : Piece) (qs : List Piece) (rest : List Placed) → Begins (p ∷ qs) ts rest → HasPiece none ts p qs rest
+  pub has_piece : (none : F) (ts : List Placed) (p : Piece) (qs : List Piece) (rest : List Placed) → Begins (p ∷ qs) ts rest
+      → HasPiece none ts p qs rest
   unfolding token_or
   has_piece none [] p qs rest h = absurd h
   has_piece none (t ∷ ts) p qs rest h = record { token = (t, ts); is = refl; piece = h.0; left = h.1 }

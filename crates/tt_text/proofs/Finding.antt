@@ -22,9 +22,11 @@ no_gap (b ∷ t) all = let parts = and_parts (in_token b) (list_all in_token t) 
 
 whole_partial : (g t : List ℕ) → list_all is_separator g ≡ true → list_all in_token t ≡ true → has_token (g ++ t) ≡ false
 whole_partial g t seps token =
-    let gap : prefix_len is_separator (g ++ t) ≡ length g = run_of is_separator g t seps ∙ ap (λ (m : ℕ). length g + m) (no_gap t token) ∙ add-zero (length g) in
+    let gap : prefix_len is_separator (g ++ t) ≡ length g = run_of is_separator g t seps ∙ ap (λ (m : ℕ). length g + m) (no_gap t token)
+    ∙ add-zero (length g) in
     let back : drop (length g) (g ++ t) ≡ t = drop-append_seam g t in
-    let run : prefix_len in_token t ≡ length t = ap (prefix_len in_token) (sym (append-nil t)) ∙ run_of in_token t [] token ∙ add-zero (length t) in
+    let run : prefix_len in_token t ≡ length t = ap (prefix_len in_token) (sym (append-nil t)) ∙ run_of in_token t [] token
+    ∙ add-zero (length t) in
     let size : length (g ++ t) ≡ length g + length t = length-append g t in
     ap (λ (m : ℕ). ltb (m + prefix_len in_token (drop m (g ++ t))) (length (g ++ t))) gap
     ∙ ap (λ (l : List ℕ). ltb (length g + prefix_len in_token l) (length (g ++ t))) back
@@ -33,7 +35,8 @@ whole_partial g t seps token =
 -- the gap, the token and the bytes after them
 cut : (w : List ℕ) (gap len : ℕ) → w ≡ take gap w ++ (take len (drop gap w) ++ drop (gap + len) w)
 cut w gap len =
-    sym (take-append-drop gap w) ∙ ap (λ (l : List ℕ). take gap w ++ l) (sym (take-append-drop len (drop gap w)) ∙ ap (λ (l : List ℕ). take len (drop gap w) ++ l) (drop-drop len gap w))
+    sym (take-append-drop gap w) ∙ ap (λ (l : List ℕ). take gap w ++ l) (sym (take-append-drop len (drop gap w))
+    ∙ ap (λ (l : List ℕ). take len (drop gap w) ++ l) (drop-drop len gap w))
 
 after_gap : (most at gap len : ℕ) (w more : List ℕ) → IsScan w gap len → at + length w ≤ most
     → stream_from most at (w ++ more) ≡ stream_from most (at + gap) (take len (drop gap w) ++ (drop (gap + len) w ++ more))
@@ -57,11 +60,13 @@ some_token w gap (suc len) scan h = omega arith
 
 -- a token with a byte after it
 pub found_inside : (most at gap len : ℕ) (w more : List ℕ) → IsScan w gap len → len ≤ 32 → gap + len < length w → at + length w ≤ most
-    → stream_from most at (w ++ more) ≡ with_token (record { text = take len (drop gap w); at = at + gap }) (stream_from most (at + gap + len) (drop (gap + len) w ++ more))
+    → stream_from most at (w ++ more) ≡ with_token (record { text = take len (drop gap w); at = at + gap })
+    (stream_from most (at + gap + len) (drop (gap + len) w ++ more))
 found_inside most at gap len w more scan short h below =
     inside_rest (drop (gap + len) w) refl (scan.stops short)
   where
-    inside_rest : (r : List ℕ) → drop (gap + len) w ≡ r → AtGap r → stream_from most at (w ++ more) ≡ with_token (record { text = take len (drop gap w); at = at + gap }) (stream_from most (at + gap + len) (r ++ more))
+    inside_rest : (r : List ℕ) → drop (gap + len) w ≡ r → AtGap r → stream_from most at (w ++ more) ≡ with_token
+        (record { text = take len (drop gap w); at = at + gap }) (stream_from most (at + gap + len) (r ++ more))
     inside_rest [] e g = let n = ap length e in absurd (omega (arith, n, length-drop (gap + len) w, h))
     inside_rest (b ∷ r) e g =
         let t : List ℕ = take len (drop gap w) in
@@ -91,7 +96,8 @@ found_last most at gap len w scan short h some below =
     ∙ stream-last most (at + gap) t scan.token (omega arith) (omega arith) (omega (arith, scan.within))
     ∙ ap (λ (m : ℕ). with_token (record { text = t; at = at + gap }) (stream_from most (at + gap + m) [])) n
 
-pub found_end : (most at gap : ℕ) (w : List ℕ) → IsScan w gap 0 → length w ≤ gap + 0 → at + length w ≤ most → stream_from most at w ≡ stopped (Ok (at + length w))
+pub found_end : (most at gap : ℕ) (w : List ℕ) → IsScan w gap 0 → length w ≤ gap + 0 → at + length w ≤ most
+    → stream_from most at w ≡ stopped (Ok (at + length w))
 found_end most at gap w scan h below =
     let whole : w ≡ w ++ [] = sym (append-nil w) in
     let none : drop (gap + 0) w ++ [] ≡ [] = append-nil _ ∙ all_read w gap 0 h in
@@ -103,12 +109,14 @@ found_end most at gap w scan h below =
     ∙ stream-nothing most (at + length w)
 
 -- a token of 33 bytes or more
-pub found_long : (most at gap len : ℕ) (w more : List ℕ) → IsScan w gap len → 32 < len → at + length w ≤ most → stream_from most at (w ++ more) ≡ stopped (Err (TokenTooLong (at + gap)))
+pub found_long : (most at gap len : ℕ) (w more : List ℕ) → IsScan w gap len → 32 < len → at + length w ≤ most
+    → stream_from most at (w ++ more) ≡ stopped (Err (TokenTooLong (at + gap)))
 found_long most at gap len w more scan long below =
     let t : List ℕ = take len (drop gap w) in
     let n : length t ≡ len = token_len_is w gap len scan in
     after_gap most at gap len w more scan below
-    ∙ stream-long most (at + gap) t (drop (gap + len) w ++ more) scan.token (omega (arith, scan.at_most)) (omega (arith, scan.within, scan.at_most))
+    ∙ stream-long most (at + gap) t (drop (gap + len) w ++ more) scan.token (omega (arith, scan.at_most))
+    (omega (arith, scan.within, scan.at_most))
 
 -- a byte past the limit
 pub found_past : (most at gap len b : ℕ) (w more : List ℕ) → IsScan w gap len → len ≤ 32 → length w ≤ gap + len → at + length w ≡ most
@@ -121,7 +129,8 @@ found_past most at gap len b w more scan short h here =
     ∙ stream-past most (at + gap) b t more scan.token (omega arith) (omega (arith, scan.within))
 
 -- a gap, after which more bytes must come
-pub found_more : (most at gap len : ℕ) (w more : List ℕ) → IsScan w gap len → at + length w ≤ most → stream_from most at (w ++ more) ≡ stream_from most (at + gap) (drop gap w ++ more)
+pub found_more : (most at gap len : ℕ) (w more : List ℕ) → IsScan w gap len → at + length w ≤ most
+    → stream_from most at (w ++ more) ≡ stream_from most (at + gap) (drop gap w ++ more)
 found_more most at gap len w more scan below =
     let t : List ℕ = take len (drop gap w) in
     let r : List ℕ = drop (gap + len) w in
@@ -131,7 +140,8 @@ found_more most at gap len w more scan below =
 
 -- -- the bytes held: those within the limit, and those past it
 
-pub finds_inside : (at gap len : ℕ) (ended : Bool) (w past : List ℕ) → IsScan w gap len → len ≤ 32 → gap + len < length w → at + length w ≤ 4294967295 → FindsToken at (w ++ past) ended gap len
+pub finds_inside : (at gap len : ℕ) (ended : Bool) (w past : List ℕ) → IsScan w gap len → len ≤ 32 → gap + len < length w
+    → at + length w ≤ 4294967295 → FindsToken at (w ++ past) ended gap len
 finds_inside at gap len ended w past scan short h below =
     let text : take len (drop gap (w ++ past)) ≡ take len (drop gap w) =
     ap (take len) (drop-append-le gap w past (omega arith)) ∙ take-append-le len (drop gap w) past (omega (arith, length-drop gap w)) in
@@ -144,11 +154,15 @@ finds_inside at gap len ended w past scan short h below =
       given = λ (tail : List ℕ) (m : MayFollow ended tail).
           ap (stream_from 4294967295 at) (append_assoc w past tail)
           ∙ found_inside 4294967295 at gap len w (past ++ tail) scan short h below
-          ∙ ap (λ (l : List ℕ). with_token (record { text = l; at = at + gap }) (stream_from 4294967295 (at + gap + len) (drop (gap + len) w ++ (past ++ tail)))) (sym text)
-          ∙ ap (λ (l : List ℕ). with_token (record { text = take len (drop gap (w ++ past)); at = at + gap }) (stream_from 4294967295 (at + gap + len) l)) (sym (append_assoc (drop (gap + len) w) past tail) ∙ ap (λ (l : List ℕ). l ++ tail) (sym rest));
+          ∙ ap (λ (l : List ℕ). with_token (record { text = l; at = at + gap })
+          (stream_from 4294967295 (at + gap + len) (drop (gap + len) w ++ (past ++ tail)))) (sym text)
+          ∙ ap (λ (l : List ℕ). with_token (record { text = take len (drop gap (w ++ past)); at = at + gap })
+          (stream_from 4294967295 (at + gap + len) l)) (sym (append_assoc (drop (gap + len) w) past tail)
+          ∙ ap (λ (l : List ℕ). l ++ tail) (sym rest));
     }
 
-pub finds_last : (at gap len : ℕ) (ended : Bool) (w : List ℕ) → IsScan w gap len → len ≤ 32 → length w ≤ gap + len → 0 < len → ended ≡ true → at + length w ≤ 4294967295 → FindsToken at w ended gap len
+pub finds_last : (at gap len : ℕ) (ended : Bool) (w : List ℕ) → IsScan w gap len → len ≤ 32 → length w ≤ gap + len → 0 < len
+    → ended ≡ true → at + length w ≤ 4294967295 → FindsToken at w ended gap len
 finds_last at gap len ended w scan short h some e below =
     record {
       within = scan.within;
@@ -158,7 +172,9 @@ finds_last at gap len ended w scan short h some e below =
       given = λ (tail : List ℕ) (m : MayFollow ended tail).
           ap (λ (l : List ℕ). stream_from 4294967295 at (w ++ l)) (m e) ∙ ap (stream_from 4294967295 at) (append-nil w)
           ∙ found_last 4294967295 at gap len w scan short h some below
-          ∙ ap (λ (l : List ℕ). with_token (record { text = take len (drop gap w); at = at + gap }) (stream_from 4294967295 (at + gap + len) l)) (sym (ap (λ (l : List ℕ). drop (gap + len) w ++ l) (m e) ∙ append-nil _ ∙ all_read w gap len h));
+          ∙ ap (λ (l : List ℕ). with_token (record { text = take len (drop gap w); at = at + gap })
+          (stream_from 4294967295 (at + gap + len) l))
+          (sym (ap (λ (l : List ℕ). drop (gap + len) w ++ l) (m e) ∙ append-nil _ ∙ all_read w gap len h));
     }
 
 -- no byte comes after the token
@@ -171,17 +187,21 @@ partial_of w gap len scan h =
     ap has_token parts ∙ whole_partial g t scan.separators scan.token
 
 -- a token at the end of the bytes read is still open
-found_open : (at gap len : ℕ) (w : List ℕ) → IsScan w gap len → len ≤ 32 → length w ≤ gap + len → at + length w ≤ 4294967295 → cut_short (stream_from 4294967295 at w) ≡ stopped (Err Read)
+found_open : (at gap len : ℕ) (w : List ℕ) → IsScan w gap len → len ≤ 32 → length w ≤ gap + len → at + length w ≤ 4294967295
+    → cut_short (stream_from 4294967295 at w) ≡ stopped (Err Read)
 found_open at gap zero w scan short h below = ap cut_short (found_end 4294967295 at gap w scan h below)
 found_open at gap (suc len) w scan short h below =
     let t : List ℕ = take (suc len) (drop gap w) in
     let n : length t ≡ suc len = token_len_is w gap (suc len) scan in
-    let last = found_last 4294967295 at gap (suc len) w scan short h (omega arith) below ∙ ap (with_token (record { text = t; at = at + gap })) (stream-nothing 4294967295 (at + gap + suc len)) in
+    let last = found_last 4294967295 at gap (suc len) w scan short h (omega arith) below
+    ∙ ap (with_token (record { text = t; at = at + gap })) (stream-nothing 4294967295 (at + gap + suc len)) in
     let open_end : ltb ((at + gap) + length t) (at + gap + suc len) ≡ false = le-ltb _ _ (omega arith) in
     ap cut_short last
-    ∙ ap (λ (ts : List Placed). record { tokens = ts; stop = Err Read }) (while-no (ends_before (Some (record { byte = at + gap + suc len; fault = Read }))) (record { text = t; at = at + gap }) [] open_end)
+    ∙ ap (λ (ts : List Placed). record { tokens = ts; stop = Err Read })
+    (while-no (ends_before (Some (record { byte = at + gap + suc len; fault = Read }))) (record { text = t; at = at + gap }) [] open_end)
 
-pub finds_more : (at gap len : ℕ) (ended : Bool) (w : List ℕ) → IsScan w gap len → len ≤ 32 → length w ≤ gap + len → ended ≡ false → at + length w ≤ 4294967295 → FindsMore at w ended gap
+pub finds_more : (at gap len : ℕ) (ended : Bool) (w : List ℕ) → IsScan w gap len → len ≤ 32 → length w ≤ gap + len → ended ≡ false
+    → at + length w ≤ 4294967295 → FindsMore at w ended gap
 finds_more at gap len ended w scan short h e below =
     record {
       within = omega (arith, scan.within);
@@ -193,15 +213,18 @@ finds_more at gap len ended w scan short h e below =
       open_token = found_open at gap len w scan short h below;
     }
 
-pub held_long : (at gap len : ℕ) (ended : Bool) (held w past : List ℕ) → held ≡ w ++ past → IsScan w gap len → 32 < len → at + length w ≤ 4294967295
+pub held_long : (at gap len : ℕ) (ended : Bool) (held w past : List ℕ) → held ≡ w ++ past → IsScan w gap len → 32 < len
+    → at + length w ≤ 4294967295
     → (tail : List ℕ) → MayFollow ended tail → stream_from 4294967295 at (held ++ tail) ≡ stopped (Err (TokenTooLong (at + gap)))
 held_long at gap len ended held w past e scan long below tail m =
     ap (λ (l : List ℕ). stream_from 4294967295 at (l ++ tail)) e ∙ ap (stream_from 4294967295 at) (append_assoc w past tail)
     ∙ found_long 4294967295 at gap len w (past ++ tail) scan long below
 
-pub held_past : (at gap len : ℕ) (ended : Bool) (held w past : List ℕ) → held ≡ w ++ past → IsScan w gap len → len ≤ 32 → length w ≤ gap + len → length w < length held → at + length w ≡ 4294967295
+pub held_past : (at gap len : ℕ) (ended : Bool) (held w past : List ℕ) → held ≡ w ++ past → IsScan w gap len → len ≤ 32
+    → length w ≤ gap + len → length w < length held → at + length w ≡ 4294967295
     → (tail : List ℕ) → MayFollow ended tail → stream_from 4294967295 at (held ++ tail) ≡ stopped (Err TooManyBytes)
-held_past at gap len ended held w [] e scan short h more here tail m = let n = ap length (e ∙ append-nil w) in absurd (omega (arith, n, more))
+held_past at gap len ended held w [] e scan short h more here tail m = let n = ap length (e ∙ append-nil w) in
+    absurd (omega (arith, n, more))
 held_past at gap len ended held w (b ∷ past) e scan short h more here tail m =
     ap (λ (l : List ℕ). stream_from 4294967295 at (l ++ tail)) e ∙ ap (stream_from 4294967295 at) (append_assoc w (b ∷ past) tail)
     ∙ found_past 4294967295 at gap len b w (past ++ tail) scan short h here
@@ -210,19 +233,24 @@ pub same_held : (held w past : List ℕ) → held ≡ w ++ past → length held 
 same_held held w [] e h = sym (append-nil w) ∙ sym e
 same_held held w (b ∷ past) e h = let n = ap length e in absurd (omega (arith, n, length-append w (b ∷ past), h))
 
-pub held_inside : (at gap len : ℕ) (ended : Bool) (held w past : List ℕ) → held ≡ w ++ past → IsScan w gap len → len ≤ 32 → gap + len < length w → at + length w ≤ 4294967295 → FindsToken at held ended gap len
+pub held_inside : (at gap len : ℕ) (ended : Bool) (held w past : List ℕ) → held ≡ w ++ past → IsScan w gap len → len ≤ 32
+    → gap + len < length w → at + length w ≤ 4294967295 → FindsToken at held ended gap len
 held_inside at gap len ended held w past e scan short h below =
     subst (λ (l : List ℕ). FindsToken at l ended gap len) (sym e) (finds_inside at gap len ended w past scan short h below)
 
-pub held_last : (at gap len : ℕ) (ended : Bool) (held w past : List ℕ) → held ≡ w ++ past → length held ≤ length w → IsScan w gap len → len ≤ 32 → length w ≤ gap + len → 0 < len → ended ≡ true → at + length w ≤ 4294967295 → FindsToken at held ended gap len
+pub held_last : (at gap len : ℕ) (ended : Bool) (held w past : List ℕ) → held ≡ w ++ past → length held ≤ length w → IsScan w gap len
+    → len ≤ 32 → length w ≤ gap + len → 0 < len → ended ≡ true → at + length w ≤ 4294967295 → FindsToken at held ended gap len
 held_last at gap len ended held w past e all scan short h some e2 below =
-    subst (λ (l : List ℕ). FindsToken at l ended gap len) (same_held held w past e all) (finds_last at gap len ended w scan short h some e2 below)
+    subst (λ (l : List ℕ). FindsToken at l ended gap len) (same_held held w past e all)
+    (finds_last at gap len ended w scan short h some e2 below)
 
-pub held_more : (at gap len : ℕ) (ended : Bool) (held w past : List ℕ) → held ≡ w ++ past → length held ≤ length w → IsScan w gap len → len ≤ 32 → length w ≤ gap + len → ended ≡ false → at + length w ≤ 4294967295 → FindsMore at held ended gap
+pub held_more : (at gap len : ℕ) (ended : Bool) (held w past : List ℕ) → held ≡ w ++ past → length held ≤ length w → IsScan w gap len
+    → len ≤ 32 → length w ≤ gap + len → ended ≡ false → at + length w ≤ 4294967295 → FindsMore at held ended gap
 held_more at gap len ended held w past e all scan short h e2 below =
     subst (λ (l : List ℕ). FindsMore at l ended gap) (same_held held w past e all) (finds_more at gap len ended w scan short h e2 below)
 
-pub held_end : (at gap len : ℕ) (held w past : List ℕ) → held ≡ w ++ past → length held ≤ length w → IsScan w gap len → len ≡ 0 → length w ≤ gap + len → at + length w ≤ 4294967295 → stream_from 4294967295 at held ≡ stopped (Ok (at + length held))
+pub held_end : (at gap len : ℕ) (held w past : List ℕ) → held ≡ w ++ past → length held ≤ length w → IsScan w gap len → len ≡ 0
+    → length w ≤ gap + len → at + length w ≤ 4294967295 → stream_from 4294967295 at held ≡ stopped (Ok (at + length held))
 held_end at gap len held w past e all scan none h below =
     subst (λ (l : List ℕ). stream_from 4294967295 at l ≡ stopped (Ok (at + length l))) (same_held held w past e all)
     (found_end 4294967295 at gap w (subst (IsScan w gap) none scan) (omega arith) below)

@@ -27,7 +27,8 @@ decimal-token n small = record { some = decimal_nonempty n small; within = digit
 
 pub decimal-number : (n : ℕ) → n < 2 ^ 64 → SpellsNumber (decimal n) n
 decimal-number n small = record {
-  digits_only = and_from (ltb 0 (length (decimal n))) (all_ascii_digits (decimal n)) (lt-ltb _ _ (decimal_nonempty n small)) (digits_decimal own n small);
+  digits_only = and_from (ltb 0 (length (decimal n))) (all_ascii_digits (decimal n)) (lt-ltb _ _ (decimal_nonempty n small))
+      (digits_decimal own n small);
   value = digits_value-decimal own n small;
 }
 
@@ -36,7 +37,8 @@ piece-token (Text text) h = h
 piece-token (Number n) h = decimal-token n h
 piece-token (Index letter n) h = record {
   some = omega arith;
-  within = and_from (in_token letter) (list_all in_token (decimal n)) (not_from_false (is_separator letter) h.0) (decimal-token n h.1).within;
+  within = and_from (in_token letter) (list_all in_token (decimal n)) (not_from_false (is_separator letter) h.0)
+      (decimal-token n h.1).within;
 }
 
 pub piece-is : (p : Piece) → IsWritable p → IsPiece p (text_of p)
@@ -45,19 +47,23 @@ piece-is (Number n) h = decimal-number n h
 piece-is (Index letter n) h = (decimal n, refl, decimal-number n h.1)
 
 -- one piece and the separator after it
-piece_begins : (p : Piece) (at s : ℕ) (more : List ℕ) (qs : List Piece) → IsWritable p → is_separator s ≡ true → ((k : ℕ) → Begins qs (tokens_from false k more) [])
+piece_begins : (p : Piece) (at s : ℕ) (more : List ℕ) (qs : List Piece) → IsWritable p → is_separator s ≡ true
+    → ((k : ℕ) → Begins qs (tokens_from false k more) [])
     → Begins (p ∷ qs) (tokens_from false at (text_of p ++ s ∷ more)) []
 piece_begins p at s more qs writable sep h =
-    subst (λ (ts : List Placed). Begins (p ∷ qs) ts []) (sym (tokens-written at (text_of p) more s (piece-token p writable) sep)) (piece-is p writable, h (at + length (text_of p) + 1))
+    subst (λ (ts : List Placed). Begins (p ∷ qs) ts []) (sym (tokens-written at (text_of p) more s (piece-token p writable) sep))
+    (piece-is p writable, h (at + length (text_of p) + 1))
 
-pub line_begins : (ps : List Piece) (at : ℕ) (more : List ℕ) (qs : List Piece) → AreWritable ps → ((k : ℕ) → Begins qs (tokens_from false k more) [])
+pub line_begins : (ps : List Piece) (at : ℕ) (more : List ℕ) (qs : List Piece) → AreWritable ps
+    → ((k : ℕ) → Begins qs (tokens_from false k more) [])
     → Begins (ps ++ qs) (tokens_from false at (line_text ps ++ more)) []
 line_begins [] at more qs writable h = subst (λ (ts : List Placed). Begins qs ts []) (sym (after_separator at 10 more refl)) (h (at + 1))
 line_begins (p ∷ []) at more qs writable h =
     let grouped : (text_of p ++ 10 ∷ []) ++ more ≡ text_of p ++ 10 ∷ more = append_assoc (text_of p) (10 ∷ []) more in
     subst (λ (bs : List ℕ). Begins (p ∷ qs) (tokens_from false at bs) []) (sym grouped) (piece_begins p at 10 more qs writable.0 refl h)
 line_begins (p ∷ q ∷ ps) at more qs writable h =
-    let grouped : (text_of p ++ 32 ∷ line_text (q ∷ ps)) ++ more ≡ text_of p ++ 32 ∷ (line_text (q ∷ ps) ++ more) = append_assoc (text_of p) (32 ∷ line_text (q ∷ ps)) more in
+    let grouped : (text_of p ++ 32 ∷ line_text (q ∷ ps)) ++ more ≡ text_of p ++ 32 ∷ (line_text (q ∷ ps) ++ more) =
+    append_assoc (text_of p) (32 ∷ line_text (q ∷ ps)) more in
     subst (λ (bs : List ℕ). Begins (p ∷ q ∷ (ps ++ qs)) (tokens_from false at bs) []) (sym grouped)
     (piece_begins p at 32 (line_text (q ∷ ps) ++ more) (q ∷ (ps ++ qs)) writable.0 refl (λ k. line_begins (q ∷ ps) k more qs writable.1 h))
 

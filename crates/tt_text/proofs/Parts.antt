@@ -19,7 +19,8 @@ all_pieces-map line (x ∷ xs) = ap (λ ps. line x ++ ps) (all_pieces-map line x
 -- a piece for each element
 pub AreWritable-map : {X : Type 0} (piece : X → Piece) (xs : List X) → All (λ x. IsWritable (piece x)) xs → AreWritable (map piece xs)
 AreWritable-map piece [] h = tt
-AreWritable-map piece (x ∷ xs) h = (All-head (λ y. IsWritable (piece y)) x xs h, AreWritable-map piece xs (All-tail (λ y. IsWritable (piece y)) x xs h))
+AreWritable-map piece (x ∷ xs) h =
+    (All-head (λ y. IsWritable (piece y)) x xs h, AreWritable-map piece xs (All-tail (λ y. IsWritable (piece y)) x xs h))
 
 -- some lines followed by more lines
 pub LinesWritable-append : (ls ms : List (List Piece)) → LinesWritable ls → LinesWritable ms → LinesWritable (ls ++ ms)
@@ -27,6 +28,8 @@ LinesWritable-append [] ms a b = b
 LinesWritable-append (l ∷ ls) ms a b = (a.0, LinesWritable-append ls ms a.1 b)
 
 -- a line for each element
-pub LinesWritable-map : {X : Type 0} (line : X → List Piece) (xs : List X) → All (λ x. AreWritable (line x)) xs → LinesWritable (map line xs)
+pub LinesWritable-map : {X : Type 0} (line : X → List Piece) (xs : List X) → All (λ x. AreWritable (line x)) xs
+    → LinesWritable (map line xs)
 LinesWritable-map line [] h = tt
-LinesWritable-map line (x ∷ xs) h = (All-head (λ y. AreWritable (line y)) x xs h, LinesWritable-map line xs (All-tail (λ y. AreWritable (line y)) x xs h))
+LinesWritable-map line (x ∷ xs) h =
+    (All-head (λ y. AreWritable (line y)) x xs h, LinesWritable-map line xs (All-tail (λ y. AreWritable (line y)) x xs h))

@@ -11,7 +11,8 @@ use Rattle.tt_text.proofs.Written.{after_separator, tokens-written}
 
 -- -- each token of a text is read
 
-pub over_gap : (at : ℕ) (gap rest : List ℕ) → list_all is_separator gap ≡ true → tokens_from false at (gap ++ rest) ≡ tokens_from false (at + length gap) rest
+pub over_gap : (at : ℕ) (gap rest : List ℕ) → list_all is_separator gap ≡ true → tokens_from false at (gap ++ rest) ≡ tokens_from false
+    (at + length gap) rest
 over_gap at [] rest all = ap (λ (n : ℕ). tokens_from false n rest) (sym (add-zero at))
 over_gap at (s ∷ gap) rest all =
     let h = and_parts (is_separator s) (list_all is_separator gap) all in
@@ -32,9 +33,11 @@ all_run (b ∷ bs) all =
     rw h.0 (ap (λ (n : ℕ). 1 + n) (all_run bs h.1) ∙ omega arith)
 
 -- a token at the end or before a separator
-first_token : (at : ℕ) (text back : List ℕ) → IsToken text → IsApart back → tokens_from false at (text ++ back) ≡ record { text = text; at = at } ∷ tokens_from false (at + length text) back
+first_token : (at : ℕ) (text back : List ℕ) → IsToken text → IsApart back → tokens_from false at (text ++ back) ≡ record
+    { text = text; at = at } ∷ tokens_from false (at + length text) back
 first_token at text (s ∷ rest) token apart =
-    tokens-written at text rest s token apart ∙ ap (λ (ts : List Placed). record { text = text; at = at } ∷ ts) (sym (after_separator (at + length text) s rest apart))
+    tokens-written at text rest s token apart ∙ ap (λ (ts : List Placed). record { text = text; at = at } ∷ ts)
+    (sym (after_separator (at + length text) s rest apart))
 first_token at text [] token apart =
     let len = all_run text token.within in
     let begun = tokens-begins at text (omega (arith, len, token.some)) in
@@ -46,7 +49,8 @@ tokens_are_read at bytes [] h = only_gap at bytes h
 tokens_are_read at bytes (t ∷ ts) h =
     let s = h.1 in
     let behind = tokens_are_read (t.at + length t.text) h.0 ts h.2 in
-    ap (tokens_from false at) s.whole ∙ over_gap at s.gap (t.text ++ h.0) s.separators ∙ ap (λ (n : ℕ). tokens_from false n (t.text ++ h.0)) (sym s.offset)
+    ap (tokens_from false at) s.whole ∙ over_gap at s.gap (t.text ++ h.0) s.separators
+    ∙ ap (λ (n : ℕ). tokens_from false n (t.text ++ h.0)) (sym s.offset)
     ∙ first_token t.at t.text h.0 s.token s.apart ∙ ap (λ (us : List Placed). t ∷ us) behind
 
 -- -- each token read is one of the text
@@ -56,23 +60,28 @@ after_run : (bs : List ℕ) → IsApart (drop (prefix_len in_token bs) bs)
 after_run [] = tt
 after_run (b ∷ bs) = by_test (is_separator b) refl (after_run bs)
   where
-    by_test : (v : Bool) → is_separator b ≡ v → IsApart (drop (prefix_len in_token bs) bs) → IsApart (drop (prefix_len in_token (b ∷ bs)) (b ∷ bs))
-    by_test true e rest = let none : prefix_len in_token (b ∷ bs) ≡ 0 = rw e refl in subst (λ (n : ℕ). IsApart (drop n (b ∷ bs))) (sym none) e
+    by_test : (v : Bool) → is_separator b ≡ v → IsApart (drop (prefix_len in_token bs) bs)
+        → IsApart (drop (prefix_len in_token (b ∷ bs)) (b ∷ bs))
+    by_test true e rest = let none : prefix_len in_token (b ∷ bs) ≡ 0 = rw e refl in subst (λ (n : ℕ). IsApart (drop n (b ∷ bs)))
+        (sym none) e
     by_test false e rest =
         let more : prefix_len in_token (b ∷ bs) ≡ suc (prefix_len in_token bs) = rw e (omega arith) in
         subst (λ (n : ℕ). IsApart (drop n (b ∷ bs))) (sym more) rest
 
 -- only separators
-no_token : (at : ℕ) (bytes : List ℕ) → prefix_len in_token (drop (prefix_len is_separator bytes) bytes) ≡ 0 → HasTokens at bytes (tokens_from false at bytes)
+no_token : (at : ℕ) (bytes : List ℕ) → prefix_len in_token (drop (prefix_len is_separator bytes) bytes) ≡ 0
+    → HasTokens at bytes (tokens_from false at bytes)
 no_token at bytes none =
     let nothing = ended bytes none in
     let whole : take (prefix_len is_separator bytes) bytes ≡ bytes =
-    sym (append-nil (take (prefix_len is_separator bytes) bytes)) ∙ ap (λ (l : List ℕ). take (prefix_len is_separator bytes) bytes ++ l) (sym nothing) ∙ take-append-drop (prefix_len is_separator bytes) bytes in
+    sym (append-nil (take (prefix_len is_separator bytes) bytes)) ∙ ap (λ (l : List ℕ). take (prefix_len is_separator bytes) bytes ++ l)
+    (sym nothing) ∙ take-append-drop (prefix_len is_separator bytes) bytes in
     let all : list_all is_separator bytes ≡ true = ap (list_all is_separator) (sym whole) ∙ run_passes is_separator bytes in
     subst (HasTokens at bytes) (sym (only_gap at bytes all)) all
 
 -- separators and a token
-one_token : (at : ℕ) (bytes begun text rest : List ℕ) → begun ≡ drop (prefix_len is_separator bytes) bytes → text ≡ take (prefix_len in_token begun) begun → rest ≡ drop (prefix_len in_token begun) begun → 0 < prefix_len in_token begun
+one_token : (at : ℕ) (bytes begun text rest : List ℕ) → begun ≡ drop (prefix_len is_separator bytes) bytes
+    → text ≡ take (prefix_len in_token begun) begun → rest ≡ drop (prefix_len in_token begun) begun → 0 < prefix_len in_token begun
     → ((from : ℕ) → HasTokens from rest (tokens_from false from rest)) → HasTokens at bytes (tokens_from false at bytes)
 one_token at bytes begun text rest begun_is text_is rest_is some more =
     let gap : List ℕ = take (prefix_len is_separator bytes) bytes in
@@ -84,7 +93,9 @@ one_token at bytes begun text rest begun_is text_is rest_is some more =
     ∙ ap (λ (n : ℕ). made ∷ tokens_from false (made.at + n) rest) (sym len) in
     let first : IsFirst at bytes made rest = record {
       gap = gap;
-      whole = sym (take-append-drop (prefix_len is_separator bytes) bytes) ∙ ap (λ (l : List ℕ). gap ++ l) (sym begun_is ∙ sym (take-append-drop (prefix_len in_token begun) begun) ∙ rw (text_is, rest_is) refl);
+      whole = sym (take-append-drop (prefix_len is_separator bytes) bytes)
+          ∙ ap (λ (l : List ℕ). gap ++ l) (sym begun_is ∙ sym (take-append-drop (prefix_len in_token begun) begun)
+          ∙ rw (text_is, rest_is) refl);
       separators = run_passes is_separator bytes;
       token = is_a_token (prefix_len in_token begun) begun text refl text_is some;
       offset = ap (λ (n : ℕ). at + n) (sym gap_len);
@@ -93,15 +104,24 @@ one_token at bytes begun text rest begun_is text_is rest_is some more =
     subst (HasTokens at bytes) (sym read) (rest, first, more (made.at + length text))
 
 -- the text, given that the property holds of shorter ones
-one_more : (at fuel : ℕ) (bytes : List ℕ) → length bytes ≤ suc fuel → ((rest : List ℕ) → length rest ≤ fuel → (from : ℕ) → HasTokens from rest (tokens_from false from rest)) → HasTokens at bytes (tokens_from false at bytes)
+one_more : (at fuel : ℕ) (bytes : List ℕ) → length bytes ≤ suc fuel
+    → ((rest : List ℕ) → length rest ≤ fuel → (from : ℕ) → HasTokens from rest (tokens_from false from rest))
+    → HasTokens at bytes (tokens_from false at bytes)
 one_more at fuel bytes h shorter = by_len (prefix_len in_token (drop (prefix_len is_separator bytes) bytes)) refl
   where
-    by_len : (n : ℕ) → prefix_len in_token (drop (prefix_len is_separator bytes) bytes) ≡ n → HasTokens at bytes (tokens_from false at bytes)
+    by_len : (n : ℕ) → prefix_len in_token (drop (prefix_len is_separator bytes) bytes) ≡ n
+        → HasTokens at bytes (tokens_from false at bytes)
     by_len zero e = no_token at bytes e
     by_len (suc n) e =
         let begun : List ℕ = drop (prefix_len is_separator bytes) bytes in
         let rest : List ℕ = drop (prefix_len in_token begun) begun in
-        let less : length rest ≤ fuel = omega (arith, h, e, length-drop (prefix_len in_token begun) begun, length-drop (prefix_len is_separator bytes) bytes) in
+        let less : length rest ≤ fuel = omega (
+          arith,
+          h,
+          e,
+          length-drop (prefix_len in_token begun) begun,
+          length-drop (prefix_len is_separator bytes) bytes,
+        ) in
         one_token at bytes begun (take (prefix_len in_token begun) begun) rest refl refl refl (omega (arith, e)) (shorter rest less)
 
 on_length : (fuel : ℕ) (bytes : List ℕ) → length bytes ≤ fuel → (at : ℕ) → HasTokens at bytes (tokens_from false at bytes)

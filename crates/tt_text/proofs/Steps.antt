@@ -13,7 +13,8 @@ module _ {F : Type 0} where
   ok_is x y e = cc
 
   -- if the first step has a fault, both steps together have the same fault
-  pub fails_then : {A B : Type 0} (silent : F → Bool) (e : F) (r : Result A F) (f : A → Result B F) → FailsUnless silent e r → FailsUnless silent e (r >>= f)
+  pub fails_then : {A B : Type 0} (silent : F → Bool) (e : F) (r : Result A F) (f : A → Result B F) → FailsUnless silent e r
+      → FailsUnless silent e (r >>= f)
   fails_then silent e r f h = by_test (silent e) h
     where
       by_test : (b : Bool) → OnFalse b (r ≡ Err e) → OnFalse b ((r >>= f) ≡ Err e)
@@ -52,5 +53,6 @@ pub record Takes (ts : List Placed) (ps : List Piece) (mid : List Placed) : Type
 
 pub takes_then : (ts mid last : List Placed) (ps qs : List Piece) → Takes ts ps mid → Takes mid qs last → Takes ts (ps ++ qs) last
 takes_then ts mid last ps qs p q = record {
-  take = λ rs rest h. subst (λ (xs : List Piece). Begins xs ts rest) (sym (append_assoc ps qs rs)) (p.take (qs ++ rs) rest (q.take rs rest h));
+  take = λ rs rest h. subst (λ (xs : List Piece). Begins xs ts rest) (sym (append_assoc ps qs rs))
+      (p.take (qs ++ rs) rest (q.take rs rest h));
 }

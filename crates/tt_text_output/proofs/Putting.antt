@@ -65,7 +65,8 @@ module _ {W : Type 0} (C : W → Option (List ℕ)) (F : W → Bool) where
   }
 
   -- a text that is added to the buffer
-  pub puts_held : (a b : Output W) (x : List ℕ) → b.held.items ≡ a.held.items ++ x → b.sink.ghost_name ≡ a.sink.ghost_name → b.sink.now ≡ a.sink.now → b.failed ≡ a.failed → Puts C F a b x
+  pub puts_held : (a b : Output W) (x : List ℕ) → b.held.items ≡ a.held.items ++ x → b.sink.ghost_name ≡ a.sink.ghost_name
+      → b.sink.now ≡ a.sink.now → b.failed ≡ a.failed → Puts C F a b x
   puts_held a b x more name sink flag = record {
     same_sink = name;
     taken = [];
@@ -119,12 +120,14 @@ module _ {W : Type 0} (C : W → Option (List ℕ)) (F : W → Bool) where
       }
 
   -- a part of the text was written before a write failed
-  pub part_written : (first last end : Output W) (before after : W) (x : List ℕ) → first.held.items ≡ [] → first.sink.now ≡ before → end.sink.now ≡ after → Puts C F first last x → Puts C F last end [] → TakesPart (C before) (C after) x
+  pub part_written : (first last end : Output W) (before after : W) (x : List ℕ) → first.held.items ≡ [] → first.sink.now ≡ before
+      → end.sink.now ≡ after → Puts C F first last x → Puts C F last end [] → TakesPart (C before) (C after) x
   part_written first last end before after x empty begins ends p q =
       let both = puts_both first last end x [] p q in
       record {
         taken = both.taken;
         rest = both.rest;
         front = sym (append-nil x) ∙ ap (λ z. z ++ (x ++ [])) (sym empty) ∙ both.front;
-        appended = subst (λ w. Appends (C w) (C after) both.taken) begins (subst (λ w. Appends (C first.sink.now) (C w) both.taken) ends both.appended);
+        appended = subst (λ w. Appends (C w) (C after) both.taken) begins
+            (subst (λ w. Appends (C first.sink.now) (C w) both.taken) ends both.appended);
       }

@@ -30,7 +30,8 @@ no_word bytes e = on (word_len bytes) refl
     on : (n : ℕ) → word_len bytes ≡ n → word_len bytes ≡ 0
     on zero h = h
     on (suc n) h =
-        let f = tokens-some 0 (prefix_len is_separator bytes) (word_len bytes) bytes (begun bytes) (first_word bytes) (drop (word_len bytes) (begun bytes)) refl refl refl refl refl (omega (arith, h)) in
+        let f = tokens-some 0 (prefix_len is_separator bytes) (word_len bytes) bytes (begun bytes) (first_word bytes)
+        (drop (word_len bytes) (begun bytes)) refl refl refl refl refl (omega (arith, h)) in
         let no = sym e ∙ f in
         absurd cc
 
@@ -43,12 +44,15 @@ word_at bytes t ts e = on (word_len bytes) refl
   where
     on : (n : ℕ) → word_len bytes ≡ n → IsWord bytes t
     on zero h =
-        let f = (tokens-none 0 (prefix_len is_separator bytes) (word_len bytes) bytes (begun bytes) (drop (word_len bytes) (begun bytes)) refl refl refl refl h).0 in
+        let f = (tokens-none 0 (prefix_len is_separator bytes) (word_len bytes) bytes (begun bytes)
+        (drop (word_len bytes) (begun bytes)) refl refl refl refl h).0 in
         let no = sym e ∙ f in
         absurd cc
     on (suc n) h =
-        let f = tokens-some 0 (prefix_len is_separator bytes) (word_len bytes) bytes (begun bytes) (first_word bytes) (drop (word_len bytes) (begun bytes)) refl refl refl refl refl (omega (arith, h)) in
-        let same : record { text = first_word bytes; at = 0 + prefix_len is_separator bytes } ∷ tokens_from false (0 + prefix_len is_separator bytes + word_len bytes) (drop (word_len bytes) (begun bytes)) ≡ t ∷ ts = sym f ∙ e in
+        let f = tokens-some 0 (prefix_len is_separator bytes) (word_len bytes) bytes (begun bytes) (first_word bytes)
+        (drop (word_len bytes) (begun bytes)) refl refl refl refl refl (omega (arith, h)) in
+        let same : record { text = first_word bytes; at = 0 + prefix_len is_separator bytes } ∷ tokens_from false
+        (0 + prefix_len is_separator bytes + word_len bytes) (drop (word_len bytes) (begun bytes)) ≡ t ∷ ts = sym f ∙ e in
         let first : record { text = first_word bytes; at = 0 + prefix_len is_separator bytes } ≡ t = cc in
         let at : 0 + prefix_len is_separator bytes ≡ t.at = ap (λ (x : Placed). x.at) first in
         record { text = ap (λ (x : Placed). x.text) first; at = omega (arith, at) }
@@ -67,7 +71,8 @@ run_stops : (f : ℕ → Bool) (xs ys : List ℕ) → prefix_len f xs < length x
 run_stops f [] ys h = absurd (omega (arith, h))
 run_stops f (x ∷ xs) ys h = on (f x) refl (λ less. run_stops f xs ys less)
   where
-    on : (b : Bool) → f x ≡ b → (prefix_len f xs < length xs → prefix_len f (xs ++ ys) ≡ prefix_len f xs) → prefix_len f (x ∷ (xs ++ ys)) ≡ prefix_len f (x ∷ xs)
+    on : (b : Bool) → f x ≡ b → (prefix_len f xs < length xs → prefix_len f (xs ++ ys) ≡ prefix_len f xs)
+        → prefix_len f (x ∷ (xs ++ ys)) ≡ prefix_len f (x ∷ xs)
     on false e rest = rw e refl
     on true e rest =
         let more : prefix_len f (x ∷ xs) ≡ 1 + prefix_len f xs = rw e refl in
@@ -89,11 +94,13 @@ drop_front (suc n) (x ∷ xs) ys h = drop_front n xs ys (omega (arith, h))
 
 -- if the first token has begun, further bytes are appended to it
 begun_more : (xs ys : List ℕ) → prefix_len is_separator xs < length xs → begun (xs ++ ys) ≡ begun xs ++ ys
-begun_more xs ys h = ap (λ (n : ℕ). drop n (xs ++ ys)) (run_stops is_separator xs ys h) ∙ drop_front (prefix_len is_separator xs) xs ys (omega (arith, h))
+begun_more xs ys h = ap (λ (n : ℕ). drop n (xs ++ ys)) (run_stops is_separator xs ys h) ∙ drop_front (prefix_len is_separator xs) xs ys
+    (omega (arith, h))
 
 -- ---- whether the first token is settled
 
-pub settled_is : (bytes : List ℕ) (t : Placed) (n : ℕ) → IsWord bytes t → n ≡ length bytes - t.at → is_settled bytes ≡ (nat_lt (length t.text) n || nat_lt 32 (length t.text))
+pub settled_is : (bytes : List ℕ) (t : Placed) (n : ℕ) → IsWord bytes t → n ≡ length bytes - t.at
+    → is_settled bytes ≡ (nat_lt (length t.text) n || nat_lt 32 (length t.text))
 settled_is bytes t n w e =
     let here : length bytes - prefix_len is_separator bytes ≡ n = ap (λ (m : ℕ). length bytes - m) (sym w.at) ∙ sym e in
     rw (w.text, here) refl
@@ -117,12 +124,17 @@ word_front xs ys = on (ltb_cases (prefix_len is_separator xs) (length xs))
         by true e = inl (ltb-true a b e)
         by false e = inr (ltb-false a b e)
 
-    on : (prefix_len is_separator xs < length xs) ⊎ (length xs ≤ prefix_len is_separator xs) → (k : ℕ) × (first_word xs ≡ take k (first_word (xs ++ ys)))
+    on : (prefix_len is_separator xs < length xs) ⊎ (length xs ≤ prefix_len is_separator xs)
+        → (k : ℕ) × (first_word xs ≡ take k (first_word (xs ++ ys)))
     on (inl h) =
         let more = begun_more xs ys h in
-        let whole : first_word (xs ++ ys) ≡ take (prefix_len in_token (begun xs ++ ys)) (begun xs ++ ys) = ap (λ (l : List ℕ). take (prefix_len in_token l) l) more in
-        let inside : word_len xs ≤ length (begun xs) = prefix_len-le-length in_token (begun xs) in
-        (word_len xs, sym (ap (take (word_len xs)) whole ∙ take-take (word_len xs) (prefix_len in_token (begun xs ++ ys)) (begun xs ++ ys) (run_longer in_token (begun xs) ys) ∙ take-append-le (word_len xs) (begun xs) ys inside))
+        let whole : first_word (xs ++ ys) ≡ take (prefix_len in_token (begun xs ++ ys)) (begun xs ++ ys) =
+        ap (λ (l : List ℕ). take (prefix_len in_token l) l) more in
+        let inside : word_len xs ≤ length (begun xs) = prefix_len-le-length in_token (begun xs) in (
+          word_len xs,
+          sym (ap (take (word_len xs)) whole ∙ take-take (word_len xs) (prefix_len in_token (begun xs ++ ys))
+              (begun xs ++ ys) (run_longer in_token (begun xs) ys) ∙ take-append-le (word_len xs) (begun xs) ys inside),
+        )
     on (inr h) =
         let empty : begun xs ≡ [] = drop_all (prefix_len is_separator xs) xs h in
         (0, ap (λ (l : List ℕ). take (prefix_len in_token l) l) empty)
@@ -136,7 +148,8 @@ no_front (suc (suc (suc zero))) = refl
 no_front (suc (suc (suc (suc k)))) = refl
 
 -- a text with the first token `CTTP` is not a file of groups
-pub proofs_are_no_groups : (bytes : List ℕ) (t : Placed) (ts : List Placed) → tokens_of bytes ≡ t ∷ ts → t.text ≡ codes "CTTP" → is_groups bytes ≡ false
+pub proofs_are_no_groups : (bytes : List ℕ) (t : Placed) (ts : List Placed) → tokens_of bytes ≡ t ∷ ts → t.text ≡ codes "CTTP"
+    → is_groups bytes ≡ false
 proofs_are_no_groups bytes t ts e proof =
     let w = word_at bytes t ts e in
     let parts : take 4096 bytes ++ drop 4096 bytes ≡ bytes = take-append-drop 4096 bytes in
@@ -162,7 +175,8 @@ long_word (a ∷ b ∷ c ∷ d ∷ e ∷ w) h = all_false (67 == a) (84 == b) (8
 -- further bytes leave a settled word as it is, or too long
 settled_more : (xs ys : List ℕ) → is_settled xs ≡ true → has_groups_word (xs ++ ys) ≡ has_groups_word xs
 settled_more xs ys settled =
-    elim (or_cases (nat_lt (length (first_word xs)) (length xs - prefix_len is_separator xs)) (nat_lt 32 (length (first_word xs))) settled) [
+    elim (or_cases (nat_lt (length (first_word xs)) (length xs - prefix_len is_separator xs))
+    (nat_lt 32 (length (first_word xs))) settled) [
       | inl h ↦ same (ltb-true _ _ h)
       | inr h ↦ long (ltb-true _ _ h)
     ]
@@ -173,13 +187,15 @@ settled_more xs ys settled =
         let n = word_long xs in
         let more = begun_more xs ys (omega (arith, h)) in
         let stops = run_stops in_token (begun xs) ys (omega (arith, h, left, n)) in
-        ap (is_text (codes "CTTG")) (ap (λ (l : List ℕ). take (prefix_len in_token l) l) more ∙ ap (λ (k : ℕ). take k (begun xs ++ ys)) stops ∙ take-append-le (word_len xs) (begun xs) ys (omega (arith, h, left, n)))
+        ap (is_text (codes "CTTG")) (ap (λ (l : List ℕ). take (prefix_len in_token l) l) more
+        ∙ ap (λ (k : ℕ). take k (begun xs ++ ys)) stops ∙ take-append-le (word_len xs) (begun xs) ys (omega (arith, h, left, n)))
 
     long : 32 < length (first_word xs) → has_groups_word (xs ++ ys) ≡ has_groups_word xs
     long h =
         let n = word_long xs in
         let f = word_front xs ys in
-        let shorter : length (first_word xs) ≤ length (first_word (xs ++ ys)) = omega (arith, ap length f.1, length-take f.0 (first_word (xs ++ ys))) in
+        let shorter : length (first_word xs) ≤ length (first_word (xs ++ ys)) =
+        omega (arith, ap length f.1, length-take f.0 (first_word (xs ++ ys))) in
         long_word (first_word (xs ++ ys)) (omega (arith, h, shorter)) ∙ sym (long_word (first_word xs) h)
 
 take_over : (n : ℕ) (xs ys : List ℕ) → length xs ≤ n → (k : ℕ) × (take n (xs ++ ys) ≡ xs ++ take k ys)
@@ -205,7 +221,8 @@ or_no true b e = absurd cc
 or_no false b e = (refl, e)
 
 -- a read that fails while the first token is open
-pub no_token_yet : (bytes : List ℕ) → is_settled bytes ≡ false → length bytes < 4096 → cut_short (stream_from MAX_BYTES 0 bytes) ≡ stopped (Err Read)
+pub no_token_yet : (bytes : List ℕ) → is_settled bytes ≡ false → length bytes < 4096
+    → cut_short (stream_from MAX_BYTES 0 bytes) ≡ stopped (Err Read)
 no_token_yet bytes e below =
     let gap = prefix_len is_separator bytes in
     let len = word_len bytes in
@@ -233,36 +250,43 @@ pub kept_start : (known : Option (List ℕ)) → Keeps known known
 kept_start None = tt
 kept_start (Some xs) = refl
 
-pub kept_more : (before r after : Option (List ℕ)) (front piece : List ℕ) → Keeps before (prepend_known front r) → Consumes r after piece → Keeps before (prepend_known (front ++ piece) after)
+pub kept_more : (before r after : Option (List ℕ)) (front piece : List ℕ) → Keeps before (prepend_known front r)
+    → Consumes r after piece → Keeps before (prepend_known (front ++ piece) after)
 kept_more None r after front piece h c = tt
 kept_more (Some xs) None after front piece h c = absurd h
 kept_more (Some xs) (Some ys) None front piece h c = absurd c
 kept_more (Some xs) (Some ys) (Some zs) front piece h c = append_assoc front piece zs ∙ ap (λ (l : List ℕ). front ++ l) (sym c) ∙ h
 
-pub kept_same : (before r after : Option (List ℕ)) (front : List ℕ) → Keeps before (prepend_known front r) → Keeps r after → Keeps before (prepend_known front after)
+pub kept_same : (before r after : Option (List ℕ)) (front : List ℕ) → Keeps before (prepend_known front r) → Keeps r after
+    → Keeps before (prepend_known front after)
 kept_same None r after front h c = tt
 kept_same (Some xs) None after front h c = absurd h
 kept_same (Some xs) (Some ys) None front h c = absurd c
 kept_same (Some xs) (Some ys) (Some zs) front h c = ap (λ (l : List ℕ). front ++ l) c ∙ h
 
 -- known bytes are the front and the bytes after it
-pub known_parts : (before r : Option (List ℕ)) (front bytes : List ℕ) → Keeps before (prepend_known front r) → before ≡ Some bytes → (ys : List ℕ) × (r ≡ Some ys) × (bytes ≡ front ++ ys)
+pub known_parts : (before r : Option (List ℕ)) (front bytes : List ℕ) → Keeps before (prepend_known front r) → before ≡ Some bytes
+    → (ys : List ℕ) × (r ≡ Some ys) × (bytes ≡ front ++ ys)
 known_parts None r front bytes h e = absurd cc
 known_parts (Some xs) None front bytes h e = absurd h
 known_parts (Some xs) (Some ys) front bytes h e = let same : xs ≡ bytes = cc in (ys, refl, sym (h ∙ same))
 
 -- the front was given
-pub front_given : (before r : Option (List ℕ)) (front : List ℕ) → Keeps before (prepend_known front r) → Consumes before (prepend_known [] r) front
+pub front_given : (before r : Option (List ℕ)) (front : List ℕ) → Keeps before (prepend_known front r)
+    → Consumes before (prepend_known [] r) front
 front_given None r front h = tt
 front_given (Some xs) None front h = absurd h
 front_given (Some xs) (Some ys) front h = sym h
 
 -- the first n bytes of the front are given
-pub piece_given : (r : Option (List ℕ)) (front : List ℕ) (n : ℕ) → Consumes (prepend_known front r) (prepend_known (drop n front) r) (take n front)
+pub piece_given : (r : Option (List ℕ)) (front : List ℕ) (n : ℕ) → Consumes (prepend_known front r) (prepend_known (drop n front) r)
+    (take n front)
 piece_given None front n = tt
-piece_given (Some ys) front n = ap (λ (l : List ℕ). l ++ ys) (sym (take-append-drop n front)) ∙ append_assoc (take n front) (drop n front) ys
+piece_given (Some ys) front n = ap (λ (l : List ℕ). l ++ ys) (sym (take-append-drop n front))
+    ∙ append_assoc (take n front) (drop n front) ys
 
-pub unfronted : (r after : Option (List ℕ)) (piece : List ℕ) → Consumes r after piece → Consumes (prepend_known [] r) (prepend_known [] after) piece
+pub unfronted : (r after : Option (List ℕ)) (piece : List ℕ) → Consumes r after piece
+    → Consumes (prepend_known [] r) (prepend_known [] after) piece
 unfronted None after piece c = tt
 unfronted (Some xs) None piece c = absurd c
 unfronted (Some xs) (Some ys) piece c = c

@@ -18,6 +18,7 @@ write_nodes-requires g c = λ κs.
       (refl, tt),
       (
         subst AreLinks links c.requires.under_way.links,
-        subst (All (IsWritable p c.as_slice.result.now)) (sym c.as_slice-2.ensures.value) (subst (λ (l : List Link). All (IsWritable p l) s.tree_nodes.items) links each),
+        subst (All (IsWritable p c.as_slice.result.now)) (sym c.as_slice-2.ensures.value)
+            (subst (λ (l : List Link). All (IsWritable p l) s.tree_nodes.items) links each),
       ),
     )

@@ -9,5 +9,6 @@ returns-clause-moved g c =
     let old = g.P.Path.facts c.args.path.now in
     let facts = c.args.facts.now in
     let kept = c.shared-kept.result in
-    let e = ap (λ (l : List Fact). l ++ reverse (take (length facts - kept) facts)) c.pop_to.ensures.facts ∙ joined old facts kept c.shared-kept.ensures.reversed in
+    let e = ap (λ (l : List Fact). l ++ reverse (take (length facts - kept) facts)) c.pop_to.ensures.facts
+    ∙ joined old facts kept c.shared-kept.ensures.reversed in
     subst (λ (l : List Fact). OnOk c.push_first.result (g.P.Path.facts c.push_first.new.path ≡ l)) e c.push_first.ensures.moved

@@ -10,7 +10,8 @@ pub node_for-requires : goal.node_for-requires
 node_for-requires g c = λ κs.
     let p = g.P.Path.problem c.args.path.now in
     let e = c.index-tree_nodes-left.result in
-    let w = writable_here p c.args.links.now c.args.tree_nodes.now (c.loop-left.left - 1) e c.requires.each (omega arith) c.index-tree_nodes-left.is in
+    let w = writable_here p c.args.links.now c.args.tree_nodes.now (c.loop-left.left - 1) e c.requires.each
+    (omega arith) c.index-tree_nodes-left.is in
     ((refl, tt), (c.requires.links, w.reached))
 
 pub worth_of-requires : goal.worth_of-requires

@@ -13,14 +13,16 @@ pub returns-in_default-clause-ends : goal.returns-in_default-clause-ends
 returns-in_default-clause-ends g c =
     let tree_nodes = c.loop-opened.search.tree_nodes.items in
     let none : IsNone c.next_open.result = search rules in
-    let closed = subst (λ (l : List TreeNode). list_any (λ e. is_open e.mark) l ≡ false) c.as_slice.ensures.value (c.next_open.ensures.none none) in
+    let closed = subst (λ (l : List TreeNode). list_any (λ e. is_open e.mark) l ≡ false) c.as_slice.ensures.value
+    (c.next_open.ensures.none none) in
     ends_closed c.args.limit c.loop-opened.opened tree_nodes c.loop-opened.invariant.opened (omega arith) closed
 
 pub returns-then-is_over-clause-ends : goal.returns-then-is_over-clause-ends
 returns-then-is_over-clause-ends g c =
     let tree_nodes = c.loop-opened.search.tree_nodes.items in
     let i = c.loop-opened.invariant in
-    ends_early c.loop-opened.opened tree_nodes c.in-Some.place (subst (λ (l : List TreeNode). IsOpenAt l c.in-Some.place) c.as_slice.ensures.value c.in-Some.ensures.open) i.opened i.at_most
+    ends_early c.loop-opened.opened tree_nodes c.in-Some.place
+    (subst (λ (l : List TreeNode). IsOpenAt l c.in-Some.place) c.as_slice.ensures.value c.in-Some.ensures.open) i.opened i.at_most
 
 pub give_if_asked-requires : goal.give_if_asked-requires
 give_if_asked-requires g c = λ κs.
@@ -37,7 +39,8 @@ loop-opened-preserved g c =
     record {
       same = e.unchanged ∙ same;
       under_way = subst (λ (q : Problem). IsUnderWay q new) same e.under_way;
-      better = advance_twice p c.args.search.now.best c.loop-opened.search.best new.best i.better (subst (λ (q : Problem). Advances q c.loop-opened.search.best new.best) same e.better);
+      better = advance_twice p c.args.search.now.best c.loop-opened.search.best new.best i.better
+          (subst (λ (q : Problem). Advances q c.loop-opened.search.best new.best) same e.better);
       opened = omega (arith, e.opened, i.opened);
       at_most = omega (arith, e.many, i.at_most);
     }

@@ -14,11 +14,14 @@ loop-place-preserved c =
     let h : place < length tree_nodes = omega arith in
     elim c.if-is_next.branch [
       | then-is_next w ↦ record {
-        some = subst (λ o. IfSome o (IsOpenAt tree_nodes)) (sym w.found-is) (open_here tree_nodes place e h c.index-tree_nodes-place.is (c.is_next.ensures.open w.if-is_next.true));
+        some = subst (λ o. IfSome o (IsOpenAt tree_nodes)) (sym w.found-is)
+            (open_here tree_nodes place e h c.index-tree_nodes-place.is (c.is_next.ensures.open w.if-is_next.true));
         none = λ n. let z = subst IsNone w.found-is n in cc;
       }
       | else-is_next w ↦ record {
         some = subst (λ o. IfSome o (IsOpenAt tree_nodes)) (sym w.found-is) c.loop-place.invariant.some;
-        none = λ n. let m = subst IsNone w.found-is n in none_more (λ k. is_open k.mark) tree_nodes place e h c.index-tree_nodes-place.is (c.loop-place.invariant.none m) (c.is_next.ensures.first (not-false c.is_none.result (sym c.is_none.ensures ∙ m)) w.if-is_next.false);
+        none = λ n. let m = subst IsNone w.found-is n in
+            none_more (λ k. is_open k.mark) tree_nodes place e h c.index-tree_nodes-place.is (c.loop-place.invariant.none m)
+            (c.is_next.ensures.first (not-false c.is_none.result (sym c.is_none.ensures ∙ m)) w.if-is_next.false);
       }
     ]

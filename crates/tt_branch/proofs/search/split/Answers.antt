@@ -20,7 +20,12 @@ returns c = split_by_steps c.args.place c.args.pattern _ _ c.requires (record {
   a_link = c.waiting-first.ensures.link;
   b_mark = c.waiting-second.ensures.mark;
   b_link = c.waiting-second.ensures.link;
-  d = record { mark = Split c.args.pattern; link = c.index.result.now.link; key = c.index.result.now.key; rises = c.index.result.now.rises };
+  d = record {
+    mark = Split c.args.pattern;
+    link = c.index.result.now.link;
+    key = c.index.result.now.key;
+    rises = c.index.result.now.rises;
+  };
   d_mark = refl;
   d_link = refl;
   more = c.insert.new.self.items;

@@ -26,7 +26,8 @@ write_nodes-requires g c = λ κs.
       (refl, tt),
       (
         subst AreLinks links c.requires.under_way.links,
-        subst (All (IsWritable p c.as_slice.result.now)) (sym c.as_slice-2.ensures.value) (subst (λ (l : List Link). All (IsWritable p l) s.tree_nodes.items) links each),
+        subst (All (IsWritable p c.as_slice.result.now)) (sym c.as_slice-2.ensures.value)
+            (subst (λ (l : List Link). All (IsWritable p l) s.tree_nodes.items) links each),
       ),
     )
 
@@ -40,10 +41,12 @@ returns g c =
     let items = c.as_slice-2.ensures.value in
     let nodes = c.in_ok-nodes.field-0.nodes.items in
     let lowest = c.in_ok-nodes.field-0.least in
-    let is = c.in_ok-nodes.ensures.nodes ∙ ap (λ (l : List Link). nodes_of p l c.as_slice-2.result.now) links ∙ ap (nodes_of p s.links.items) items in
+    let is = c.in_ok-nodes.ensures.nodes ∙ ap (λ (l : List Link). nodes_of p l c.as_slice-2.result.now) links
+    ∙ ap (nodes_of p s.links.items) items in
     let shown = c.shown-bound.ensures p c.requires.under_way.kept in
     let done = concluded p ok s c.requires.under_way e.opened c.requires.at_most nodes is e.finished lowest c.requires.begun c.requires.ends
-    (λ f. c.in_ok-nodes.ensures.least (not_from_false e.finished f) ∙ ap (λ (l : List Link). least (worths_of p l c.as_slice-2.result.now)) links
+    (λ f. c.in_ok-nodes.ensures.least (not_from_false e.finished f)
+    ∙ ap (λ (l : List Link). least (worths_of p l c.as_slice-2.result.now)) links
     ∙ ap (λ (es : List TreeNode). least (worths_of p s.links.items es)) items) in
     subst (λ (t : Option (List Cell)). IsOutcome p e.opened t c.shown-bound.result nodes e.finished) (sym c.table_in.ensures)
     (subst (λ (b : Bound). IsOutcome p e.opened (table_of s.best) b nodes e.finished) (sym shown) done)

@@ -10,4 +10,6 @@ returns-in-Some-2-clause-known g c =
     let p = g.P.Path.problem c.args.path.now in
     let facts = g.P.Path.facts c.args.path.now in
     let none : IsNone c.in_ok-leaf.field-0 = search rules in
-    splits_on p facts c.in-Some-2.pattern c.bound_of-bound.result (subst (λ (o : Option Pattern). IfSome o (IsNewSplit p facts)) c.in-Some-2.is c.in_ok-pattern.ensures.split) (c.in_ok-leaf.ensures.none none)
+    splits_on p facts c.in-Some-2.pattern c.bound_of-bound.result
+    (subst (λ (o : Option Pattern). IfSome o (IsNewSplit p facts)) c.in-Some-2.is c.in_ok-pattern.ensures.split)
+    (c.in_ok-leaf.ensures.none none)

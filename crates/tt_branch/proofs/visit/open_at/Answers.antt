@@ -16,16 +16,21 @@ go_to-requires g c = λ κs.
     let p = g.P.Path.problem c.args.path.now in
     let s = c.args.search.now in
     let e = c.requires.waiting.0 in
-    let there = each_at (IsThere p s.links.items) s.tree_nodes.items c.args.place e (each_there p (table_of s.best) s.links.items s.tree_nodes.items c.requires.under_way.grown c.requires.at_most) c.requires.waiting.1 in
+    let there = each_at (IsThere p s.links.items) s.tree_nodes.items c.args.place e
+    (each_there p (table_of s.best) s.links.items s.tree_nodes.items c.requires.under_way.grown c.requires.at_most)
+    c.requires.waiting.1 in
     let read = c.index.result.now in
-    let link = ap (λ (x : TreeNode). x.link) (c.index.ensures ∙ get_or_from_slice_get s.tree_nodes.items c.args.place e read c.requires.waiting.1) in
+    let link = ap (λ (x : TreeNode). x.link)
+    (c.index.ensures ∙ get_or_from_slice_get s.tree_nodes.items c.args.place e read c.requires.waiting.1) in
     let links = sym c.as_slice.ensures.value in (
       (refl, tt),
       (
         subst AreLinks links c.requires.under_way.links,
         (
-          subst (λ (l : List Link). read.link ≤ length l) links (subst (λ (n : ℕ). n ≤ length s.links.items) (sym link) there.reached.within),
-          subst (λ (l : List Link). length (path_at l read.link) ≤ 65536) links (subst (λ (n : ℕ). length (path_at s.links.items n) ≤ 65536) (sym link) there.reached.depth),
+          subst (λ (l : List Link). read.link ≤ length l) links
+              (subst (λ (n : ℕ). n ≤ length s.links.items) (sym link) there.reached.within),
+          subst (λ (l : List Link). length (path_at l read.link) ≤ 65536) links
+              (subst (λ (n : ℕ). length (path_at s.links.items n) ≤ 65536) (sym link) there.reached.depth),
         ),
       ),
     )
@@ -35,16 +40,21 @@ open-requires g c = λ κs.
     let p = g.P.Path.problem c.args.path.now in
     let s = c.args.search.now in
     let e = c.requires.waiting.0 in
-    let there = each_at (IsThere p s.links.items) s.tree_nodes.items c.args.place e (each_there p (table_of s.best) s.links.items s.tree_nodes.items c.requires.under_way.grown c.requires.at_most) c.requires.waiting.1 in
+    let there = each_at (IsThere p s.links.items) s.tree_nodes.items c.args.place e
+    (each_there p (table_of s.best) s.links.items s.tree_nodes.items c.requires.under_way.grown c.requires.at_most)
+    c.requires.waiting.1 in
     let read = c.index.result.now in
-    let link = ap (λ (x : TreeNode). x.link) (c.index.ensures ∙ get_or_from_slice_get s.tree_nodes.items c.args.place e read c.requires.waiting.1) in
+    let link = ap (λ (x : TreeNode). x.link)
+    (c.index.ensures ∙ get_or_from_slice_get s.tree_nodes.items c.args.place e read c.requires.waiting.1) in
     let same = sym c.in_ok-go_to.ensures.unchanged in
     let facts : path_at s.links.items e.link ≡ g.P.Path.facts c.go_to.new.path =
-    sym (c.in_ok-go_to.ensures.there ∙ ap (λ (l : List Link). path_at l read.link) c.as_slice.ensures.value ∙ ap (path_at s.links.items) link) in (
+    sym (c.in_ok-go_to.ensures.there ∙ ap (λ (l : List Link). path_at l read.link) c.as_slice.ensures.value
+    ∙ ap (path_at s.links.items) link) in (
       (refl, tt),
       (
         subst (λ (q : Problem). IsBestSoFar q s.best) same c.requires.under_way.kept,
-        subst (λ (q : Problem). ArePatterns q (g.P.Path.facts c.go_to.new.path)) same (subst (λ (l : List Fact). ArePatterns p l) facts there.patterns),
+        subst (λ (q : Problem). ArePatterns q (g.P.Path.facts c.go_to.new.path)) same
+            (subst (λ (l : List Fact). ArePatterns p l) facts there.patterns),
       ),
     )
 
@@ -58,10 +68,17 @@ returns-clause-under_way g c =
     let p = g.P.Path.problem c.args.path.now in
     let s = c.args.search.now in
     let read = c.index.result.now in
-    let put : TreeNode = record { mark = c.in_ok-mark.field-0.mark; link = read.link; key = c.in_ok-mark.field-0.key; rises = c.in_ok-rises.rises } in
+    let put : TreeNode = record {
+      mark = c.in_ok-mark.field-0.mark;
+      link = read.link;
+      key = c.in_ok-mark.field-0.key;
+      rises = c.in_ok-rises.rises;
+    } in
     let there = c.in_ok-go_to.ensures.there ∙ ap (λ (l : List Link). path_at l read.link) c.as_slice.ensures.value in
-    let made = opening_there p (g.P.Path.problem c.go_to.new.path) (g.P.Path.facts c.go_to.new.path) s.best c.open.new.best s.links.items s.tree_nodes.items c.put.new.tree_nodes.items c.args.place read put
-    c.in_ok-go_to.ensures.unchanged there c.index.ensures c.requires.waiting c.requires.under_way.grown c.in_ok-mark.ensures.better c.in_ok-mark.ensures.known c.in_ok-mark.ensures.opened c.in_ok-mark.ensures.single refl c.put.ensures in
+    let made = opening_there p (g.P.Path.problem c.go_to.new.path) (g.P.Path.facts c.go_to.new.path) s.best c.open.new.best
+    s.links.items s.tree_nodes.items c.put.new.tree_nodes.items c.args.place read put
+    c.in_ok-go_to.ensures.unchanged there c.index.ensures c.requires.waiting c.requires.under_way.grown c.in_ok-mark.ensures.better
+    c.in_ok-mark.ensures.known c.in_ok-mark.ensures.opened c.in_ok-mark.ensures.single refl c.put.ensures in
     record {
       kept = subst (λ (q : Problem). IsBestSoFar q c.open.new.best) c.in_ok-go_to.ensures.unchanged c.in_ok-mark.ensures.better.kept;
       links = c.requires.under_way.links;
@@ -73,8 +90,15 @@ returns-clause-opened g c =
     let p = g.P.Path.problem c.args.path.now in
     let s = c.args.search.now in
     let read = c.index.result.now in
-    let put : TreeNode = record { mark = c.in_ok-mark.field-0.mark; link = read.link; key = c.in_ok-mark.field-0.key; rises = c.in_ok-rises.rises } in
+    let put : TreeNode = record {
+      mark = c.in_ok-mark.field-0.mark;
+      link = read.link;
+      key = c.in_ok-mark.field-0.key;
+      rises = c.in_ok-rises.rises;
+    } in
     let there = c.in_ok-go_to.ensures.there ∙ ap (λ (l : List Link). path_at l read.link) c.as_slice.ensures.value in
-    let made = opening_there p (g.P.Path.problem c.go_to.new.path) (g.P.Path.facts c.go_to.new.path) s.best c.open.new.best s.links.items s.tree_nodes.items c.put.new.tree_nodes.items c.args.place read put
-    c.in_ok-go_to.ensures.unchanged there c.index.ensures c.requires.waiting c.requires.under_way.grown c.in_ok-mark.ensures.better c.in_ok-mark.ensures.known c.in_ok-mark.ensures.opened c.in_ok-mark.ensures.single refl c.put.ensures in
+    let made = opening_there p (g.P.Path.problem c.go_to.new.path) (g.P.Path.facts c.go_to.new.path) s.best c.open.new.best
+    s.links.items s.tree_nodes.items c.put.new.tree_nodes.items c.args.place read put
+    c.in_ok-go_to.ensures.unchanged there c.index.ensures c.requires.waiting c.requires.under_way.grown c.in_ok-mark.ensures.better
+    c.in_ok-mark.ensures.known c.in_ok-mark.ensures.opened c.in_ok-mark.ensures.single refl c.put.ensures in
     made.opened

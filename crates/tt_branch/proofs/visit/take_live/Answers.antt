@@ -20,15 +20,22 @@ use Rattle.tt_branch.proofs.visit.take_live.Goals as goal
 pub live_table-requires : goal.live_table-requires
 live_table-requires g c = λ κs.
     let p = g.P.Path.problem c.args.path.now in
-    let ok = subst IsInstance c.instance.ensures c.days.ensures.instance in
-    ((refl, tt), omega (arith, few_live p (g.P.Path.facts c.args.path.now) (final_bound p (table_of c.args.best.now)) ok c.requires.pinned c.requires.unclosed))
+    let ok = subst IsInstance c.instance.ensures c.days.ensures.instance in (
+      (refl, tt),
+      omega (
+        arith,
+        few_live p (g.P.Path.facts c.args.path.now) (final_bound p (table_of c.args.best.now)) ok c.requires.pinned
+            c.requires.unclosed,
+      ),
+    )
 
 pub score-requires : goal.score-requires
 score-requires g c =
     let p = g.P.Path.problem c.args.path.now in
     let ok = subst IsInstance c.instance.ensures c.days.ensures.instance in
     let h = solved p (g.P.Path.facts c.args.path.now) (table_of c.args.best.now) ok c.requires.pinned c.requires.unclosed in
-    subst (λ (q : Problem). All (InRange q) c.in_ok-table.table) (sym c.instance-2.ensures) (subst (All (InRange p)) (sym c.in_ok-table.ensures) h.feasible.timetable)
+    subst (λ (q : Problem). All (InRange q) c.in_ok-table.table) (sym c.instance-2.ensures)
+    (subst (All (InRange p)) (sym c.in_ok-table.ensures) h.feasible.timetable)
 
 pub returns-clause-known : goal.returns-clause-known
 returns-clause-known g c =

@@ -7,4 +7,5 @@ abbrev pub invariant-loop-course : goal.invariant-loop-course
 invariant-loop-course g l =
     let p = g.P.Path.problem l.path in
     let facts = g.P.Path.facts l.path in
-    (c : ℕ) → c < l.course → (r : ℕ) → r < length p.rooms → (d : ℕ) → d < p.days → (s : ℕ) → s < p.periods → ¬ IsFree p facts (cell c r (slot d s))
+    (c : ℕ) → c < l.course → (r : ℕ) → r < length p.rooms → (d : ℕ) → d < p.days → (s : ℕ) → s < p.periods
+    → ¬ IsFree p facts (cell c r (slot d s))

@@ -21,7 +21,9 @@ loop-older-preserved c =
     let here : i < length a.yes.now = omega arith in
     record {
       table = c.in_ok-watch.ensures.ok.table;
-      shown = λ path f e denies same free old. next_settled a.instance.now a.yes.now path f i _ here c.loop-older.live.words (c.loop-older.invariant.shown path f e denies same free old) a.free.now.words c.settle.new.live.words free c.in_ok-watch.ensures.ok;
+      shown = λ path f e denies same free old. next_settled a.instance.now a.yes.now path f i _ here c.loop-older.live.words
+          (c.loop-older.invariant.shown path f e denies same free old) a.free.now.words c.settle.new.live.words free
+          c.in_ok-watch.ensures.ok;
       earlier = c.settle.ensures.unchanged ∙ c.loop-older.invariant.earlier;
     }
 
@@ -33,7 +35,9 @@ loop-older-preserved-then-not-can_touch c =
     let here : i < length a.yes.now = omega arith in
     record {
       table = c.loop-older.invariant.table;
-      shown = λ path f e denies same free old. next_apart p a.yes.now path f i _ here c.loop-older.live.words (c.loop-older.invariant.shown path f e denies same free old) e denies (ap (can_touch p _) same ∙ sym c.can_touch.ensures ∙ c.if-not-can_touch.true);
+      shown = λ path f e denies same free old. next_apart p a.yes.now path f i _ here c.loop-older.live.words
+          (c.loop-older.invariant.shown path f e denies same free old) e denies (ap (can_touch p _) same ∙ sym c.can_touch.ensures
+          ∙ c.if-not-can_touch.true);
       earlier = c.loop-older.invariant.earlier;
     }
 
@@ -44,7 +48,8 @@ returns-then-is_cleared-clause-ok c =
     let live = c.loop-older.live.words in
     record {
       table = c.loop-older.invariant.table;
-      renewed = λ path f e denies same free old. nothing_left p a.yes.now path f c.loop-older.older-index live e denies (c.is_cleared.ensures c.if-is_cleared.true) (c.loop-older.invariant.shown path f e denies same free old);
+      renewed = λ path f e denies same free old. nothing_left p a.yes.now path f c.loop-older.older-index live e denies
+          (c.is_cleared.ensures c.if-is_cleared.true) (c.loop-older.invariant.shown path f e denies same free old);
     }
 
 pub returns-clause-ok : goal.returns-clause-ok
@@ -58,5 +63,6 @@ returns-clause-ok c =
     record {
       table = c.loop-older.invariant.table;
       renewed = λ path f e denies same free old. all_settled p yes path f live e denies
-          (subst (λ l. Shows p (so_far p path f (map as_yes l)) live) (ap (λ n. take n yes) end ∙ take-length yes) (c.loop-older.invariant.shown path f e denies same free old));
+          (subst (λ l. Shows p (so_far p path f (map as_yes l)) live) (ap (λ n. take n yes) end ∙ take-length yes)
+          (c.loop-older.invariant.shown path f e denies same free old));
     }

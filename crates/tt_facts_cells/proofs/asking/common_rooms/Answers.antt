@@ -22,7 +22,8 @@ loop-block-preserved c = λ r.
     c.both-common.ensures r
     ∙ ap (λ b. b && has_room c.common_of.result r) (c.loop-block.invariant r)
     ∙ ap (λ b. list_all block (range_below n) && b) (c.common_of.ensures r
-    ∙ all_bits (λ k. not (has_bit word k) || (n * 64 + k == r)) (λ k. not (open_at n k) || (n * 64 + k == r)) (λ k h. ap (λ b. not b || (n * 64 + k == r)) (c.open_word-word.ensures k h)))
+    ∙ all_bits (λ k. not (has_bit word k) || (n * 64 + k == r)) (λ k. not (open_at n k) || (n * 64 + k == r))
+    (λ k h. ap (λ b. not b || (n * 64 + k == r)) (c.open_word-word.ensures k h)))
     ∙ sym (list_all-more block n)
 
 pub returns : goal.returns
@@ -35,4 +36,6 @@ returns c = λ r.
     let end : c.loop-block.block ≡ width p = omega (arith, c.width-block-end.ensures.value) in
     c.loop-block.invariant r
     ∙ ap (λ n. list_all (λ w. list_all (λ k. not (open_room (w * 64 + k)) || (w * 64 + k == r)) bits) (range_below n)) end
-    ∙ all_block p (λ k. not (open_room k) || (k == r)) (λ w k hw hk past. ap (λ b. not (b && agrees a.room (w * 64 + k)) || (w * 64 + k == r)) (spare-cell p words a.course a.day a.period w k q.table q.course q.day q.period hw hk past))
+    ∙ all_block p (λ k. not (open_room k) || (k == r))
+    (λ w k hw hk past. ap (λ b. not (b && agrees a.room (w * 64 + k)) || (w * 64 + k == r))
+    (spare-cell p words a.course a.day a.period w k q.table q.course q.day q.period hw hk past))

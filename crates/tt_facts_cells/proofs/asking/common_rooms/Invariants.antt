@@ -8,4 +8,7 @@ use Rattle.tt_facts_cells.specs.Inner.Tables.{is_open}
 use Rattle.tt_facts_cells.proofs.asking.common_rooms.Given as goal
 
 abbrev pub invariant-loop-block : goal.invariant-loop-block
-invariant-loop-block l = (r : ℕ) → has_room l.common r ≡ list_all (λ w. list_all (λ k. not (is_open l.instance l.table.words l.room l.course l.day l.period (w * 64 + k)) || (w * 64 + k == r)) bits) (range_below l.block)
+invariant-loop-block l = (r : ℕ)
+    → has_room l.common r ≡ list_all
+    (λ w. list_all (λ k. not (is_open l.instance l.table.words l.room l.course l.day l.period (w * 64 + k)) || (w * 64 + k == r)) bits)
+    (range_below l.block)

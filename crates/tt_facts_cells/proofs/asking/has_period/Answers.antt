@@ -11,4 +11,6 @@ returns c =
     let p = a.instance.now in
     let words = a.table.now.words in
     c.has_blocks.ensures
-    ∙ any_block p (is_open p words a.room a.course a.day a.period) (λ w k hw hk past. ap (λ b. b && agrees a.room (w * 64 + k)) (spare-cell p words a.course a.day a.period w k r.table r.course r.day r.period hw hk past))
+    ∙ any_block p (is_open p words a.room a.course a.day a.period)
+    (λ w k hw hk past. ap (λ b. b && agrees a.room (w * 64 + k))
+    (spare-cell p words a.course a.day a.period w k r.table r.course r.day r.period hw hk past))

@@ -7,4 +7,5 @@ use Rattle.tt_facts_cells.specs.Inner.Tables.{is_open}
 use Rattle.tt_facts_cells.proofs.asking.periods_of.Given as goal
 
 abbrev pub invariant-loop-period : goal.invariant-loop-period
-invariant-loop-period l = (s : ℕ) → s < 64 → has_bit l.periods s ≡ (nat_lt s l.period && list_any (is_open l.instance l.table.words None l.course l.day s) (all_rooms l.instance))
+invariant-loop-period l = (s : ℕ) → s < 64
+    → has_bit l.periods s ≡ (nat_lt s l.period && list_any (is_open l.instance l.table.words None l.course l.day s) (all_rooms l.instance))

@@ -20,7 +20,9 @@ loop-course-preserved c =
     let new = c.remove_of.new.table.words in
     let here : i < length ks = omega arith in
     record {
-      loses = loses-more p a.table.now.words mid new (λ x. has_number (take i ks) x.course && has_place_of g x) (λ x. (x.course == slice_index_or ks i 0) && has_place_of g x) (λ x. has_number (take (i + 1) ks) x.course && has_place_of g x) c.loop-course.invariant.loses c.in_ok-remove_of.ensures.ok
+      loses = loses-more p a.table.now.words mid new (λ x. has_number (take i ks) x.course && has_place_of g x)
+          (λ x. (x.course == slice_index_or ks i 0) && has_place_of g x)
+          (λ x. has_number (take (i + 1) ks) x.course && has_place_of g x) c.loop-course.invariant.loses c.in_ok-remove_of.ensures.ok
           (λ x h. course_at p g ks i here x);
       earlier = c.remove_of.ensures.unchanged ∙ c.loop-course.invariant.earlier;
     }
@@ -34,5 +36,6 @@ returns-clause-ok c =
     let i = c.loop-course.course-index in
     let end : i ≡ length ks = omega arith in
     let whole : take i ks ≡ courses_of p g.who = ap (λ n. take n ks) end ∙ take-length ks ∙ c.courses_of-course-items.ensures in
-    loses-same p a.table.now.words c.loop-course.table.words (λ x. has_number (take i ks) x.course && has_place_of g x) (matches p g) c.loop-course.invariant.loses
+    loses-same p a.table.now.words c.loop-course.table.words (λ x. has_number (take i ks) x.course && has_place_of g x)
+    (matches p g) c.loop-course.invariant.loses
     (λ x h. ap (λ l. has_number l x.course && has_place_of g x) whole ∙ courses_gone p g x)

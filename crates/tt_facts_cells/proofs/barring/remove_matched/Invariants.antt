@@ -6,6 +6,7 @@ use Rattle.tt_facts_cells.proofs.barring.remove_matched.Given as goal
 
 abbrev pub invariant-loop-course : goal.invariant-loop-course
 invariant-loop-course l = record {
-  loses : Loses l.instance l.fn.table.words (λ x. has_number (take l.course-index l.course-items) x.course && has_place_of l.pattern x) l.table.words;
+  loses : Loses l.instance l.fn.table.words (λ x. has_number (take l.course-index l.course-items) x.course && has_place_of l.pattern x)
+      l.table.words;
   earlier : l.table.earlier ≡ l.fn.table.earlier;
 }

@@ -15,7 +15,8 @@ loop-slot-init c =
     let g = a.pattern.now in
     let t = c.slots_of-from.result in
     record {
-      loses = loses-none p a.table.now.words (is_gone p g a.course t.0) c.requires.table (λ x h. none_gone p g a.course t.0 t.1 x h c.slots_of-from.ensures);
+      loses = loses-none p a.table.now.words (is_gone p g a.course t.0) c.requires.table
+          (λ x h. none_gone p g a.course t.0 t.1 x h c.slots_of-from.ensures);
       earlier = refl;
     }
 
@@ -26,7 +27,8 @@ loop-slot-preserved-then-not-is_allowed c =
     let g = a.pattern.now in
     let n = c.loop-slot.slot in
     record {
-      loses = loses-same p a.table.now.words c.loop-slot.table.words (is_gone p g a.course n) (is_gone p g a.course (n + 1)) c.loop-slot.invariant.loses
+      loses = loses-same p a.table.now.words c.loop-slot.table.words (is_gone p g a.course n)
+          (is_gone p g a.course (n + 1)) c.loop-slot.invariant.loses
           (λ x h. slot_skipped p g a.course n x h (sym c.is_allowed.ensures ∙ c.if-not-is_allowed.true));
       earlier = c.loop-slot.invariant.earlier;
     }
@@ -44,7 +46,8 @@ loop-slot-preserved c =
     let new = c.remove_rooms.new.table.words in
     let gone = λ (i : ℕ) (x : Cell). is_placed a.course (n / i) (n % i) x && agrees g.room x.room in
     record {
-      loses = loses-more p a.table.now.words mid new (is_gone p g a.course n) (gone p.periods) (is_gone p g a.course (n + 1)) c.loop-slot.invariant.loses
+      loses = loses-more p a.table.now.words mid new (is_gone p g a.course n) (gone p.periods)
+          (is_gone p g a.course (n + 1)) c.loop-slot.invariant.loses
           (subst (λ i. Loses p mid (gone i) new) c.periods-periods.ensures.value c.in_ok-remove_rooms.ensures.ok)
           (λ x h. slot_gone p g a.course n x h (sym c.is_allowed.ensures ∙ c.if-not-is_allowed.false));
       earlier = c.remove_rooms.ensures.unchanged ∙ c.loop-slot.invariant.earlier;
@@ -58,5 +61,6 @@ returns-clause-ok c =
     let n = c.loop-slot.slot in
     let t = c.slots_of-from.result in
     let past : t.1 ≤ n = omega arith in
-    loses-same p a.table.now.words c.loop-slot.table.words (is_gone p g a.course n) (λ x. (x.course == a.course) && has_place_of g x) c.loop-slot.invariant.loses
+    loses-same p a.table.now.words c.loop-slot.table.words (is_gone p g a.course n)
+    (λ x. (x.course == a.course) && has_place_of g x) c.loop-slot.invariant.loses
     (λ x h. all_gone p g a.course t.0 t.1 n x h c.slots_of-from.ensures past)

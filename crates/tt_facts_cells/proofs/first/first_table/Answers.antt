@@ -12,7 +12,8 @@ pub loop-index-init : goal.loop-index-init
 loop-index-init c =
     let p = c.args.instance.now in
     record {
-      shows = subst (Shows p (is_open_by [])) (sym (c.new-table.ensures.words ∙ c.in_ok-push.ensures.items)) (full_table p c.in_ok-words.words.items c.in_ok-words.ensures);
+      shows = subst (Shows p (is_open_by [])) (sym (c.new-table.ensures.words ∙ c.in_ok-push.ensures.items))
+          (full_table p c.in_ok-words.words.items c.in_ok-words.ensures);
       earlier = c.new-table.ensures.earlier;
     }
 
@@ -29,7 +30,8 @@ loop-index-preserved c =
     let new = c.remove_rooms.new.table.words in
     let h : i < length p.unavailabilities = omega (arith, c.unavailabilities-index-end.ensures.value) in
     record {
-      shows = up_to_more p i b new h c.unavailability-course.ensures (unavailability_in p (take i p.unavailabilities) b words c.loop-index.invariant.shows new c.in_ok-remove_rooms.ensures.ok);
+      shows = up_to_more p i b new h c.unavailability-course.ensures
+          (unavailability_in p (take i p.unavailabilities) b words c.loop-index.invariant.shows new c.in_ok-remove_rooms.ensures.ok);
       earlier = c.remove_rooms.ensures.unchanged ∙ c.loop-index.invariant.earlier;
     }
 
@@ -42,9 +44,16 @@ loop-index-preserved-then-course-courses c =
     let words = c.loop-index.table.words in
     let h : i < length p.unavailabilities = omega (arith, c.unavailabilities-index-end.ensures.value) in
     record {
-      shows = up_to_more p i b words h c.unavailability-course.ensures (unavailability_out p (take i p.unavailabilities) b words c.loop-index.invariant.shows (λ o.
+      shows = up_to_more p i b words h c.unavailability-course.ensures
+          (unavailability_out p (take i p.unavailabilities) b words c.loop-index.invariant.shows (λ o.
           let x = o.0 in let y = o.1 in let z = o.2 in
-          omega (arith, c.then-course-courses.either, c.courses-courses.ensures.value, c.days-days.ensures.value, c.periods-periods.ensures.value)));
+          omega (
+            arith,
+            c.then-course-courses.either,
+            c.courses-courses.ensures.value,
+            c.days-days.ensures.value,
+            c.periods-periods.ensures.value,
+          )));
       earlier = c.loop-index.invariant.earlier;
     }
 
@@ -52,4 +61,5 @@ pub returns-clause-shows : goal.returns-clause-shows
 returns-clause-shows c =
     let p = c.args.instance.now in
     let end : c.loop-index.index ≡ length p.unavailabilities = omega (arith, c.unavailabilities-index-end.ensures.value) in
-    subst (λ l. Shows p (is_open_by l) c.loop-index.table.words) (ap (λ n. take n p.unavailabilities) end ∙ take-length p.unavailabilities) c.loop-index.invariant.shows
+    subst (λ l. Shows p (is_open_by l) c.loop-index.table.words) (ap (λ n. take n p.unavailabilities) end
+    ∙ take-length p.unavailabilities) c.loop-index.invariant.shows

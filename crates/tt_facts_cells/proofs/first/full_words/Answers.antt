@@ -12,7 +12,8 @@ loop-index-preserved c =
     let m = n % c.width-width.result * 64 in
     let at : m ≡ n % width p * 64 = ap (λ w. n % w * 64) c.width-width.ensures.value in
     subst (λ l. AreFull p l (n + 1)) (sym c.in_ok-push.ensures.items)
-    (full_more p c.loop-index.words.items n c.below.result m c.loop-index.invariant at (λ k h. c.below.ensures k h ∙ ap (nat_lt k) (c.saturating_sub.ensures ∙ ap (λ r. r - m) c.rooms-rooms.ensures.value)))
+    (full_more p c.loop-index.words.items n c.below.result m c.loop-index.invariant at
+    (λ k h. c.below.ensures k h ∙ ap (nat_lt k) (c.saturating_sub.ensures ∙ ap (λ r. r - m) c.rooms-rooms.ensures.value)))
 
 pub returns : goal.returns
 returns c =

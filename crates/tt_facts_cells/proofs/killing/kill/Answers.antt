@@ -14,7 +14,8 @@ loop-course-init c =
     let p = a.instance.now in
     let struck = is_struck p a.free.now.words a.pattern.now a.day a.period a.courses.now in
     record {
-      loses = loses-none p a.live.now.words (λ x. nat_lt x.course 0 && struck x) c.requires.live (λ x h. ap (λ b. b && struck x) (le-ltb x.course 0 (omega arith)));
+      loses = loses-none p a.live.now.words (λ x. nat_lt x.course 0 && struck x) c.requires.live
+          (λ x h. ap (λ b. b && struck x) (le-ltb x.course 0 (omega arith)));
       earlier = refl;
     }
 
@@ -29,7 +30,9 @@ loop-course-preserved c =
     let struck = is_struck p a.free.now.words a.pattern.now a.day a.period a.courses.now in
     let room = λ (x : Cell). loses_room p a.free.now.words a.pattern.now a.day a.period a.courses.now x.course x.room in
     record {
-      loses = loses-more p a.live.now.words c.loop-course.live.words c.strike.new.live.words (λ x. nat_lt x.course n && struck x) (λ x. is_placed n a.day a.period x && room x) (λ x. nat_lt x.course (n + 1) && struck x) c.loop-course.invariant.loses c.in_ok-strike.ensures.ok
+      loses = loses-more p a.live.now.words c.loop-course.live.words c.strike.new.live.words (λ x. nat_lt x.course n && struck x)
+          (λ x. is_placed n a.day a.period x && room x) (λ x. nat_lt x.course (n + 1) && struck x) c.loop-course.invariant.loses
+          c.in_ok-strike.ensures.ok
           (λ x h. course_next n x.course (x.day == a.day) (x.period == a.period) (room x));
       earlier = c.strike.ensures.unchanged ∙ c.loop-course.invariant.earlier;
     }

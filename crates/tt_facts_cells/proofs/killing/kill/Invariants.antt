@@ -6,6 +6,7 @@ use Rattle.tt_facts_cells.proofs.killing.kill.Given as goal
 
 abbrev pub invariant-loop-course : goal.invariant-loop-course
 invariant-loop-course l = record {
-  loses : Loses l.instance l.fn.live.words (λ x. nat_lt x.course l.course && is_struck l.instance l.free.words l.pattern l.day l.period l.courses x) l.live.words;
+  loses : Loses l.instance l.fn.live.words
+      (λ x. nat_lt x.course l.course && is_struck l.instance l.free.words l.pattern l.day l.period l.courses x) l.live.words;
   earlier : l.live.earlier ≡ l.fn.live.earlier;
 }

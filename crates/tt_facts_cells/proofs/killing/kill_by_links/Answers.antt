@@ -16,4 +16,5 @@ returns-then-courses-clause-ok c =
     let p = a.instance.now in
     let ks = a.courses.now in
     let one : length ks ≡ 1 = omega arith in
-    subst (λ l. Loses p a.live.now.words (is_struck p a.free.now.words a.pattern.now a.day a.period l) c.kill_one.new.live.words) (sym (list_of_one ks one)) c.in_ok-kill_one.ensures.ok
+    subst (λ l. Loses p a.live.now.words (is_struck p a.free.now.words a.pattern.now a.day a.period l) c.kill_one.new.live.words)
+    (sym (list_of_one ks one)) c.in_ok-kill_one.ensures.ok

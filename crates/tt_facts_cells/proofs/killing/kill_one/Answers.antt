@@ -21,10 +21,14 @@ returns-in_ok-keep_rooms-in-Nothing-clause-ok c =
     let mid = c.strike_period.new.live.words in
     let new = c.keep_rooms.new.table.words in
     let given = c.conflicts_of.ensures ∙ c.requires.links.conflicts a.course c.requires.course in
-    loses-more p old mid new (λ x. has_number (conflicts_of p a.course) x.course && ((x.day == a.day) && (x.period == a.period))) (λ x. is_placed a.course a.day a.period x && not (has_cell p free x && agrees g.room x.room)) (is_struck p free g a.day a.period (a.course ∷ []))
-    (subst (λ ks. Loses p old (λ x. has_number ks x.course && ((x.day == a.day) && (x.period == a.period))) mid) given c.in_ok-strike_period-in-Nothing.ensures.ok)
+    loses-more p old mid new (λ x. has_number (conflicts_of p a.course) x.course && ((x.day == a.day) && (x.period == a.period)))
+    (λ x. is_placed a.course a.day a.period x && not (has_cell p free x && agrees g.room x.room))
+    (is_struck p free g a.day a.period (a.course ∷ []))
+    (subst (λ ks. Loses p old (λ x. has_number ks x.course && ((x.day == a.day) && (x.period == a.period))) mid) given
+    c.in_ok-strike_period-in-Nothing.ensures.ok)
     c.in_ok-keep_rooms-in-Nothing.ensures.ok
-    (struck_by_links p free g a.day a.period a.course c.requires.course (λ r. ap (λ m. has_room m r) (sym c.in-Nothing.is) ∙ c.requires.common r))
+    (struck_by_links p free g a.day a.period a.course c.requires.course (λ r. ap (λ m. has_room m r) (sym c.in-Nothing.is)
+    ∙ c.requires.common r))
 
 pub returns-in_ok-keep_rooms-in-One-clause-ok : goal.returns-in_ok-keep_rooms-in-One-clause-ok
 returns-in_ok-keep_rooms-in-One-clause-ok c =
@@ -43,7 +47,9 @@ returns-in_ok-keep_rooms-in-One-clause-ok c =
     let own = λ (x : Cell). is_placed a.course a.day a.period x && not (has_cell p free x && agrees g.room x.room) in
     loses-more p old mid new (λ x. beaten x || taken x) own (is_struck p free g a.day a.period (a.course ∷ []))
     (loses-more p old first mid beaten taken (λ x. beaten x || taken x)
-    (subst (λ ks. Loses p old (λ x. has_number ks x.course && ((x.day == a.day) && (x.period == a.period))) first) given c.in_ok-strike_period-in-One.ensures.ok)
+    (subst (λ ks. Loses p old (λ x. has_number ks x.course && ((x.day == a.day) && (x.period == a.period))) first) given
+    c.in_ok-strike_period-in-One.ensures.ok)
     c.in_ok-strike_room-in-One.ensures.ok (λ x h. refl))
     c.in_ok-keep_rooms-in-One.ensures.ok
-    (struck_beside p free g a.day a.period a.course c.requires.course (λ r. room == r) (λ r. ap (λ m. has_room m r) (sym c.in-One.is) ∙ c.requires.common r))
+    (struck_beside p free g a.day a.period a.course c.requires.course (λ r. room == r) (λ r. ap (λ m. has_room m r) (sym c.in-One.is)
+    ∙ c.requires.common r))

@@ -18,4 +18,5 @@ returns-then-matches c = λ r.
       | in-Nothing w ↦ ap (λ l. has_room l r) w.in-Nothing.is
       | in_default w ↦ absurd (both_ways c.match-matches.matches w.matches-is c.if-matches.true)
     ] in
-    sym (failed_within beside i ks here (ap (λ b. b && beside (slice_index_or ks i 0)) (sym (c.loop-other.invariant r)) ∙ ap (λ b. has_room c.loop-other.lost r && b) (sym (c.rooms_lost_to.ensures r)) ∙ sym (c.both-lost.ensures r) ∙ none))
+    sym (failed_within beside i ks here (ap (λ b. b && beside (slice_index_or ks i 0)) (sym (c.loop-other.invariant r))
+    ∙ ap (λ b. has_room c.loop-other.lost r && b) (sym (c.rooms_lost_to.ensures r)) ∙ sym (c.both-lost.ensures r) ∙ none))

@@ -12,7 +12,8 @@ loop-other-init c =
     let p = a.instance.now in
     let gone = λ (x : Cell). (x.day == a.day) && (x.period == a.period) && (not (x.course == a.course) && (a.room == x.room)) in
     record {
-      loses = loses-none p a.live.now.words (λ x. nat_lt x.course 0 && gone x) c.requires.live (λ x h. ap (λ b. b && gone x) (le-ltb x.course 0 (omega arith)));
+      loses = loses-none p a.live.now.words (λ x. nat_lt x.course 0 && gone x) c.requires.live
+          (λ x h. ap (λ b. b && gone x) (le-ltb x.course 0 (omega arith)));
       earlier = refl;
     }
 
@@ -27,7 +28,9 @@ loop-other-preserved c =
     let room = λ (x : Cell). not (x.course == a.course) && (a.room == x.room) in
     let gone = λ (x : Cell). (x.day == a.day) && (x.period == a.period) && room x in
     record {
-      loses = loses-more p a.live.now.words c.loop-other.live.words c.strike_room_of.new.live.words (λ x. nat_lt x.course n && gone x) (λ x. is_placed n a.day a.period x && room x) (λ x. nat_lt x.course (n + 1) && gone x) c.loop-other.invariant.loses c.in_ok-strike_room_of.ensures.ok
+      loses = loses-more p a.live.now.words c.loop-other.live.words c.strike_room_of.new.live.words (λ x. nat_lt x.course n && gone x)
+          (λ x. is_placed n a.day a.period x && room x) (λ x. nat_lt x.course (n + 1) && gone x) c.loop-other.invariant.loses
+          c.in_ok-strike_room_of.ensures.ok
           (λ x h. course_next n x.course (x.day == a.day) (x.period == a.period) (room x));
       earlier = c.strike_room_of.ensures.unchanged ∙ c.loop-other.invariant.earlier;
     }

@@ -10,4 +10,5 @@ returns c = λ e x.
     let p = c.args.instance.now in
     let words = c.args.table.now.words in
     let last : c.len.result - 1 ≡ size p = omega (arith, c.len.ensures, c.requires.table.len) in
-    cleared-cell p words (ap (λ i. slice_index_or words i 0 == 0) (sym last) ∙ ap (λ w. w == 0) (sym c.word.ensures) ∙ not-true (c.word.result == 0) e) x
+    cleared-cell p words (ap (λ i. slice_index_or words i 0 == 0) (sym last) ∙ ap (λ w. w == 0) (sym c.word.ensures)
+    ∙ not-true (c.word.result == 0) e) x

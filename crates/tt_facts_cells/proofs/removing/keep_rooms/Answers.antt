@@ -19,7 +19,9 @@ loop-block-preserved c =
     let here : n < width p = omega (arith, c.width-block-end.ensures.value) in
     let cleared = subst (λ i. Clears mid i mask new) c.place.ensures.value c.in_ok-clear.ensures.ok in
     record {
-      drops = block_dropped p a.table.now.words a.course a.day a.period n mask lost mid new r.course r.day r.period here c.loop-block.invariant.drops (word_dropped p mid a.course a.day a.period n mask new r.course r.day r.period here cleared) (λ k h. c.others.ensures k h ∙ ap not (c.open_word-word.ensures k h));
+      drops = block_dropped p a.table.now.words a.course a.day a.period n mask lost mid new r.course r.day r.period here
+          c.loop-block.invariant.drops (word_dropped p mid a.course a.day a.period n mask new r.course r.day r.period here cleared)
+          (λ k h. c.others.ensures k h ∙ ap not (c.open_word-word.ensures k h));
       earlier = c.clear.ensures.unchanged ∙ c.loop-block.invariant.earlier;
     }
 
@@ -30,4 +32,5 @@ returns-clause-ok c =
     let new = c.loop-block.table.words in
     let end : c.loop-block.block ≡ width p = omega (arith, c.width-block-end.ensures.value) in
     rooms_kept p a.table.now.words a.course a.day a.period a.room a.kept.now.words new c.requires.table
-    (subst (λ n. Drops p a.table.now.words new (λ b. is_here a.course a.day a.period b && nat_lt b.block n && not (is_open p a.kept.now.words a.room a.course a.day a.period (b.block * 64 + b.number)))) end c.loop-block.invariant.drops)
+    (subst (λ n. Drops p a.table.now.words new (λ b. is_here a.course a.day a.period b && nat_lt b.block n && not
+    (is_open p a.kept.now.words a.room a.course a.day a.period (b.block * 64 + b.number)))) end c.loop-block.invariant.drops)

@@ -18,7 +18,9 @@ loop-block-preserved c =
     let here : n < width p = omega (arith, c.width-block-end.ensures.value) in
     let cleared = subst (λ i. Clears mid i mask new) c.place.ensures.value c.in_ok-clear.ensures.ok in
     record {
-      drops = block_dropped p a.table.now.words a.course a.day a.period n mask (λ w i. agrees a.room (w * 64 + i)) mid new r.course r.day r.period here c.loop-block.invariant.drops (word_dropped p mid a.course a.day a.period n mask new r.course r.day r.period here cleared) c.allowed.ensures;
+      drops = block_dropped p a.table.now.words a.course a.day a.period n mask
+          (λ w i. agrees a.room (w * 64 + i)) mid new r.course r.day r.period here c.loop-block.invariant.drops
+          (word_dropped p mid a.course a.day a.period n mask new r.course r.day r.period here cleared) c.allowed.ensures;
       earlier = c.clear.ensures.unchanged ∙ c.loop-block.invariant.earlier;
     }
 
@@ -29,4 +31,5 @@ returns-clause-ok c =
     let new = c.loop-block.table.words in
     let end : c.loop-block.block ≡ width p = omega (arith, c.width-block-end.ensures.value) in
     rooms_removed p a.table.now.words a.course a.day a.period a.room new c.requires.table
-    (subst (λ n. Drops p a.table.now.words new (λ b. is_here a.course a.day a.period b && nat_lt b.block n && agrees a.room (b.block * 64 + b.number))) end c.loop-block.invariant.drops)
+    (subst (λ n. Drops p a.table.now.words new (λ b. is_here a.course a.day a.period b && nat_lt b.block n && agrees a.room
+    (b.block * 64 + b.number))) end c.loop-block.invariant.drops)

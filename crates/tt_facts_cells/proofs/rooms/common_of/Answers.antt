@@ -12,14 +12,18 @@ pub returns-then-is_empty : goal.returns-then-is_empty
 returns-then-is_empty c = λ r.
     let w = c.args.word in
     let j = c.lowest-room.result in
-    sym (each_bit-one w c.without.result j c.lowest-room.ensures.within c.lowest-room.ensures.there (λ k l. c.without.ensures k l ∙ ap (λ b. has_bit w k && not b) (c.one.ensures k l)) (λ k. c.args.block * 64 + k == r) (not-true _ (sym c.is_empty.ensures ∙ c.if-is_empty.true)))
+    sym (each_bit-one w c.without.result j c.lowest-room.ensures.within c.lowest-room.ensures.there
+    (λ k l. c.without.ensures k l ∙ ap (λ b. has_bit w k && not b) (c.one.ensures k l)) (λ k. c.args.block * 64 + k == r)
+    (not-true _ (sym c.is_empty.ensures ∙ c.if-is_empty.true)))
 
 pub returns-else-is_empty : goal.returns-else-is_empty
 returns-else-is_empty c = λ r.
     let w = c.args.word in
     let j = c.lowest-room.result in
     let t = λ (k : ℕ). c.args.block * 64 + k == r in
-    let o = another_bit w c.without.result j c.lowest-room.ensures.within c.lowest-room.ensures.there (λ k l. c.without.ensures k l ∙ ap (λ b. has_bit w k && not b) (c.one.ensures k l)) (not-false _ (sym c.is_empty.ensures ∙ c.if-is_empty.false)) in
+    let o = another_bit w c.without.result j c.lowest-room.ensures.within c.lowest-room.ensures.there
+    (λ k l. c.without.ensures k l ∙ ap (λ b. has_bit w k && not b) (c.one.ensures k l))
+    (not-false _ (sym c.is_empty.ensures ∙ c.if-is_empty.false)) in
     sym (false_from_ne_true (each_bit w t) (λ e.
     let a = eqb-true (c.args.block * 64 + o.0) r (each_bit_at w t o.0 o.1 e o.2) in
     let b = eqb-true (c.args.block * 64 + j) r (each_bit_at w t j c.lowest-room.ensures.within e c.lowest-room.ensures.there) in

@@ -13,7 +13,8 @@ returns-then-not-is_left-clause-ok c =
     let free = a.free.now.words in
     let g = a.pattern.now in
     settles-none p free g a.day a.period r.given_day r.given_period r.day r.period a.live.now.words c.remove_all.new.table.words
-    (subst (λ ks. is_left p free g a.day a.period ks ≡ false) r.courses (sym c.is_left.ensures ∙ c.if-not-is_left.true)) c.in_ok-remove_all.ensures.ok
+    (subst (λ ks. is_left p free g a.day a.period ks ≡ false) r.courses (sym c.is_left.ensures ∙ c.if-not-is_left.true))
+    c.in_ok-remove_all.ensures.ok
 
 pub returns-clause-ok : goal.returns-clause-ok
 returns-clause-ok c =

@@ -34,4 +34,5 @@ returns-in_ok-kill_by_links-in-None-clause-ok c =
     let some : 0 < p.periods = omega (arith, c.periods-periods.ensures.positive, c.periods-periods.ensures.value) in
     settles-here p free old g a.from a.to k new r.covers first others some
     (subst (λ ks. Loses p old (is_struck p free g (k / p.periods) (k % p.periods) ks) new) r.courses
-    (subst (λ n. Loses p old (is_struck p free g (k / n) (k % n) a.courses.now) new) c.periods-periods.ensures.value c.in_ok-kill_by_links-in-None.ensures.ok))
+    (subst (λ n. Loses p old (is_struck p free g (k / n) (k % n) a.courses.now) new) c.periods-periods.ensures.value
+    c.in_ok-kill_by_links-in-None.ensures.ok))

@@ -14,7 +14,8 @@ returns-in_ok-remove_all-in-All-clause-ok c =
     let free = a.free.now.words in
     let g = a.pattern.now in
     settles-none p free g a.day a.period r.given_day r.given_period r.day r.period a.live.now.words c.remove_all.new.table.words
-    (subst (λ ks. is_left p free g a.day a.period ks ≡ false) (sym r.one) (none_left p free g a.day a.period a.course r.course (λ i. c.in-All.ensures i)))
+    (subst (λ ks. is_left p free g a.day a.period ks ≡ false) (sym r.one)
+    (none_left p free g a.day a.period a.course r.course (λ i. c.in-All.ensures i)))
     c.in_ok-remove_all-in-All.ensures.ok
 
 pub returns-in_ok-kill_one-in_default : goal.returns-in_ok-kill_one-in_default
@@ -29,7 +30,8 @@ returns-in_ok-kill_one-in_default c =
     record {
       ok = settles-there p free g a.day a.period r.given_day r.given_period r.day r.period old new
           (subst (λ ks. is_left p free g a.day a.period ks ≡ true) (sym r.one)
-          (left_unless_all p free g a.day a.period a.course c.common_rooms-common.result c.in_default.not-All r.course c.common_rooms-common.ensures))
+          (left_unless_all p free g a.day a.period a.course c.common_rooms-common.result c.in_default.not-All r.course
+          c.common_rooms-common.ensures))
           (subst (λ ks. Loses p old (is_struck p free g a.day a.period ks) new) (sym r.one) c.in_ok-kill_one-in_default.ensures.ok);
       unchanged = c.in_ok-kill_one-in_default.ensures.unchanged;
     }

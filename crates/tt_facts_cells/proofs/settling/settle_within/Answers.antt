@@ -28,4 +28,5 @@ returns-then-is_spread-clause-ok c =
     let g = a.pattern.now in
     let spread = subst (λ ks. IsSpread p free g ks a.watch.first a.watch.second) r.courses (c.is_spread.ensures c.if-is_spread.true) in
     let some = positive p.days p.periods a.watch.second spread.within in
-    settles-several p free a.live.now.words g a.watch.first a.watch.second r.live some spread.apart spread.within spread.first_left spread.second_left
+    settles-several p free a.live.now.words g a.watch.first a.watch.second r.live some spread.apart spread.within spread.first_left
+    spread.second_left

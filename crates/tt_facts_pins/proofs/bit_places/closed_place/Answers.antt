@@ -10,6 +10,8 @@ returns-clause-within c =
     let p = c.args.instance.now in
     let a = c.args in
     let row = c.open_place.result * p.periods + a.period in
-    let h : row < slot_rows p = within_row c.open_place.result p.periods a.period (open_size p) c.open_place.ensures.within c.requires.period in
-    let k : row * width p + a.room / 64 < slot_rows p * width p = within_row row (width p) (a.room / 64) (slot_rows p) h (room_within p a.room c.requires.room) in
+    let h : row < slot_rows p = within_row c.open_place.result p.periods a.period
+    (open_size p) c.open_place.ensures.within c.requires.period in
+    let k : row * width p + a.room / 64 < slot_rows p * width p = within_row row (width p) (a.room / 64) (slot_rows p) h
+    (room_within p a.room c.requires.room) in
     rw (c.open_size-unroomed.ensures.value, c.periods-periods.ensures.value, c.rooms.ensures.value) (omega (arith, k))

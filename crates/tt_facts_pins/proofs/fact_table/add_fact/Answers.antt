@@ -10,4 +10,5 @@ returns-clause-ok c =
     let new = c.put.new.table.words in
     let x = c.in-Some.found in
     let at_most : p.periods ≤ 64 = omega (arith, c.periods-periods.ensures.value, c.periods-periods.ensures.within) in
-    adds_there p c.args.fact.now x old new (sym c.find_bit_place.ensures.value ∙ c.in-Some.is) (puts_adds old new x.place x.number c.in_ok-put.ensures.ok) (small_numbers p at_most)
+    adds_there p c.args.fact.now x old new (sym c.find_bit_place.ensures.value ∙ c.in-Some.is)
+    (puts_adds old new x.place x.number c.in_ok-put.ensures.ok) (small_numbers p at_most)

@@ -9,7 +9,8 @@ use Rattle.tt_facts_pins.proofs.pinning.pin_course.Goals as goal
 
 pub pin_each-requires-clause-curricula : goal.pin_each-requires-clause-curricula
 pin_each-requires-clause-curricula c =
-    rw (c.curricula_of.ensures, c.requires.links.curricula c.args.course c.requires.course) (curricula_below c.args.instance.now c.args.course)
+    rw (c.curricula_of.ensures, c.requires.links.curricula c.args.course c.requires.course)
+    (curricula_below c.args.instance.now c.args.course)
 
 pub returns-clause-ok : goal.returns-clause-ok
 returns-clause-ok c =
@@ -17,5 +18,7 @@ returns-clause-ok c =
     let p = a.instance.now in
     let qs = curricula_of p a.course in
     let e : c.curricula_of.result.now ≡ qs = c.curricula_of.ensures ∙ c.requires.links.curricula a.course c.requires.course in
-    let adds = adds_both a.table.now.words c.pin_one.new.table.words c.pin_each.new.table.words (λ i. i == day_place p a.course a.day) (is_day_of p qs a.day) a.period c.in_ok-pin_one.ensures.ok (rw e at c.in_ok-pin_each.ensures.ok) in
-    course_pins p a.day a.period c.requires.day c.requires.period a.table.now.words c.pin_each.new.table.words a.course c.requires.course (curricula_below p a.course) adds
+    let adds = adds_both a.table.now.words c.pin_one.new.table.words c.pin_each.new.table.words (λ i. i == day_place p a.course a.day)
+    (is_day_of p qs a.day) a.period c.in_ok-pin_one.ensures.ok (rw e at c.in_ok-pin_each.ensures.ok) in
+    course_pins p a.day a.period c.requires.day c.requires.period a.table.now.words c.pin_each.new.table.words a.course
+    c.requires.course (curricula_below p a.course) adds

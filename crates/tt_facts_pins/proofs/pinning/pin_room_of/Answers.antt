@@ -10,4 +10,5 @@ returns-clause-ok c =
     let p = a.instance.now in
     let old = a.table.now.words in
     let new = c.put.new.table.words in
-    room_pins p old new a.course a.room c.requires.room (puts_adds old new (room_place p a.course a.room) (a.room % 64) (rw c.room_place.ensures.value at c.in_ok-put.ensures.ok))
+    room_pins p old new a.course a.room c.requires.room
+    (puts_adds old new (room_place p a.course a.room) (a.room % 64) (rw c.room_place.ensures.value at c.in_ok-put.ensures.ok))

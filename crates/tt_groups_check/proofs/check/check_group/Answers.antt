@@ -17,14 +17,16 @@ use Rattle.tt_groups_check.proofs.check.check_group.Goals as goal
 pub sizes_of-requires-clause-courses : goal.sizes_of-requires-clause-courses
 sizes_of-requires-clause-courses c =
     let p = c.args.instance.now in
-    subst (λ (l : List ℕ). All (λ n. n < length p.courses) l) (sym (c.deref.ensures.value ∙ c.in_ok-courses.ensures.value)) (courses_below p c.args.group.now)
+    subst (λ (l : List ℕ). All (λ n. n < length p.courses) l) (sym (c.deref.ensures.value ∙ c.in_ok-courses.ensures.value))
+    (courses_below p c.args.group.now)
 
 pub new-requires-clause-at_most : goal.new-requires-clause-at_most
 new-requires-clause-at_most c =
     let p = c.args.instance.now in
     let g = c.args.group.now in
     let narrow = narrow_from p g c.args.value (sym c.is_too_wide.ensures ∙ c.if-is_too_wide.false) in
-    digits_few p g c.args.value c.in_ok-courses.courses.items c.in_ok-sizes.sizes.items c.in_ok-courses.ensures.value narrow (c.in_ok-sizes.ensures ∙ ap (group_sizes p g) c.deref.ensures.value)
+    digits_few p g c.args.value c.in_ok-courses.courses.items c.in_ok-sizes.sizes.items c.in_ok-courses.ensures.value narrow
+    (c.in_ok-sizes.ensures ∙ ap (group_sizes p g) c.deref.ensures.value)
 
 pub new-requires-clause-narrow : goal.new-requires-clause-narrow
 new-requires-clause-narrow c =
@@ -36,22 +38,26 @@ new-requires-clause-positive c = λ j h.
     let p = c.args.instance.now in
     let g = c.args.group.now in
     let narrow = narrow_from p g c.args.value (sym c.is_too_wide.ensures ∙ c.if-is_too_wide.false) in
-    (digits_between p g c.args.value c.in_ok-courses.courses.items c.in_ok-sizes.sizes.items c.in_ok-courses.ensures.value c.in_ok-courses.ensures.courses narrow (c.in_ok-sizes.ensures ∙ ap (group_sizes p g) c.deref.ensures.value) j h).0
+    (digits_between p g c.args.value c.in_ok-courses.courses.items c.in_ok-sizes.sizes.items c.in_ok-courses.ensures.value
+    c.in_ok-courses.ensures.courses narrow (c.in_ok-sizes.ensures ∙ ap (group_sizes p g) c.deref.ensures.value) j h).0
 
 pub new-requires-clause-small : goal.new-requires-clause-small
 new-requires-clause-small c = λ j h.
     let p = c.args.instance.now in
     let g = c.args.group.now in
     let narrow = narrow_from p g c.args.value (sym c.is_too_wide.ensures ∙ c.if-is_too_wide.false) in
-    (digits_between p g c.args.value c.in_ok-courses.courses.items c.in_ok-sizes.sizes.items c.in_ok-courses.ensures.value c.in_ok-courses.ensures.courses narrow (c.in_ok-sizes.ensures ∙ ap (group_sizes p g) c.deref.ensures.value) j h).1
+    (digits_between p g c.args.value c.in_ok-courses.courses.items c.in_ok-sizes.sizes.items c.in_ok-courses.ensures.value
+    c.in_ok-courses.ensures.courses narrow (c.in_ok-sizes.ensures ∙ ap (group_sizes p g) c.deref.ensures.value) j h).1
 
 pub returns-then-value-base-clause-holds : goal.returns-then-value-base-clause-holds
-returns-then-value-base-clause-holds c = base_bound c.args.instance.now c.args.group.now c.args.value (omega (arith, c.base_cost-base.ensures.value, c.if-value-base.true))
+returns-then-value-base-clause-holds c = base_bound c.args.instance.now c.args.group.now c.args.value
+    (omega (arith, c.base_cost-base.ensures.value, c.if-value-base.true))
 
 pub week_holds-requires-clause-ready : goal.week_holds-requires-clause-ready
 week_holds-requires-clause-ready c =
     let d = c.in-Some.digits in
-    subst (λ (l : List (Vec Move Global)). All (λ (v : Vec Move Global). AreReady d.sizes.items d.weights.items d.courses v.items) l) (sym c.deref-3.ensures.value) c.in_ok-lists.ensures.listed.ready
+    subst (λ (l : List (Vec Move Global)). All (λ (v : Vec Move Global). AreReady d.sizes.items d.weights.items d.courses v.items) l)
+    (sym c.deref-3.ensures.value) c.in_ok-lists.ensures.listed.ready
 
 pub returns-then-holds-clause-holds : goal.returns-then-holds-clause-holds
 returns-then-holds-clause-holds c =
@@ -64,7 +70,9 @@ returns-then-holds-clause-holds c =
     let made = rw c.in-Some.is at c.in_ok-digits.ensures.made in
     let sized : d.sizes.items ≡ group_sizes p g cs = made.0 ∙ c.in_ok-sizes.ensures ∙ ap (group_sizes p g) c.deref.ensures.value in
     let many : d.courses ≡ length cs = omega (arith, made.1, c.len.ensures) in
-    let days = subst (λ (l : List ℕ). AreOfDays p g l d.sizes.items d.weights.items d.courses bound lists.moves.items lists.of_day.items) c.deref-2.ensures.value c.in_ok-lists.ensures.of_days in
+    let days = subst
+    (λ (l : List ℕ). AreOfDays p g l d.sizes.items d.weights.items d.courses bound lists.moves.items lists.of_day.items)
+    c.deref-2.ensures.value c.in_ok-lists.ensures.of_days in
     let suits : Suits p g cs d.sizes.items d.weights.items d.courses bound lists.moves.items lists.of_day.items = record {
       group = c.in_ok-courses.ensures.courses;
       sizes_are = sized;
@@ -73,9 +81,16 @@ returns-then-holds-clause-holds c =
       all_days = c.in_ok-lists.ensures.all;
       each_day = days;
     } in
-    let same = subst (λ (l : List ℕ). Suits p g cs d.sizes.items d.weights.items d.courses bound c.deref-3.result.now l) (sym c.deref-4.ensures.value)
-    (subst (λ (l : List (Vec Move Global)). Suits p g cs d.sizes.items d.weights.items d.courses bound l lists.of_day.items) (sym c.deref-3.ensures.value) suits) in
-    λ t relaxed. omega (arith, c.in_ok-holds.ensures.holds c.if-holds.true p g cs same t relaxed, c.base_cost-base.ensures.value, c.if-value-base.false)
+    let same = subst (λ (l : List ℕ). Suits p g cs d.sizes.items d.weights.items d.courses bound c.deref-3.result.now l)
+    (sym c.deref-4.ensures.value)
+    (subst (λ (l : List (Vec Move Global)). Suits p g cs d.sizes.items d.weights.items d.courses bound l lists.of_day.items)
+    (sym c.deref-3.ensures.value) suits) in
+    λ t relaxed. omega (
+      arith,
+      c.in_ok-holds.ensures.holds c.if-holds.true p g cs same t relaxed,
+      c.base_cost-base.ensures.value,
+      c.if-value-base.false,
+    )
 
 pub lists_of-requires : goal.lists_of-requires
 lists_of-requires c =
@@ -93,7 +108,8 @@ lists_of-requires c =
       own = narrow.courses;
       curricula = narrow.curricula;
       in_range = subst (λ (l : List ℕ). All (λ n. n < length p.courses) l) (sym is) (courses_below p g);
-      lectures_few = subst (λ (l : List ℕ). All (λ n. lectures p n ≤ 255) l) (sym is) (λ k e h. narrow.lectures_few (get_or (courses_of p g) k e) (Contains-get_or (courses_of p g) k e h));
+      lectures_few = subst (λ (l : List ℕ). All (λ n. lectures p n ≤ 255) l) (sym is)
+          (λ k e h. narrow.lectures_few (get_or (courses_of p g) k e) (Contains-get_or (courses_of p g) k e h));
       sizes_are = made.0 ∙ c.in_ok-sizes.ensures ∙ ap (group_sizes p g) c.deref.ensures.value;
       courses_are = omega (arith, made.1, c.len.ensures);
     } in
@@ -110,7 +126,9 @@ returns-clause-too_cheap c = λ is.
     let made = rw c.in-Some.is at c.in_ok-digits.ensures.made in
     let sized : d.sizes.items ≡ group_sizes p g cs = made.0 ∙ c.in_ok-sizes.ensures ∙ ap (group_sizes p g) c.deref.ensures.value in
     let many : d.courses ≡ length cs = omega (arith, made.1, c.len.ensures) in
-    let days = subst (λ (l : List ℕ). AreOfDays p g l d.sizes.items d.weights.items d.courses bound lists.moves.items lists.of_day.items) c.deref-2.ensures.value c.in_ok-lists.ensures.of_days in
+    let days = subst
+    (λ (l : List ℕ). AreOfDays p g l d.sizes.items d.weights.items d.courses bound lists.moves.items lists.of_day.items)
+    c.deref-2.ensures.value c.in_ok-lists.ensures.of_days in
     let suits : Suits p g cs d.sizes.items d.weights.items d.courses bound lists.moves.items lists.of_day.items = record {
       group = c.in_ok-courses.ensures.courses;
       sizes_are = sized;
@@ -119,10 +137,17 @@ returns-clause-too_cheap c = λ is.
       all_days = c.in_ok-lists.ensures.all;
       each_day = days;
     } in
-    let same = subst (λ (l : List ℕ). Suits p g cs d.sizes.items d.weights.items d.courses bound c.deref-3.result.now l) (sym c.deref-4.ensures.value)
-    (subst (λ (l : List (Vec Move Global)). Suits p g cs d.sizes.items d.weights.items d.courses bound l lists.of_day.items) (sym c.deref-3.ensures.value) suits) in
-    let reached = subst (λ (l : List ℕ). AreReached p g l lists.moves.items lists.of_day.items) c.deref-2.ensures.value c.in_ok-lists.ensures.reached in
-    let all = subst (λ (l : List ℕ). AreReached p g cs c.deref-3.result.now l) (sym c.deref-4.ensures.value) (subst (λ (l : List (Vec Move Global)). AreReached p g cs l lists.of_day.items) (sym c.deref-3.ensures.value) reached) in
+    let same = subst (λ (l : List ℕ). Suits p g cs d.sizes.items d.weights.items d.courses bound c.deref-3.result.now l)
+    (sym c.deref-4.ensures.value)
+    (subst (λ (l : List (Vec Move Global)). Suits p g cs d.sizes.items d.weights.items d.courses bound l lists.of_day.items)
+    (sym c.deref-3.ensures.value) suits) in
+    let reached = subst (λ (l : List ℕ). AreReached p g l lists.moves.items lists.of_day.items) c.deref-2.ensures.value
+    c.in_ok-lists.ensures.reached in
+    let all = subst (λ (l : List ℕ). AreReached p g cs c.deref-3.result.now l) (sym c.deref-4.ensures.value)
+    (subst (λ (l : List (Vec Move Global)). AreReached p g cs l lists.of_day.items) (sym c.deref-3.ensures.value) reached) in
     let w = c.in_ok-holds.ensures.fails c.if-holds.false p g cs same all in
-    let there = c.in_ok-courses.ensures.in_range in
-    (built p g w.0 w.1 there, is_relaxed p g w.0 w.1 there, omega (arith, built_cost p g w.0 w.1 there, w.2, c.base_cost-base.ensures.value, c.if-value-base.false))
+    let there = c.in_ok-courses.ensures.in_range in (
+      built p g w.0 w.1 there,
+      is_relaxed p g w.0 w.1 there,
+      omega (arith, built_cost p g w.0 w.1 there, w.2, c.base_cost-base.ensures.value, c.if-value-base.false),
+    )

@@ -15,9 +15,11 @@ loop-course-preserved c =
     let q = concerns c.args.instance.now c.args.group.now in
     let i = c.loop-course.course in
     elim c.if-is_concerned.branch [
-      | then-is_concerned+in_ok-push w ↦ ap (λ v. v.items) w.courses-is ∙ w.in_ok-push.ensures.items ∙ ap (λ (l : List ℕ). l ++ i ∷ []) c.loop-course.invariant
+      | then-is_concerned+in_ok-push w ↦ ap (λ v. v.items) w.courses-is ∙ w.in_ok-push.ensures.items
+          ∙ ap (λ (l : List ℕ). l ++ i ∷ []) c.loop-course.invariant
           ∙ sym (filter_more-passing q i (sym c.is_concerned.ensures ∙ w.if-is_concerned.true))
-      | else-is_concerned w ↦ ap (λ v. v.items) w.courses-is ∙ c.loop-course.invariant ∙ sym (filter_more-failing q i (sym c.is_concerned.ensures ∙ w.if-is_concerned.false))
+      | else-is_concerned w ↦ ap (λ v. v.items) w.courses-is ∙ c.loop-course.invariant
+          ∙ sym (filter_more-failing q i (sym c.is_concerned.ensures ∙ w.if-is_concerned.false))
     ]
 
 pub returns-clause-courses : goal.returns-clause-courses
@@ -25,11 +27,13 @@ returns-clause-courses c =
     let p = c.args.instance.now in
     let g = c.args.group.now in
     let end : c.loop-course.course ≡ length p.courses = omega (arith, c.courses-course-end.ensures.value) in
-    let is : c.loop-course.courses.items ≡ courses_of p g = c.loop-course.invariant ∙ ap (λ (n : ℕ). filter (concerns p g) (range_below n)) end in
+    let is : c.loop-course.courses.items ≡ courses_of p g = c.loop-course.invariant
+    ∙ ap (λ (n : ℕ). filter (concerns p g) (range_below n)) end in
     subst (AreCourses p g) (sym is) (are_courses p g c.days.ensures.instance c.requires)
 
 pub returns-clause-distinct : goal.returns-clause-distinct
-returns-clause-distinct c = subst AreDistinct (sym c.loop-course.invariant) (distinct_passing (concerns c.args.instance.now c.args.group.now) c.loop-course.course)
+returns-clause-distinct c = subst AreDistinct (sym c.loop-course.invariant)
+    (distinct_passing (concerns c.args.instance.now c.args.group.now) c.loop-course.course)
 
 pub returns-clause-in_range : goal.returns-clause-in_range
 returns-clause-in_range c = concerned_below c.args.instance.now c.args.group.now c.days.ensures.instance c.requires

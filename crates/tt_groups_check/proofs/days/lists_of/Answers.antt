@@ -40,20 +40,28 @@ loop-day-preserved c =
           record {
             listed = subst (λ (x : Lists). AreListed ns ws d.courses x.moves.items x.of_day.items) (sym w.lists-is) clauses.listed;
             all = ap (λ (x : Lists). length x.of_day.items) w.lists-is ∙ clauses.more ∙ ap (λ n. n + 1) before.all;
-            of_days = subst (λ (x : Lists). AreOfDays p g cs ns ws d.courses b x.moves.items x.of_day.items) (sym w.lists-is) (clauses.of_days p g cs b c.requires.group same before.of_days);
-            reached = subst (λ (x : Lists). AreReached p g cs x.moves.items x.of_day.items) (sym w.lists-is) (clauses.reached p g cs c.requires.group same before.reached);
+            of_days = subst (λ (x : Lists). AreOfDays p g cs ns ws d.courses b x.moves.items x.of_day.items) (sym w.lists-is)
+                (clauses.of_days p g cs b c.requires.group same before.of_days);
+            reached = subst (λ (x : Lists). AreReached p g cs x.moves.items x.of_day.items) (sym w.lists-is)
+                (clauses.reached p g cs c.requires.group same before.reached);
           }
       | in-None+in_ok-entries-in-None+in_ok-add-in-None w ↦
           let clauses = w.in_ok-add-in-None.ensures in
-          let list = subst (λ (l : List DayEntry). IsDayList p g cs b c.loop-day.day l) (sym w.deref-in-None-4.ensures.value) w.in_ok-entries-in-None.ensures.list in
-          let found = subst (λ (l : List DayEntry). (x : DayEntry) → Contains l x → IsReachedDay p g cs c.loop-day.day x) (sym w.deref-in-None-4.ensures.value)
-          (w.in_ok-entries-in-None.ensures.found c.requires.distinct (subst (λ (l : List CourseSet). All (IsApart p cs) l) (sym w.deref-in-None-3.ensures.value) c.in_ok-sets.ensures.apart)) in
-          let there = subst (λ (n : ℕ). (x : DayEntry) → Contains w.deref-in-None-4.result.now x → IsReachedDay p g cs n x) (sym before.all) found in
+          let list = subst (λ (l : List DayEntry). IsDayList p g cs b c.loop-day.day l)
+          (sym w.deref-in-None-4.ensures.value) w.in_ok-entries-in-None.ensures.list in
+          let found = subst (λ (l : List DayEntry). (x : DayEntry) → Contains l x → IsReachedDay p g cs c.loop-day.day x)
+          (sym w.deref-in-None-4.ensures.value)
+          (w.in_ok-entries-in-None.ensures.found c.requires.distinct
+          (subst (λ (l : List CourseSet). All (IsApart p cs) l) (sym w.deref-in-None-3.ensures.value) c.in_ok-sets.ensures.apart)) in
+          let there = subst (λ (n : ℕ). (x : DayEntry) → Contains w.deref-in-None-4.result.now x → IsReachedDay p g cs n x)
+          (sym before.all) found in
           let here = subst (λ (n : ℕ). IsDayList p g cs b n w.deref-in-None-4.result.now) (sym before.all) list in
           record {
             listed = subst (λ (x : Lists). AreListed ns ws d.courses x.moves.items x.of_day.items) (sym w.lists-is) clauses.listed;
             all = ap (λ (x : Lists). length x.of_day.items) w.lists-is ∙ clauses.more ∙ ap (λ n. n + 1) before.all;
-            of_days = subst (λ (x : Lists). AreOfDays p g cs ns ws d.courses b x.moves.items x.of_day.items) (sym w.lists-is) (clauses.of_days p g cs b here before.of_days);
-            reached = subst (λ (x : Lists). AreReached p g cs x.moves.items x.of_day.items) (sym w.lists-is) (clauses.reached p g cs there before.reached);
+            of_days = subst (λ (x : Lists). AreOfDays p g cs ns ws d.courses b x.moves.items x.of_day.items) (sym w.lists-is)
+                (clauses.of_days p g cs b here before.of_days);
+            reached = subst (λ (x : Lists). AreReached p g cs x.moves.items x.of_day.items) (sym w.lists-is)
+                (clauses.reached p g cs there before.reached);
           }
     ]

@@ -11,11 +11,23 @@ loop-course-preserved c =
     let i = c.loop-course.course in
     elim c.if-is_concerned.branch [
       | then-is_concerned w ↦ record {
-        count = omega (arith, w.count-is, c.loop-course.invariant.count, count_more q i, one_if_true (q i) (sym c.is_concerned.ensures ∙ w.if-is_concerned.true));
+        count = omega (
+          arith,
+          w.count-is,
+          c.loop-course.invariant.count,
+          count_more q i,
+          one_if_true (q i) (sym c.is_concerned.ensures ∙ w.if-is_concerned.true),
+        );
         at_most = omega (arith, w.count-is, c.loop-course.invariant.at_most);
       }
       | else-is_concerned w ↦ record {
-        count = omega (arith, w.count-is, c.loop-course.invariant.count, count_more q i, one_if_false (q i) (sym c.is_concerned.ensures ∙ w.if-is_concerned.false));
+        count = omega (
+          arith,
+          w.count-is,
+          c.loop-course.invariant.count,
+          count_more q i,
+          one_if_false (q i) (sym c.is_concerned.ensures ∙ w.if-is_concerned.false),
+        );
         at_most = omega (arith, w.count-is, c.loop-course.invariant.at_most);
       }
     ]

@@ -13,7 +13,8 @@ returns-then-lectures-gt-GROUP_LECTURES c =
     let q = concerns p c.args.group.now in
     let i = c.loop-course.course in
     any_stops (λ k. q k && nat_lt 255 (lectures p k)) _ i (omega (arith, c.loop-course-test.true, c.courses-course-end.ensures.value))
-    (sym (and_from (q i) (nat_lt 255 (lectures p i)) (sym c.is_concerned.ensures ∙ c.if-is_concerned.true) (lt-ltb 255 (lectures p i) (omega (arith, c.lectures.ensures.value, c.if-lectures-gt-GROUP_LECTURES.true)))))
+    (sym (and_from (q i) (nat_lt 255 (lectures p i)) (sym c.is_concerned.ensures ∙ c.if-is_concerned.true)
+    (lt-ltb 255 (lectures p i) (omega (arith, c.lectures.ensures.value, c.if-lectures-gt-GROUP_LECTURES.true)))))
 
 pub loop-course-preserved : goal.loop-course-preserved
 loop-course-preserved c =
@@ -22,6 +23,8 @@ loop-course-preserved c =
     let i = c.loop-course.course in
     any_more (λ k. q k && nat_lt 255 (lectures p k)) i c.loop-course.invariant
     (elim c.else-is_concerned.branch [
-      | else-is_concerned-via-then-is_concerned+else-lectures-gt-GROUP_LECTURES w ↦ and_right (q i) (nat_lt 255 (lectures p i)) (le-ltb 255 (lectures p i) (omega (arith, w.lectures.ensures.value, w.if-lectures-gt-GROUP_LECTURES.false)))
-      | else-is_concerned-via-else-is_concerned w ↦ and_left (q i) (nat_lt 255 (lectures p i)) (sym c.is_concerned.ensures ∙ w.if-is_concerned.false)
+      | else-is_concerned-via-then-is_concerned+else-lectures-gt-GROUP_LECTURES w ↦ and_right (q i) (nat_lt 255 (lectures p i))
+          (le-ltb 255 (lectures p i) (omega (arith, w.lectures.ensures.value, w.if-lectures-gt-GROUP_LECTURES.false)))
+      | else-is_concerned-via-else-is_concerned w ↦ and_left (q i) (nat_lt 255 (lectures p i))
+          (sym c.is_concerned.ensures ∙ w.if-is_concerned.false)
     ])

@@ -23,37 +23,51 @@ loop-set-preserved t c =
     let Found : ℕ → ℕ → Type 0 = λ k v. IsFound most periods sets a.period m k v in
     elim c.match-more.branch [
       | in-Some+in_ok-work-2+in_ok-try_days w ↦
-          let falls : Falls c.loop-set.table now = λ k. omega (arith, w.in_ok-try_days.ensures.falls k, ap (λ (l : List ℕ). slice_index l k) w.table-is) in
-          let tried = with-next most periods sets a.bound a.period m w.in-Some.next set w.try_days.new.table w.in-Some.ensures.leads w.in_ok-try_days.ensures.tried in
+          let falls : Falls c.loop-set.table now =
+          λ k. omega (arith, w.in_ok-try_days.ensures.falls k, ap (λ (l : List ℕ). slice_index l k) w.table-is) in
+          let tried = with-next most periods sets a.bound a.period m w.in-Some.next set w.try_days.new.table w.in-Some.ensures.leads
+          w.in_ok-try_days.ensures.tried in
           record {
             falls = λ k. omega (arith, falls k, before.falls k);
             tried = with-more most periods sets a.bound a.period m i no_set c.loop-set.table now c.loop-set-test.true falls before.tried
                 (subst (λ (l : List ℕ). IsTriedWith most periods sets a.bound a.period m l set) (sym w.table-is) tried);
-            found = made-more Found a.table.now c.loop-set.table now before.found (λ k. subst (λ (l : List ℕ). (slice_index l k ≡ slice_index c.loop-set.table k) ⊎ Found k (slice_index l k)) (sym w.table-is) (elim (w.in_ok-try_days.ensures.found k) [
-              | inl e ↦ inl e
-              | inr f ↦ inr (found-next most periods sets a.period m w.in-Some.next set (omega (arith, c.requires.inside, c.if-period-periods.false)) (Contains-get_or sets i no_set c.loop-set-test.true) w.in-Some.ensures.leads w.in-Some.ensures.open w.in-Some.ensures.fitting
-                  k (slice_index w.try_days.new.table k) f)
-            ]));
+            found = made-more Found a.table.now c.loop-set.table now before.found
+                (λ k. subst (λ (l : List ℕ). (slice_index l k ≡ slice_index c.loop-set.table k) ⊎ Found k (slice_index l k))
+                (sym w.table-is) (elim (w.in_ok-try_days.ensures.found k) [
+                  | inl e ↦ inl e
+                  | inr f ↦ inr
+                      (found-next most periods sets a.period m w.in-Some.next set
+                      (omega (arith, c.requires.inside, c.if-period-periods.false))
+                      (Contains-get_or sets i no_set c.loop-set-test.true) w.in-Some.ensures.leads w.in-Some.ensures.open
+                      w.in-Some.ensures.fitting
+                      k (slice_index w.try_days.new.table k) f)
+                ]));
           }
       | in_default w ↦
           let falls : Falls c.loop-set.table now = λ k. omega (arith, ap (λ (l : List ℕ). slice_index l k) w.table-is) in
           let barred = rw w.in_default.is at c.more.ensures.barred in
-          let tried : IsTriedWith most periods sets a.bound a.period m now set = λ p g cs weights d sets_before days len inside sets_are complete morning is.
-          barred p g cs weights now d sets_before (day_at p g cs d a.period most periods no_period sets_before days len inside) is morning in
+          let tried : IsTriedWith most periods sets a.bound a.period m now set =
+          λ p g cs weights d sets_before days len inside sets_are complete morning is.
+          barred p g cs weights now d sets_before (day_at p g cs d a.period most periods no_period sets_before days len inside) is
+          morning in
           record {
             falls = λ k. omega (arith, falls k, before.falls k);
-            tried = with-more most periods sets a.bound a.period m i no_set c.loop-set.table now c.loop-set-test.true falls before.tried tried;
-            found = made-more Found a.table.now c.loop-set.table now before.found (λ k. inl (ap (λ (l : List ℕ). slice_index l k) w.table-is));
+            tried = with-more most periods sets a.bound a.period m i no_set c.loop-set.table now c.loop-set-test.true falls before.tried
+                tried;
+            found = made-more Found a.table.now c.loop-set.table now before.found
+                (λ k. inl (ap (λ (l : List ℕ). slice_index l k) w.table-is));
           }
     ]
 
 pub returns-then-period-periods-clause-tried : goal.returns-then-period-periods-clause-tried
 returns-then-period-periods-clause-tried t c =
-    tried-end c.args.most.now c.args.periods.now c.args.sets.now c.args.bound c.args.period c.args.morning.now c.end.new.table c.if-period-periods.true (omega arith) c.end.ensures.there
+    tried-end c.args.most.now c.args.periods.now c.args.sets.now c.args.bound c.args.period c.args.morning.now c.end.new.table
+    c.if-period-periods.true (omega arith) c.end.ensures.there
 
 pub returns-clause-tried : goal.returns-clause-tried
 returns-clause-tried t c =
-    tried-all c.args.most.now c.args.periods.now c.args.sets.now c.args.bound c.args.period c.loop-set.set-index c.args.morning.now c.loop-set.table (omega (arith, c.requires.inside, c.if-period-periods.false)) c.loop-set-test.false c.loop-set.invariant.tried
+    tried-all c.args.most.now c.args.periods.now c.args.sets.now c.args.bound c.args.period c.loop-set.set-index c.args.morning.now
+    c.loop-set.table (omega (arith, c.requires.inside, c.if-period-periods.false)) c.loop-set-test.false c.loop-set.invariant.tried
 
 pub returns-then-period-periods-clause-found : goal.returns-then-period-periods-clause-found
 returns-then-period-periods-clause-found t c = λ k. elim (c.end.ensures.only k) [

@@ -11,5 +11,6 @@ abbrev pub invariant-loop-set : goal.invariant-loop-set
 invariant-loop-set l = record {
   falls : Falls l.initial.table l.table;
   tried : All (IsTriedWith l.most l.periods l.sets l.bound l.period l.morning l.table) (take l.set-index l.sets);
-  found : (k : ℕ) → (slice_index l.table k ≡ slice_index l.initial.table k) ⊎ IsFound l.most l.periods l.sets l.period l.morning k (slice_index l.table k);
+  found : (k : ℕ) → (slice_index l.table k ≡ slice_index l.initial.table k) ⊎ IsFound l.most l.periods l.sets l.period l.morning k
+      (slice_index l.table k);
 }

@@ -15,8 +15,12 @@ returns-in_err-append-clause-too_many c = λ is.
     let set = c.index.result.now in
     let next = c.loop-k.invariant.next in
     let there : set ≡ get_or c.loop-k.sets.items k set = c.index.ensures in
-    let same : set ≡ get_or (old ++ map (with_course a.number a.weight a.met) (filter (λ x. not (has_conflict a.instance.now a.courses.now a.number x)) (take k old))) k set = there ∙ ap (λ (l : List CourseSet). get_or l k set) next in
-    let more = more_added (λ x. not (has_conflict a.instance.now a.courses.now a.number x)) (with_course a.number a.weight a.met) old k set (omega arith) same (ap not (sym c.has_conflict.ensures ∙ c.if-not-has_conflict.true)) in
+    let same : set ≡ get_or
+    (old ++ map (with_course a.number a.weight a.met) (filter (λ x. not (has_conflict a.instance.now a.courses.now a.number x))
+    (take k old))) k set = there ∙ ap (λ (l : List CourseSet). get_or l k set) next in
+    let more = more_added (λ x. not (has_conflict a.instance.now a.courses.now a.number x))
+    (with_course a.number a.weight a.met) old k set (omega arith) same
+    (ap not (sym c.has_conflict.ensures ∙ c.if-not-has_conflict.true)) in
     let e = err_from_is_err_and c.from_residual.result c.from_residual.ensures.1 in
     let full : c.in_err-append.field-0.0 ≡ fault.TooManySets = cc (e.1, e.2, is) in
     omega (arith, more, ap length next, c.in_err-append.ensures.full (ap Err full))

@@ -5,4 +5,5 @@ use Rattle.tt_instance_data.specs.Courses.{in_curriculum}
 use Rattle.tt_groups_day.proofs.sets.curricula_with.Given as goal
 
 abbrev pub invariant-loop-k : goal.invariant-loop-k
-invariant-loop-k l = (r : ℕ) → r < 64 → has_bit l.word r ≡ (nat_lt r l.k && in_curriculum l.instance (slice_index l.group.curricula r) l.course)
+invariant-loop-k l = (r : ℕ) → r < 64
+    → has_bit l.word r ≡ (nat_lt r l.k && in_curriculum l.instance (slice_index l.group.curricula r) l.course)

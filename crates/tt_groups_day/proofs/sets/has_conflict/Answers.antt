@@ -13,18 +13,23 @@ returns-then-conflict c =
     let j = c.loop-other.other in
     let set = c.args.set.now in
     let cs = c.args.courses.now in
-    sym (any_below (λ i. has_course set i && conflict c.args.instance.now (slice_index cs c.args.number) (slice_index cs i)) c.args.number j c.loop-other-test.true
-    (and_from (has_course set j) (conflict c.args.instance.now (slice_index cs c.args.number) (slice_index cs j)) (eq-eqb (slice_index set.courses j) 1 c.if-set-other-eq1.true) (sym c.conflict.ensures ∙ c.if-conflict.true)))
+    sym (any_below (λ i. has_course set i && conflict c.args.instance.now (slice_index cs c.args.number) (slice_index cs i))
+    c.args.number j c.loop-other-test.true
+    (and_from (has_course set j) (conflict c.args.instance.now (slice_index cs c.args.number) (slice_index cs j))
+    (eq-eqb (slice_index set.courses j) 1 c.if-set-other-eq1.true) (sym c.conflict.ensures ∙ c.if-conflict.true)))
 
 pub loop-other-preserved : goal.loop-other-preserved
 loop-other-preserved c =
     let j = c.loop-other.other in
     let set = c.args.set.now in
     let cs = c.args.courses.now in
-    any_more (λ i. has_course set i && conflict c.args.instance.now (slice_index cs c.args.number) (slice_index cs i)) j c.loop-other.invariant
+    any_more (λ i. has_course set i && conflict c.args.instance.now (slice_index cs c.args.number) (slice_index cs i)) j
+    c.loop-other.invariant
     (elim c.else-set-other-eq1.branch [
       | else-set-other-eq1-via-then-set-other-eq1+else-conflict w ↦
-          and_right (has_course set j) (conflict c.args.instance.now (slice_index cs c.args.number) (slice_index cs j)) (sym w.conflict.ensures ∙ w.if-conflict.false)
+          and_right (has_course set j) (conflict c.args.instance.now (slice_index cs c.args.number) (slice_index cs j))
+          (sym w.conflict.ensures ∙ w.if-conflict.false)
       | else-set-other-eq1-via-else-set-other-eq1 w ↦
-          ap (λ b. b && conflict c.args.instance.now (slice_index cs c.args.number) (slice_index cs j)) (ne_eqb (slice_index set.courses j) 1 w.if-set-other-eq1.false)
+          ap (λ b. b && conflict c.args.instance.now (slice_index cs c.args.number) (slice_index cs j))
+          (ne_eqb (slice_index set.courses j) 1 w.if-set-other-eq1.false)
     ])

@@ -7,4 +7,6 @@ use Rattle.tt_groups_day.specs.Sets.{has_course}
 use Rattle.tt_groups_day.proofs.sets.has_conflict.Given as goal
 
 abbrev pub invariant-loop-other : goal.invariant-loop-other
-invariant-loop-other l = list_any (λ j. has_course l.set j && conflict l.instance (slice_index l.courses l.number) (slice_index l.courses j)) (range_below l.other) ≡ false
+invariant-loop-other l =
+    list_any (λ j. has_course l.set j && conflict l.instance (slice_index l.courses l.number) (slice_index l.courses j))
+    (range_below l.other) ≡ false

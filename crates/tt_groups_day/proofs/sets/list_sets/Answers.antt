@@ -14,9 +14,11 @@ loop-i-init c =
     let g = c.args.group.now in
     let cs = c.args.courses.now in
     let ws = c.args.weights.now in
-    let e : no_course_set ∷ [] ≡ c.append.new.sets.items = sym (c.in_ok-append.ensures.added ∙ ap (λ (l : List CourseSet). l ++ no_course_set ∷ []) c.new-sets.ensures.items) in
+    let e : no_course_set ∷ [] ≡ c.append.new.sets.items =
+    sym (c.in_ok-append.ensures.added ∙ ap (λ (l : List CourseSet). l ++ no_course_set ∷ []) c.new-sets.ensures.items) in
     record {
-      each = subst (λ (l : List CourseSet). All (IsChoice p g cs ws 0) l) e (All-one (IsChoice p g cs ws 0) no_course_set (first_choice p g cs ws));
+      each = subst (λ (l : List CourseSet). All (IsChoice p g cs ws 0) l) e
+          (All-one (IsChoice p g cs ws 0) no_course_set (first_choice p g cs ws));
       listed = omega (arith, sym (ap (λ (l : List CourseSet). length l) e));
       count = subst (λ (l : List CourseSet). HasCount p cs 0 l) e (first_count p cs);
       found = subst (λ (l : List CourseSet). HasChoices p cs 0 l) e (first_found p g cs ws);
@@ -30,7 +32,11 @@ add_course-requires-clause-room c = λ k d h.
     let ws = c.args.weights.now in
     let sets = c.loop-i.sets.items in
     let m : 2 ^ 20 ≡ 1048576 = omega arith in
-    omega (arith, room_left p g cs ws sets 1048576 c.loop-i.i (get_or sets k d) (c.loop-i.invariant.each k d h) (λ i. omega (arith, c.requires.small i, m)))
+    omega (
+      arith,
+      room_left p g cs ws sets 1048576 c.loop-i.i (get_or sets k d) (c.loop-i.invariant.each k d h)
+          (λ i. omega (arith, c.requires.small i, m)),
+    )
 
 pub loop-i-preserved : goal.loop-i-preserved
 loop-i-preserved c =
@@ -44,10 +50,14 @@ loop-i-preserved c =
     let below : i < 16 = omega arith in
     let e = sym c.in_ok-add_course.ensures.next in
     record {
-      each = subst (λ (l : List CourseSet). All (IsChoice p g cs ws (i + 1)) l) e (each_next p g cs ws i met below c.curricula_with-met.ensures sets c.loop-i.invariant.each);
+      each = subst (λ (l : List CourseSet). All (IsChoice p g cs ws (i + 1)) l) e
+          (each_next p g cs ws i met below c.curricula_with-met.ensures sets c.loop-i.invariant.each);
       listed = c.in_ok-add_course.ensures.listed;
-      count = subst (λ (l : List CourseSet). HasCount p cs (i + 1) l) e (next_count p g cs ws i met below c.curricula_with-met.ensures sets c.loop-i.invariant.each (omega arith) c.loop-i.invariant.count);
-      found = subst (λ (l : List CourseSet). HasChoices p cs (i + 1) l) e (found_next p g cs ws i met below c.curricula_with-met.ensures sets c.loop-i.invariant.each c.loop-i.invariant.found);
+      count = subst (λ (l : List CourseSet). HasCount p cs (i + 1) l) e
+          (next_count p g cs ws i met below c.curricula_with-met.ensures sets c.loop-i.invariant.each
+          (omega arith) c.loop-i.invariant.count);
+      found = subst (λ (l : List CourseSet). HasChoices p cs (i + 1) l) e
+          (found_next p g cs ws i met below c.curricula_with-met.ensures sets c.loop-i.invariant.each c.loop-i.invariant.found);
     }
 
 pub returns-clause-complete : goal.returns-clause-complete
@@ -85,7 +95,12 @@ returns-in_err-add_course-clause-too_many c = λ is.
     let met = c.curricula_with-met.result in
     let sets = c.loop-i.sets.items in
     let below : i < 16 = omega arith in
-    let count = next_count p g cs ws i met below c.curricula_with-met.ensures sets c.loop-i.invariant.each (omega arith) c.loop-i.invariant.count in
+    let count = next_count p g cs ws i met below c.curricula_with-met.ensures sets c.loop-i.invariant.each
+    (omega arith) c.loop-i.invariant.count in
     let e = err_from_is_err_and c.from_residual-in_err-add_course.result c.from_residual-in_err-add_course.ensures.1 in
     let same : c.in_err-add_course.field-0.0 ≡ fault.TooManySets = cc (e.1, e.2, is) in
-    omega (arith, c.in_err-add_course.ensures.too_many (ap Err same), length_first p cs (i + 1) (with_next p cs i (slice_index ws i) met sets) count)
+    omega (
+      arith,
+      c.in_err-add_course.ensures.too_many (ap Err same),
+      length_first p cs (i + 1) (with_next p cs i (slice_index ws i) met sets) count,
+    )

@@ -18,7 +18,8 @@ returns-clause-low c = λ g weights are at_most sets complete.
     let cs = c.args.courses.now in
     let items = c.in_ok-table.table.items in
     let new = c.try_days.new.table in
-    let long : length items ≡ c.args.places = ap length (c.in_ok-table.ensures.items_if_clones_equal (λ y e. e)) ∙ length-replicate c.args.places 255 in
+    let long : length items ≡ c.args.places = ap length (c.in_ok-table.ensures.items_if_clones_equal (λ y e. e))
+    ∙ length-replicate c.args.places 255 in
     let same : length new ≡ c.args.places = c.try_days.auto.table ∙ ap length c.deref_mut.ensures.value ∙ long in
     let written = take_written new (drop (length new) items) c.in_ok-table.table.len (c.in_ok-table.ensures.len ∙ sym same) in
     let there : ArePeriodsOf p g cs c.args.day c.lectures_of-most.result c.in_ok-periods.periods.items = record {
@@ -56,5 +57,6 @@ returns-clause-found c = λ g weights are at_most distinct sets aparts.
       | inl e ↦
           let old = ap (λ (l : List ℕ). slice_index l k) (c.deref_mut.ensures.value ∙ table) in
           absurd (omega (arith, less, e, old, c.ranges.bound.fits, get_or-replicate {A = ℕ} c.args.places k 255 0 inside))
-      | inr f ↦ f p g cs weights c.args.day [] c.requires.at_most distinct days opened refl sets aparts (morning-start p g cs weights _ (zeros 16) refl refl refl refl) (open_first p cs c.args.day) (λ i l. omega (arith, none i))
+      | inr f ↦ f p g cs weights c.args.day [] c.requires.at_most distinct days opened refl sets aparts
+          (morning-start p g cs weights _ (zeros 16) refl refl refl refl) (open_first p cs c.args.day) (λ i l. omega (arith, none i))
     ])

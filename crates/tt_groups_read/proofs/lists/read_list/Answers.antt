@@ -28,8 +28,11 @@ loop-numbers-preserved g c =
     let part = rw c.deref.ensures.value at c.in_ok-number.ensures.read in
     let added = c.in_ok-push.ensures.items in
     record {
-      read = rw added (underway_then _ _ _ (listed_takes c.args.form) _ _ _ _ c.in_ok-number.field-0 c.in-Some.number c.in-Some.is c.loop-numbers.invariant.read part);
-      within = rw added (All-push (λ n. n < c.args.form.count) c.loop-numbers.numbers.items c.in-Some.number c.loop-numbers.invariant.within below);
+      read = rw added
+          (underway_then _ _ _ (listed_takes c.args.form) _ _ _ _ c.in_ok-number.field-0 c.in-Some.number c.in-Some.is
+          c.loop-numbers.invariant.read part);
+      within = rw added
+          (All-push (λ n. n < c.args.form.count) c.loop-numbers.numbers.items c.in-Some.number c.loop-numbers.invariant.within below);
       once = rw added (each_two_push (λ a b. a == b) c.loop-numbers.numbers.items c.in-Some.number c.loop-numbers.invariant.once new);
       room = omega (arith, c.loop-numbers.invariant.room, c.in_ok-number.ensures.forward);
     }

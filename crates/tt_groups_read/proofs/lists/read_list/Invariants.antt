@@ -11,7 +11,8 @@ use Rattle.tt_groups_read.proofs.lists.read_list.Given as goal
 
 abbrev pub invariant-loop-numbers : goal.invariant-loop-numbers
 invariant-loop-numbers g l = record {
-  read : IsUnderway push (listed_at l.form) (list_at l.form) (state_of g.R.Source l.fn.feed l.fn.source) (state_of g.R.Source l.feed l.source) l.numbers.items;
+  read : IsUnderway push (listed_at l.form) (list_at l.form) (state_of g.R.Source l.fn.feed l.fn.source)
+      (state_of g.R.Source l.feed l.source) l.numbers.items;
   within : AreBelow l.form.count l.numbers.items;
   once : each_two (λ a b. not (a == b)) l.numbers.items ≡ true;
   room : room_of l.feed ≤ room_of l.fn.feed;

@@ -16,27 +16,38 @@ loop-place-preserved c =
     let Made : ℕ → ℕ → Type 0 = λ k v. IsMadeFrom d.sizes.items d.weights.items d.courses a.moves.now a.bound a.table.now k v in
     elim c.if-paid-bound.branch [
       | then-paid-bound+in_ok-use_up w ↦
-          let falls : Falls c.loop-place.next now = λ k. omega (arith, w.relax-tried.ensures.falls k, ap (λ (l : List ℕ). slice_index l k) w.next-is) in
-          let at = subst (λ (n : ℕ). All (Relaxed d.sizes.items d.weights.items d.courses a.bound n (slice_index a.table.now i) w.relax-tried.new.table) a.moves.now) w.state_at-state.ensures.place w.relax-tried.ensures.relaxed in
+          let falls : Falls c.loop-place.next now =
+          λ k. omega (arith, w.relax-tried.ensures.falls k, ap (λ (l : List ℕ). slice_index l k) w.next-is) in
+          let at = subst
+          (λ (n : ℕ). All
+          (Relaxed d.sizes.items d.weights.items d.courses a.bound n (slice_index a.table.now i) w.relax-tried.new.table)
+          a.moves.now) w.state_at-state.ensures.place w.relax-tried.ensures.relaxed in
           record {
             falls = λ k. omega (arith, falls k, before.falls k);
-            extended = extended-more d.sizes.items d.weights.items d.courses a.bound a.moves.now a.table.now c.loop-place.next now i falls before.extended
-                (λ less. subst (λ (l : List ℕ). All (Relaxed d.sizes.items d.weights.items d.courses a.bound i (slice_index a.table.now i) l) a.moves.now) (sym w.next-is) at);
-            made = made-more Made a.next.now c.loop-place.next now before.made (λ k. subst (λ (l : List ℕ). (slice_index l k ≡ slice_index c.loop-place.next k) ⊎ Made k (slice_index l k)) (sym w.next-is) (elim (w.relax-tried.ensures.made k) [
-              | inl e ↦ inl e
-              | inr f ↦ inr (record {
-                place = i;
-                inside = c.loop-place-test.true;
-                cheap = w.if-paid-bound.true;
-                made = subst (λ (n : ℕ). IsMade d.sizes.items d.weights.items d.courses a.moves.now n (slice_index a.table.now i) k (slice_index w.relax-tried.new.table k)) w.state_at-state.ensures.place f;
-              })
-            ]));
+            extended = extended-more d.sizes.items d.weights.items d.courses a.bound a.moves.now a.table.now c.loop-place.next now i
+                falls before.extended
+                (λ less. subst
+                (λ (l : List ℕ). All (Relaxed d.sizes.items d.weights.items d.courses a.bound i (slice_index a.table.now i) l)
+                a.moves.now) (sym w.next-is) at);
+            made = made-more Made a.next.now c.loop-place.next now before.made
+                (λ k. subst (λ (l : List ℕ). (slice_index l k ≡ slice_index c.loop-place.next k) ⊎ Made k (slice_index l k))
+                (sym w.next-is) (elim (w.relax-tried.ensures.made k) [
+                  | inl e ↦ inl e
+                  | inr f ↦ inr (record {
+                    place = i;
+                    inside = c.loop-place-test.true;
+                    cheap = w.if-paid-bound.true;
+                    made = subst (λ (n : ℕ). IsMade d.sizes.items d.weights.items d.courses a.moves.now n (slice_index a.table.now i) k
+                        (slice_index w.relax-tried.new.table k)) w.state_at-state.ensures.place f;
+                  })
+                ]));
           }
       | else-paid-bound w ↦
           let falls : Falls c.loop-place.next now = λ k. omega (arith, ap (λ (l : List ℕ). slice_index l k) w.next-is) in
           record {
             falls = λ k. omega (arith, falls k, before.falls k);
-            extended = extended-more d.sizes.items d.weights.items d.courses a.bound a.moves.now a.table.now c.loop-place.next now i falls before.extended
+            extended = extended-more d.sizes.items d.weights.items d.courses a.bound a.moves.now a.table.now c.loop-place.next now i
+                falls before.extended
                 (λ less. absurd (omega (arith, less, w.if-paid-bound.false)));
             made = made-more Made a.next.now c.loop-place.next now before.made (λ k. inl (ap (λ (l : List ℕ). slice_index l k) w.next-is));
           }

@@ -14,8 +14,11 @@ returns c =
       ready = record {
         indexed = All-permutation indexed _ _ c.sort_unstable_by_key.ensures.permutation c.loop-entry.invariant.indexed;
         floored = All-permutation floored _ _ c.sort_unstable_by_key.ensures.permutation c.loop-entry.invariant.floored;
-        sorted = IsNonDecreasingBy-from_sort_by_key (λ m. m.entry.cost + m.floor) _ c.sort_unstable_by_key.ensures.sorted (λ a r q k. search rules);
+        sorted = IsNonDecreasingBy-from_sort_by_key (λ m. m.entry.cost + m.floor) _ c.sort_unstable_by_key.ensures.sorted
+            (λ a r q k. search rules);
       };
-      all = move_of c.args.days.now c.loop-entry.entry-index c.loop-entry.moves.items _ c.loop-entry-test.false c.loop-entry.invariant.entries c.sort_unstable_by_key.ensures.permutation;
-      own = entry_of c.args.days.now c.loop-entry.entry-index c.loop-entry.moves.items _ c.loop-entry-test.false c.loop-entry.invariant.entries c.sort_unstable_by_key.ensures.permutation;
+      all = move_of c.args.days.now c.loop-entry.entry-index c.loop-entry.moves.items _ c.loop-entry-test.false
+          c.loop-entry.invariant.entries c.sort_unstable_by_key.ensures.permutation;
+      own = entry_of c.args.days.now c.loop-entry.entry-index c.loop-entry.moves.items _ c.loop-entry-test.false
+          c.loop-entry.invariant.entries c.sort_unstable_by_key.ensures.permutation;
     }

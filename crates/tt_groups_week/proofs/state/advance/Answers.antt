@@ -16,7 +16,9 @@ returns-then-not-fits-clause-value c =
     let d = c.args.digits.now in
     let xs = c.args.by.now.entry.amounts in
     step-none d.sizes.items d.weights.items d.courses xs c.args.state.now.place
-    (sym c.if-not-fits.true ∙ c.fits.ensures.value ∙ under-room d.sizes.items d.weights.items d.courses xs c.args.state.now c.requires.state d.are.own (omega (arith, d.are.narrow)) c.fits.ensures.bytes)
+    (sym c.if-not-fits.true ∙ c.fits.ensures.value
+    ∙ under-room d.sizes.items d.weights.items d.courses xs c.args.state.now c.requires.state d.are.own
+    (omega (arith, d.are.narrow)) c.fits.ensures.bytes)
 
 pub loop-j-init : goal.loop-j-init
 loop-j-init c =
@@ -73,7 +75,14 @@ overflow_add-pay-in-loop-j c =
     let read = c.requires.state.read j (omega arith) in
     let byte = c.fits.ensures.bytes j in
     let some = c.args.digits.now.are.some j (omega arith) in
-    omega (arith, c.size-top.ensures.value, c.size-top.ensures.small, c.from-amount.ensures, c.loop-j.invariant.pay_fits, c.args.digits.now.are.at_most)
+    omega (
+      arith,
+      c.size-top.ensures.value,
+      c.size-top.ensures.small,
+      c.from-amount.ensures,
+      c.loop-j.invariant.pay_fits,
+      c.args.digits.now.are.at_most,
+    )
 
 pub loop-j-preserved-then-min-eq0 : goal.loop-j-preserved-then-min-eq0
 loop-j-preserved-then-min-eq0 c =
@@ -90,8 +99,10 @@ loop-j-preserved-then-min-eq0 c =
       | inr h ↦ inl (omega arith)
     ] in
     record {
-      placed = placed-same ns ws d.courses xs s.place j c.loop-j.place s.base c.loop-j.pay c.args.by.now.floor c.loop-j.invariant.placed c.loop-j.invariant.paid below none;
-      paid = paid-same ns ws d.courses xs s.place j c.loop-j.place s.base c.loop-j.pay c.args.by.now.floor c.loop-j.invariant.placed c.loop-j.invariant.paid below none;
+      placed = placed-same ns ws d.courses xs s.place j c.loop-j.place s.base c.loop-j.pay c.args.by.now.floor c.loop-j.invariant.placed
+          c.loop-j.invariant.paid below none;
+      paid = paid-same ns ws d.courses xs s.place j c.loop-j.place s.base c.loop-j.pay c.args.by.now.floor c.loop-j.invariant.placed
+          c.loop-j.invariant.paid below none;
       place_fits = omega (arith, c.loop-j.invariant.place_fits);
       pay_fits = omega (arith, c.loop-j.invariant.pay_fits);
     }
@@ -110,15 +121,29 @@ loop-j-preserved c =
     let some = d.are.some j (omega arith) in
     let below : digit ns ws s.place j < slice_index ns j = omega arith in
     let up : slice_index s.digits j + c.from-amount.result ≡ raised ns ws d.courses xs s.place j = omega (arith, c.from-amount.ensures) in
-    let is : kept ≡ min (raised ns ws d.courses xs s.place j) (slice_index ns j - 1) = omega (arith, c.size-top.ensures.value, c.min-kept.ensures) in
+    let is : kept ≡ min (raised ns ws d.courses xs s.place j) (slice_index ns j - 1) =
+    omega (arith, c.size-top.ensures.value, c.min-kept.ensures) in
     let w = c.weight.result in
     let rise = kept - slice_index s.digits j in
-    let weight : rise * w ≡ (kept - digit ns ws s.place j) * slice_index ws j = ap (λ z. rise * z) c.weight.ensures.value ∙ ap (λ z. (kept - z) * slice_index ws j) read in
+    let weight : rise * w ≡ (kept - digit ns ws s.place j) * slice_index ws j = ap (λ z. rise * z) c.weight.ensures.value
+    ∙ ap (λ z. (kept - z) * slice_index ws j) read in
     let less : rise ≤ slice_index ns j = omega arith in
-    let over : c.saturating_sub.result ≡ slice_index xs j - (slice_index ns j - 1) = omega (arith, c.saturating_sub.ensures, c.size-top.ensures.value, c.from-amount.ensures) in
+    let over : c.saturating_sub.result ≡ slice_index xs j - (slice_index ns j - 1) =
+    omega (arith, c.saturating_sub.ensures, c.size-top.ensures.value, c.from-amount.ensures) in
     record {
-      placed = omega (arith, weight, placed-more ns ws d.courses xs s.place j c.loop-j.place s.base c.loop-j.pay c.args.by.now.floor c.loop-j.invariant.placed c.loop-j.invariant.paid below kept is);
-      paid = omega (arith, up, over, paid-more ns ws d.courses xs s.place j c.loop-j.place s.base c.loop-j.pay c.args.by.now.floor c.loop-j.invariant.placed c.loop-j.invariant.paid below kept is);
+      placed = omega (
+        arith,
+        weight,
+        placed-more ns ws d.courses xs s.place j c.loop-j.place s.base c.loop-j.pay c.args.by.now.floor
+            c.loop-j.invariant.placed c.loop-j.invariant.paid below kept is,
+      );
+      paid = omega (
+        arith,
+        up,
+        over,
+        paid-more ns ws d.courses xs s.place j c.loop-j.place s.base c.loop-j.pay c.args.by.now.floor
+            c.loop-j.invariant.placed c.loop-j.invariant.paid below kept is,
+      );
       place_fits = omega (arith, c.loop-j.invariant.place_fits, mul-le-mul_right w less, c.weight.ensures.within);
       pay_fits = omega (arith, c.loop-j.invariant.pay_fits, up, is, below);
     }
@@ -132,8 +157,12 @@ returns-clause-value c =
     let xs = c.args.by.now.entry.amounts in
     let n = length ns in
     let end : c.loop-j.j ≡ n = omega (arith, d.are.own) in
-    let room = sym (under-room ns ws d.courses xs s c.requires.state d.are.own (omega (arith, d.are.narrow)) c.fits.ensures.bytes) ∙ sym c.fits.ensures.value ∙ c.if-not-fits.false in
+    let room = sym (under-room ns ws d.courses xs s c.requires.state d.are.own (omega (arith, d.are.narrow)) c.fits.ensures.bytes)
+    ∙ sym c.fits.ensures.value ∙ c.if-not-fits.false in
     let before : ℕ → ℕ = λ k. digit ns ws s.place k * slice_index ws k in
-    let placed = subst (λ (k : ℕ). c.loop-j.place + sum_by before (range_below k) ≡ sum_by (moved ns ws d.courses xs s.place) (range_below k) + s.base) end c.loop-j.invariant.placed in
-    let paid = subst (λ (k : ℕ). c.loop-j.pay + sum_by (floor_at ns xs) (range_below k) ≡ sum_by (paid_at ns ws d.courses xs s.place) (range_below k) + c.args.by.now.floor) end c.loop-j.invariant.paid in
-    step-some ns ws d.courses xs s.place room c.loop-j.place c.loop-j.pay (omega (arith, placed, c.requires.state.base)) (omega (arith, paid, c.requires.floor))
+    let placed = subst (λ (k : ℕ). c.loop-j.place + sum_by before (range_below k) ≡ sum_by (moved ns ws d.courses xs s.place)
+    (range_below k) + s.base) end c.loop-j.invariant.placed in
+    let paid = subst (λ (k : ℕ). c.loop-j.pay + sum_by (floor_at ns xs) (range_below k) ≡ sum_by (paid_at ns ws d.courses xs s.place)
+    (range_below k) + c.args.by.now.floor) end c.loop-j.invariant.paid in
+    step-some ns ws d.courses xs s.place room c.loop-j.place c.loop-j.pay (omega (arith, placed, c.requires.state.base))
+    (omega (arith, paid, c.requires.floor))

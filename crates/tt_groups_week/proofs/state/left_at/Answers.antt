@@ -24,6 +24,7 @@ loop-j-preserved c =
     let inside : j < length c.loop-j.left = omega (arith, c.args.digits.now.are.narrow) in
     record {
       long = rw length-set long;
-      left = set-more (λ i x. x + d i + 1 ≡ slice_index ns i) c.loop-j.left j v inside c.loop-j.invariant.left (omega (arith, value, c.size.ensures.value, c.digit.ensures.below));
+      left = set-more (λ i x. x + d i + 1 ≡ slice_index ns i) c.loop-j.left j v inside c.loop-j.invariant.left
+          (omega (arith, value, c.size.ensures.value, c.digit.ensures.below));
       free = λ k l h. get_or-set_other c.loop-j.left j k v 0 (λ z. absurd (omega arith)) ∙ c.loop-j.invariant.free k (omega arith) h;
     }

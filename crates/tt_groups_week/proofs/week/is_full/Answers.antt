@@ -10,7 +10,8 @@ returns-then-digit-size c =
     let d = digit ns c.args.digits.now.weights.items c.args.place in
     let j = c.loop-j.j in
     all_stops (λ k. d k == slice_index ns k - 1) c.args.digits.now.courses j c.loop-j-test.true
-    (sym (ne_eqb (d j) (slice_index ns j - 1) (λ e. c.if-digit-size.true (c.digit.ensures.value ∙ e ∙ ap (λ z. z - 1) (sym c.size.ensures.value)))))
+    (sym (ne_eqb (d j) (slice_index ns j - 1)
+    (λ e. c.if-digit-size.true (c.digit.ensures.value ∙ e ∙ ap (λ z. z - 1) (sym c.size.ensures.value)))))
 
 pub loop-j-preserved : goal.loop-j-preserved
 loop-j-preserved c =

@@ -15,7 +15,13 @@ use Rattle.tt_groups_week.proofs.week.week_holds.Goals as goal
 use Rattle.tt_lists.proofs.Beginnings.{take_written}
 
 pub index_mut-requires : goal.index_mut-requires
-index_mut-requires c = omega (arith, c.in_ok-table.ensures.len, places_positive c.args.digits.now.sizes.items c.args.digits.now.are.some, c.args.digits.now.are.counted)
+index_mut-requires c =
+    omega (
+      arith,
+      c.in_ok-table.ensures.len,
+      places_positive c.args.digits.now.sizes.items c.args.digits.now.are.some,
+      c.args.digits.now.are.counted,
+    )
 
 pub loop-list-init : goal.loop-list-init
 loop-list-init c =
@@ -26,11 +32,14 @@ loop-list-init c =
     let first : slice_index (set items 0 0) 0 ≡ 0 = rw get_or-set_same in
     record {
       whole = rw length-set long;
-      low = λ p g cs s. suits_start p g cs d.sizes.items d.weights.items d.courses c.args.bound c.args.lists.now c.args.of_day.now s (set items 0 0) first;
+      low = λ p g cs s. suits_start p g cs d.sizes.items d.weights.items d.courses c.args.bound c.args.lists.now c.args.of_day.now s
+          (set items 0 0) first;
       reached = λ p g cs s a k inside low.
           let table = c.in_ok-table.ensures.items_if_clones_equal (λ y e. e) in
-          let at = low_at_first d.count c.args.bound k (omega arith) (omega (arith, inside, long, length-set items 0 0)) (subst (λ (l : List ℕ). slice_index (set l 0 0) k < c.args.bound) table low) in
-          subst (λ (n : ℕ). IsReachedPlace p g cs 0 n (slice_index (set items 0 0) k)) (sym at) (reached_first p g cs (slice_index (set items 0 0) k));
+          let at = low_at_first d.count c.args.bound k (omega arith) (omega (arith, inside, long, length-set items 0 0))
+          (subst (λ (l : List ℕ). slice_index (set l 0 0) k < c.args.bound) table low) in
+          subst (λ (n : ℕ). IsReachedPlace p g cs 0 n (slice_index (set items 0 0) k)) (sym at)
+          (reached_first p g cs (slice_index (set items 0 0) k));
     }
 
 pub extend-requires-clause-ready : goal.extend-requires-clause-ready
@@ -53,19 +62,38 @@ loop-list-preserved c =
     let same : length new ≡ d.count = c.extend.auto.next ∙ ap length c.deref_mut.ensures.value ∙ long in
     let written = take_written new (drop (length new) items) c.in_ok-next.next.len (c.in_ok-next.ensures.len ∙ sym same) in
     let whole = c.loop-list.invariant.whole in
-    let extended = subst (λ (l : List ℕ). (k : ℕ) → k < length l → slice_index l k < a.bound → All (Relaxed d.sizes.items d.weights.items d.courses a.bound k (slice_index l k) new) c.deref.result.now) c.deref-in-loop-list.ensures.value c.in_ok-extend.ensures.extended in
-    let relaxed = subst (λ (l : List Move). (k : ℕ) → k < length table → slice_index table k < a.bound → All (Relaxed d.sizes.items d.weights.items d.courses a.bound k (slice_index table k) new) l) c.deref.ensures.value extended in
+    let extended = subst (λ (l : List ℕ). (k : ℕ) → k < length l → slice_index l k < a.bound
+    → All (Relaxed d.sizes.items d.weights.items d.courses a.bound k (slice_index l k) new) c.deref.result.now)
+    c.deref-in-loop-list.ensures.value c.in_ok-extend.ensures.extended in
+    let relaxed = subst (λ (l : List Move). (k : ℕ) → k < length table → slice_index table k < a.bound
+    → All (Relaxed d.sizes.items d.weights.items d.courses a.bound k (slice_index table k) new) l) c.deref.ensures.value extended in
     record {
       whole = ap length written ∙ same;
-      low = λ p g cs s. rw written (suits_next p g cs d.sizes.items d.weights.items d.courses a.bound a.lists.now a.of_day.now s c.loop-list.list-index c.index-lists-list.result table new c.loop-list-test.true c.index-lists-list.is (omega (arith, whole, d.are.counted)) (c.loop-list.invariant.low p g cs s) relaxed);
+      low = λ p g cs s. rw written
+          (suits_next p g cs d.sizes.items d.weights.items d.courses a.bound a.lists.now a.of_day.now s c.loop-list.list-index
+          c.index-lists-list.result table new c.loop-list-test.true c.index-lists-list.is (omega (arith, whole, d.are.counted))
+          (c.loop-list.invariant.low p g cs s) relaxed);
       reached = λ p g cs s r. rw written (λ k inside low. elim (c.in_ok-extend.ensures.made k) [
         | inl e ↦
-            let old = ap (λ (l : List ℕ). slice_index l k) (c.deref_mut.ensures.value ∙ c.in_ok-next.ensures.items_if_clones_equal (λ y z. z)) in
-            absurd (omega (arith, low, e, old, c.ranges.bound.fits, get_or-replicate {A = ℕ} d.count k 255 0 (subst (λ (n : ℕ). k < n) same inside)))
+            let old = ap (λ (l : List ℕ). slice_index l k) (c.deref_mut.ensures.value ∙ c.in_ok-next.ensures.items_if_clones_equal
+            (λ y z. z)) in
+            absurd (omega (
+              arith,
+              low,
+              e,
+              old,
+              c.ranges.bound.fits,
+              get_or-replicate {A = ℕ} d.count k 255 0
+                  (subst (λ (n : ℕ). k < n) same inside),
+            ))
         | inr f ↦
-            let g1 = subst (λ (l : List ℕ). IsMadeFrom d.sizes.items d.weights.items d.courses c.deref.result.now a.bound l k (slice_index new k)) c.deref-in-loop-list.ensures.value f in
-            let g2 = subst (λ (l : List Move). IsMadeFrom d.sizes.items d.weights.items d.courses l a.bound table k (slice_index new k)) c.deref.ensures.value g1 in
-            suits_reached p g cs d.sizes.items d.weights.items d.courses a.bound a.lists.now a.of_day.now s c.loop-list.list-index c.index-lists-list.result table c.loop-list-test.true c.index-lists-list.is r (c.loop-list.invariant.reached p g cs s r) k (slice_index new k) g2
+            let g1 = subst (λ (l : List ℕ). IsMadeFrom d.sizes.items d.weights.items d.courses c.deref.result.now a.bound l k
+            (slice_index new k)) c.deref-in-loop-list.ensures.value f in
+            let g2 = subst (λ (l : List Move). IsMadeFrom d.sizes.items d.weights.items d.courses l a.bound table k (slice_index new k))
+            c.deref.ensures.value g1 in
+            suits_reached p g cs d.sizes.items d.weights.items d.courses a.bound a.lists.now a.of_day.now s c.loop-list.list-index
+            c.index-lists-list.result table c.loop-list-test.true c.index-lists-list.is r
+            (c.loop-list.invariant.reached p g cs s r) k (slice_index new k) g2
       ]);
     }
 
@@ -73,9 +101,11 @@ pub returns-clause-holds : goal.returns-clause-holds
 returns-clause-holds c =
     let d = c.args.digits.now in
     λ holds p g cs s.
-    suits_end p g cs d.sizes.items d.weights.items d.courses c.args.bound c.args.lists.now c.args.of_day.now s c.loop-list.list-index c.loop-list.table.items (omega (arith, c.loop-list-test.false, c.loop-list.auto.list-index-end))
+    suits_end p g cs d.sizes.items d.weights.items d.courses c.args.bound c.args.lists.now c.args.of_day.now s c.loop-list.list-index
+    c.loop-list.table.items (omega (arith, c.loop-list-test.false, c.loop-list.auto.list-index-end))
     (omega (arith, c.loop-list.invariant.whole, d.are.counted)) (c.loop-list.invariant.low p g cs s)
-    (subst (λ (l : List ℕ). IsHighList d.sizes.items d.weights.items d.courses c.args.bound l) c.deref-2.ensures.value (c.is_high.ensures.high holds))
+    (subst (λ (l : List ℕ). IsHighList d.sizes.items d.weights.items d.courses c.args.bound l) c.deref-2.ensures.value
+    (c.is_high.ensures.high holds))
 
 pub returns-clause-fails : goal.returns-clause-fails
 returns-clause-fails c =
@@ -83,5 +113,7 @@ returns-clause-fails c =
     λ fails p g cs s r.
     let w = c.is_high.ensures.low fails in
     let table = c.deref-2.ensures.value in
-    suits_fails p g cs d.sizes.items d.weights.items d.courses c.args.bound c.args.lists.now c.args.of_day.now s c.loop-list.list-index c.loop-list.table.items (omega (arith, c.loop-list-test.false, c.loop-list.auto.list-index-end))
-    (c.loop-list.invariant.reached p g cs s r) w.0 w.1 (subst (λ (l : List ℕ). w.0 < length l) table w.2) (subst (λ (l : List ℕ). slice_index l w.0 < c.args.bound) table w.3)
+    suits_fails p g cs d.sizes.items d.weights.items d.courses c.args.bound c.args.lists.now c.args.of_day.now s c.loop-list.list-index
+    c.loop-list.table.items (omega (arith, c.loop-list-test.false, c.loop-list.auto.list-index-end))
+    (c.loop-list.invariant.reached p g cs s r) w.0 w.1 (subst (λ (l : List ℕ). w.0 < length l) table w.2)
+    (subst (λ (l : List ℕ). slice_index l w.0 < c.args.bound) table w.3)

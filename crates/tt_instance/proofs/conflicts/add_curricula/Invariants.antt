@@ -8,5 +8,8 @@ abbrev pub invariant-loop-curriculum : goal.invariant-loop-curriculum
 invariant-loop-curriculum l = record {
   len : length l.rows.items ≡ length l.fn.rows.items;
   square : IsSquare l.rows.items;
-  marked : (a b : ℕ) → mark_at l.rows.items a b ≡ (mark_at l.fn.rows.items a b || list_any (λ q. has_number q.members.courses.items a && has_number q.members.courses.items b) (take l.curriculum-index l.curricula));
+  marked : (a b : ℕ)
+      → mark_at l.rows.items a b ≡
+      (mark_at l.fn.rows.items a b || list_any (λ q. has_number q.members.courses.items a && has_number q.members.courses.items b)
+      (take l.curriculum-index l.curricula));
 }

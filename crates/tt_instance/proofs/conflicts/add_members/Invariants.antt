@@ -7,5 +7,7 @@ abbrev pub invariant-loop-member : goal.invariant-loop-member
 invariant-loop-member l = record {
   len : length l.rows.items ≡ length l.fn.rows.items;
   square : IsSquare l.rows.items;
-  marked : (a b : ℕ) → mark_at l.rows.items a b ≡ (mark_at l.fn.rows.items a b || (has_number (take l.member-index l.members.courses.items) a && has_number l.members.courses.items b));
+  marked : (a b : ℕ)
+      → mark_at l.rows.items a b ≡
+      (mark_at l.fn.rows.items a b || (has_number (take l.member-index l.members.courses.items) a && has_number l.members.courses.items b));
 }

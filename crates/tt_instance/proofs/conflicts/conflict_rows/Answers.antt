@@ -17,6 +17,8 @@ returns c = record {
   len = c.clear_own.ensures.len ∙ c.add_curricula.ensures.len
       ∙ row_for_each c.args.parts.now c.deref.result.now c.in_ok-rows.rows.items c.deref.ensures.value c.in_ok-rows.ensures;
   square = c.clear_own.ensures.square;
-  agrees = rows_reported c.args.parts.now c.deref.result.now c.deref-2.result.now c.in_ok-rows.rows.items c.add_curricula.new.rows.items c.clear_own.new.rows.items
-      c.requires c.deref.ensures.value c.deref-2.ensures.value c.in_ok-rows.ensures c.add_curricula.ensures.marked c.clear_own.ensures.marked;
+  agrees = rows_reported c.args.parts.now c.deref.result.now c.deref-2.result.now c.in_ok-rows.rows.items c.add_curricula.new.rows.items
+      c.clear_own.new.rows.items
+      c.requires c.deref.ensures.value c.deref-2.ensures.value c.in_ok-rows.ensures c.add_curricula.ensures.marked
+      c.clear_own.ensures.marked;
 }

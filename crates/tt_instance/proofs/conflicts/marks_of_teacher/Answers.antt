@@ -9,8 +9,10 @@ loop-course-preserved c =
     let rows = c.args.courses.now in
     record {
       len = c.mark_if.ensures.len ∙ c.loop-course.invariant.len;
-      marked = growing c.loop-course.marks c.mark_if.new.self (λ k. get_or (map (λ r. r.teacher == c.args.teacher) rows) k false) c.loop-course.course _ c.mark_if.ensures.marked
-          (sym (get_or-map (λ r. r.teacher == c.args.teacher) rows c.loop-course.course _ false c.loop-course-test.true)) c.loop-course.invariant.marked;
+      marked = growing c.loop-course.marks c.mark_if.new.self (λ k. get_or (map (λ r. r.teacher == c.args.teacher) rows) k false)
+          c.loop-course.course _ c.mark_if.ensures.marked
+          (sym (get_or-map (λ r. r.teacher == c.args.teacher) rows c.loop-course.course _ false c.loop-course-test.true))
+          c.loop-course.invariant.marked;
     }
 
 pub returns : goal.returns

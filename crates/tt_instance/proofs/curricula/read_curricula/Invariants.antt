@@ -6,6 +6,7 @@ use Rattle.tt_instance.proofs.curricula.read_curricula.Given as goal
 
 abbrev pub invariant-loop : goal.invariant-loop
 invariant-loop l = record {
-  read : curricula_at l.end l.ids (l.count - l.counter) (curricula_seen l.list.rows.items) l.tokens ≡ curricula_at l.end l.ids l.count [] l.fn.tokens;
+  read : curricula_at l.end l.ids (l.count - l.counter) (curricula_seen l.list.rows.items) l.tokens ≡ curricula_at l.end l.ids l.count
+      [] l.fn.tokens;
   indexed : IsCurriculaIndexed (length l.ids) l.list;
 }

@@ -7,7 +7,8 @@ pub returns-clause-found : goal.returns-clause-found
 returns-clause-found c = found_in c.args.bytes.now c.read_all.result c.read_all.ensures
 
 pub returns-clause-only : goal.returns-clause-only
-returns-clause-only c = λ p spelled. subst (λ read. Gives (λ i. i) c.read_all.result read) (is_read c.args.bytes.now p spelled) c.read_all.ensures
+returns-clause-only c = λ p spelled. subst (λ read. Gives (λ i. i) c.read_all.result read)
+    (is_read c.args.bytes.now p spelled) c.read_all.ensures
 
 pub returns-clause-spelled : goal.returns-clause-spelled
 returns-clause-spelled c = is_read c.args.bytes.now

@@ -6,6 +6,8 @@ use Rattle.tt_instance.proofs.unavailabilities.read_unavailabilities.Given as go
 
 abbrev pub invariant-loop : goal.invariant-loop
 invariant-loop l = record {
-  read : unavailabilities_at l.fn.end l.ids l.header.days l.header.periods (l.header.unavailabilities - l.counter) (unavailabilities_seen l.list.rows.items) l.tokens ≡ unavailabilities_at l.fn.end l.ids l.header.days l.header.periods l.header.unavailabilities [] l.fn.tokens;
+  read : unavailabilities_at l.fn.end l.ids l.header.days l.header.periods (l.header.unavailabilities - l.counter)
+      (unavailabilities_seen l.list.rows.items) l.tokens ≡ unavailabilities_at l.fn.end l.ids l.header.days l.header.periods
+      l.header.unavailabilities [] l.fn.tokens;
   barred : IsBarred (length l.ids) l.header.days l.list;
 }

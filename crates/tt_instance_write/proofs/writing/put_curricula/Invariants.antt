@@ -6,4 +6,5 @@ use Rattle.tt_instance_data.specs.Seen.{courses_seen, curriculum_seen}
 use Rattle.tt_instance_write.proofs.writing.put_curricula.Given as goal
 
 abbrev pub invariant-loop-row : goal.invariant-loop-row
-invariant-loop-row l = l.out.items ≡ l.initial.out.items ++ flat_map (λ r. line_text (curriculum_pieces (courses_seen l.courses) (curriculum_seen r))) (take l.row-index l.rows)
+invariant-loop-row l = l.out.items ≡ l.initial.out.items ++ flat_map
+    (λ r. line_text (curriculum_pieces (courses_seen l.courses) (curriculum_seen r))) (take l.row-index l.rows)

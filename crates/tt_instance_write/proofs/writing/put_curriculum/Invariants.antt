@@ -5,4 +5,5 @@ use Rattle.tt_instance_data.specs.Seen.{courses_seen}
 use Rattle.tt_instance_write.proofs.writing.put_curriculum.Given as goal
 
 abbrev pub invariant-loop-member : goal.invariant-loop-member
-invariant-loop-member l = l.out.items ≡ l.initial.out.items ++ flat_map (λ c. 32 ∷ (slice_index_or (courses_seen l.courses) c no_course).id) (take l.member-index l.row.members.courses.items)
+invariant-loop-member l = l.out.items ≡ l.initial.out.items ++ flat_map
+    (λ c. 32 ∷ (slice_index_or (courses_seen l.courses) c no_course).id) (take l.member-index l.row.members.courses.items)

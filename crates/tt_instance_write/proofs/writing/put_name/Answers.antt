@@ -9,5 +9,7 @@ use Rattle.tt_instance_write.proofs.writing.put_name.Goals as goal
 pub returns : goal.returns
 returns c =
     IfOk-equal c.put_end.result _ _ _ c.put_end.ensures
-    (line_done (λ (t : Bor (List ℕ)). t.now) Text (fixed word.Name) c.args.name.now c.loop-token.token-index c.args.out.now.items c.put_token.new.out.items c.loop-token.out.items
-    (c.in_ok-put_token.ensures.ok ∙ ap (λ (t : List ℕ). c.args.out.now.items ++ t) c.text.ensures) c.loop-token.invariant c.loop-token-test.false)
+    (line_done (λ (t : Bor (List ℕ)). t.now) Text (fixed word.Name) c.args.name.now c.loop-token.token-index c.args.out.now.items
+    c.put_token.new.out.items c.loop-token.out.items
+    (c.in_ok-put_token.ensures.ok ∙ ap (λ (t : List ℕ). c.args.out.now.items ++ t) c.text.ensures) c.loop-token.invariant
+    c.loop-token-test.false)

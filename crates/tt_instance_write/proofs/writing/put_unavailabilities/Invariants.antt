@@ -6,4 +6,5 @@ use Rattle.tt_instance_data.specs.Seen.{courses_seen, unavailability_seen}
 use Rattle.tt_instance_write.proofs.writing.put_unavailabilities.Given as goal
 
 abbrev pub invariant-loop-row : goal.invariant-loop-row
-invariant-loop-row l = l.out.items ≡ l.initial.out.items ++ flat_map (λ r. line_text (unavailability_pieces (courses_seen l.courses) (unavailability_seen r))) (take l.row-index l.rows)
+invariant-loop-row l = l.out.items ≡ l.initial.out.items ++ flat_map
+    (λ r. line_text (unavailability_pieces (courses_seen l.courses) (unavailability_seen r))) (take l.row-index l.rows)

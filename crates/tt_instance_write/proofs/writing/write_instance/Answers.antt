@@ -13,4 +13,5 @@ returns-clause-again c =
     let p = problem_seen c.parts.result.now in
     let instance : IsInstance p = subst IsInstance (sym c.parts.ensures.value) c.parts.ensures.instance in
     let spelled = subst (λ (q : Problem). Spells (instance_text p) q) c.parts.ensures.value (written_again p instance) in
-    IfOk-weaker c.write_parts.result _ (λ t. Spells t.items c.args.instance.now) (λ t is. subst (λ (bytes : List ℕ). Spells bytes c.args.instance.now) (sym is) spelled) c.write_parts.ensures
+    IfOk-weaker c.write_parts.result _ (λ t. Spells t.items c.args.instance.now)
+    (λ t is. subst (λ (bytes : List ℕ). Spells bytes c.args.instance.now) (sym is) spelled) c.write_parts.ensures

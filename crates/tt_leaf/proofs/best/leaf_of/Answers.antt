@@ -10,4 +10,5 @@ returns-clause-leaf g c = search rules
 pub returns-clause-answer : goal.returns-clause-answer
 returns-clause-answer g c =
     let p = g.P.Path.problem c.args.path.now in
-    subst (IsAnswer p) (sym (returns-clause-leaf g c)) (either_answer p (g.P.Path.facts c.args.path.now) (subst IsInstance c.instance.ensures c.days.ensures.instance) c.args.stacked)
+    subst (IsAnswer p) (sym (returns-clause-leaf g c))
+    (either_answer p (g.P.Path.facts c.args.path.now) (subst IsInstance c.instance.ensures c.days.ensures.instance) c.args.stacked)

@@ -10,7 +10,8 @@ pub loop-course-preserved : goal.loop-course-preserved
 loop-course-preserved g c =
     let p = g.P.Path.problem c.args.path.now in
     let facts = g.P.Path.facts c.args.path.now in
-    let pushed = c.in_ok-push_if_worth.ensures.worth ∙ ap (λ k. c.loop-course.claims.items ++ worth p facts (k ∷ [])) c.days_claim.ensures.value in
+    let pushed = c.in_ok-push_if_worth.ensures.worth
+    ∙ ap (λ k. c.loop-course.claims.items ++ worth p facts (k ∷ [])) c.days_claim.ensures.value in
     pushed_more _ _ _ pushed c.loop-course.invariant (worth_more p facts (days_of c.args.stacked) c.loop-course.course)
 
 pub loop-course-init : goal.loop-course-init
@@ -20,5 +21,7 @@ pub returns : goal.returns
 returns g c =
     let p = g.P.Path.problem c.args.path.now in
     let facts = g.P.Path.facts c.args.path.now in
-    let all : c.loop-course.course ≡ length p.courses = omega (arith, c.courses-course-end.ensures.value, ap (λ z. length z.courses) c.instance.ensures) in
-    subst (λ n. c.loop-course.claims.items ≡ c.args.claims.now.items ++ worth p facts (map (days_of c.args.stacked) (range_below n))) all c.loop-course.invariant
+    let all : c.loop-course.course ≡ length p.courses =
+    omega (arith, c.courses-course-end.ensures.value, ap (λ z. length z.courses) c.instance.ensures) in
+    subst (λ n. c.loop-course.claims.items ≡ c.args.claims.now.items ++ worth p facts (map (days_of c.args.stacked) (range_below n)))
+    all c.loop-course.invariant

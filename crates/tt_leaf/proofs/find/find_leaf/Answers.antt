@@ -21,4 +21,5 @@ returns-clause-pinned g c = λ pins holds.
     let p = g.P.Path.problem c.args.path.now in
     let facts = g.P.Path.facts c.args.path.now in
     let ok = subst IsInstance c.instance.ensures c.days.ensures.instance in
-    ok_unless c.find_priced.result (IsOpen p facts c.args.bound) (λ none. pinned_closes p facts pins ok c.args.bound holds none) (returns-clause-none g c)
+    ok_unless c.find_priced.result (IsOpen p facts c.args.bound) (λ none. pinned_closes p facts pins ok c.args.bound holds none)
+    (returns-clause-none g c)

@@ -7,4 +7,5 @@ pub returns-then-not-belongs : goal.returns-then-not-belongs
 returns-then-not-belongs c = numbers_same c.args.list.now.items c.args.number c.requires
 
 pub returns : goal.returns
-returns c = subst (AreNumbers (c.args.number + 1)) (sym c.in_ok-push.ensures.items) (numbers_more c.args.list.now.items c.args.number c.requires)
+returns c = subst (AreNumbers (c.args.number + 1)) (sym c.in_ok-push.ensures.items)
+    (numbers_more c.args.list.now.items c.args.number c.requires)

@@ -10,4 +10,5 @@ pub returns : goal.returns
 returns g c =
     let p = g.P.Path.problem c.args.path.now in
     let fit = All-append (IsFitClaim p) _ _ c.in_ok-add_of_courses.ensures (compact_fit p (g.P.Path.facts c.args.path.now)) in
-    subst (λ claims. IsAnswer p (Cost claims)) (sym c.new.ensures) (fit_answer p _ (subst (All (IsFitClaim p)) (sym c.in_ok-push_compact.ensures) fit))
+    subst (λ claims. IsAnswer p (Cost claims)) (sym c.new.ensures)
+    (fit_answer p _ (subst (All (IsFitClaim p)) (sym c.in_ok-push_compact.ensures) fit))

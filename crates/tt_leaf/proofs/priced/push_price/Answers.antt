@@ -7,4 +7,5 @@ pub returns-then-price-eq0-clause-prices : goal.returns-then-price-eq0-clause-pr
 returns-then-price-eq0-clause-prices c = prices_same c.args.list.now.items c.args.number c.requires.prices
 
 pub returns-clause-prices : goal.returns-clause-prices
-returns-clause-prices c = subst (ArePrices (c.args.number + 1)) (sym c.in_ok-push.ensures.items) (prices_more c.args.list.now.items c.args.number _ c.requires.prices)
+returns-clause-prices c = subst (ArePrices (c.args.number + 1)) (sym c.in_ok-push.ensures.items)
+    (prices_more c.args.list.now.items c.args.number _ c.requires.prices)

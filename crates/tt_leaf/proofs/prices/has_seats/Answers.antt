@@ -15,7 +15,8 @@ returns-then-wanted-seated g c =
     let i = c.loop-place.place in
     let s = c.slot_at.result in
     let there : i < length (all_slots q) = omega arith in
-    let k = passes_among p q test i c.loop-place.seated s c.instance-instance.ensures there c.slot_at.ensures.value c.loop-place.invariant c.if-is_seated.ensures in
+    let k = passes_among p q test i c.loop-place.seated s c.instance-instance.ensures there c.slot_at.ensures.value
+    c.loop-place.invariant c.if-is_seated.ensures in
     λ _. omega (arith, k, ap (λ z. lectures z c.args.course) c.instance-instance.ensures)
 
 pub loop-place-preserved : goal.loop-place-preserved
@@ -29,6 +30,8 @@ loop-place-preserved g c =
     let is = c.slot_at.ensures.value in
     let there : i < length (all_slots q) = omega arith in
     elim c.if-is_seated.branch [
-      | then-is_seated+else-wanted-seated w ↦ slots_count_yes p q test i c.loop-place.seated _ s same there is c.loop-place.invariant w.if-is_seated.ensures w.seated-is
-      | else-is_seated w ↦ slots_count_no p q test i c.loop-place.seated _ s same there is c.loop-place.invariant w.if-is_seated.ensures w.seated-is
+      | then-is_seated+else-wanted-seated w ↦ slots_count_yes p q test i c.loop-place.seated _ s same there is c.loop-place.invariant
+          w.if-is_seated.ensures w.seated-is
+      | else-is_seated w ↦ slots_count_no p q test i c.loop-place.seated _ s same there is c.loop-place.invariant w.if-is_seated.ensures
+          w.seated-is
     ]

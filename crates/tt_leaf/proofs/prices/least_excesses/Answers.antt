@@ -21,15 +21,19 @@ loop-place-preserved g c =
     record {
       found =
           pushed ∙ ap (λ l. l ++ cons_option c.least_excess.result []) c.loop-place.invariant.found
-          ∙ ap (λ o. filter_map h (take place (all_slots p)) ++ cons_option o []) c.least_excess.ensures.value ∙ sym (filter_map_more h (all_slots p) place slot there is);
-      within = subst (All (λ n. n ≤ 1000000)) (sym pushed) (All-option (λ n. n ≤ 1000000) c.loop-place.excesses.items c.least_excess.result c.loop-place.invariant.within c.least_excess.ensures.within);
+          ∙ ap (λ o. filter_map h (take place (all_slots p)) ++ cons_option o []) c.least_excess.ensures.value
+          ∙ sym (filter_map_more h (all_slots p) place slot there is);
+      within = subst (All (λ n. n ≤ 1000000)) (sym pushed)
+          (All-option (λ n. n ≤ 1000000) c.loop-place.excesses.items c.least_excess.result c.loop-place.invariant.within
+          c.least_excess.ensures.within);
     }
 
 pub returns-clause-value : goal.returns-clause-value
 returns-clause-value g c =
     let p = g.P.Path.problem c.args.path.now in
     let h = least_excess p (g.P.Path.facts c.args.path.now) c.args.course in
-    let all : length (all_slots c.instance-instance.result.now) ≤ c.loop-place.place = omega (arith, c.slot_count-place-end.ensures.value) in
+    let all : length (all_slots c.instance-instance.result.now) ≤ c.loop-place.place =
+    omega (arith, c.slot_count-place-end.ensures.value) in
     let done = subst (λ z. length (all_slots z) ≤ c.loop-place.place) c.instance-instance.ensures all in
     c.loop-place.invariant.found ∙ ap (filter_map h) (take_all c.loop-place.place (all_slots p) done)
 

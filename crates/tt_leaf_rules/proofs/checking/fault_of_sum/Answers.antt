@@ -10,4 +10,5 @@ pub are_claimed_once-requires-clause-placed : goal.are_claimed_once-requires-cla
 are_claimed_once-requires-clause-placed g c =
     let taught = ap (λ q. length q.courses) c.instance-instance.ensures in
     let grouped = ap (λ q. length q.curricula) c.instance-instance.ensures in
-    each_placed (g.P.Path.problem c.args.path.now) (omega (arith, taught, c.courses.ensures)) (omega (arith, grouped, c.curricula.ensures)) c.args.claims.now c.requires
+    each_placed (g.P.Path.problem c.args.path.now) (omega (arith, taught, c.courses.ensures))
+    (omega (arith, grouped, c.curricula.ensures)) c.args.claims.now c.requires

@@ -11,6 +11,8 @@ use Rattle.tt_lists.proofs.Truth.{not-not}
 pub returns : goal.returns
 returns g c =
     let p = g.P.Path.problem c.args.path.now in
-    let at_most : p.periods ≤ 64 = omega (arith, c.periods.ensures.value, c.periods.ensures.within, ap (λ q. q.periods) c.instance.ensures) in
+    let at_most : p.periods ≤ 64 =
+    omega (arith, c.periods.ensures.value, c.periods.ensures.within, ap (λ q. q.periods) c.instance.ensures) in
     ap not c.is_empty.ensures ∙ not-not (list_any (has_bit c.pinned_periods.result) bits)
-    ∙ any-set c.pinned_periods.result p.periods (λ s. pinned p (g.P.Path.facts c.args.path.now) (Course c.args.course) (slot c.args.day s)) at_most c.pinned_periods.ensures
+    ∙ any-set c.pinned_periods.result p.periods (λ s. pinned p (g.P.Path.facts c.args.path.now) (Course c.args.course)
+    (slot c.args.day s)) at_most c.pinned_periods.ensures

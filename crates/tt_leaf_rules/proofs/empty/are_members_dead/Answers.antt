@@ -9,4 +9,5 @@ returns g c =
     let a = c.args in
     let p = g.P.Path.problem a.path.now in
     c.are_courses_dead.ensures
-    ∙ ap (list_all (is_gone_or_dead p (g.P.Path.facts a.path.now) a.pattern.now)) (c.members.ensures.value ∙ ap (λ q. members q a.curriculum) c.instance.ensures)
+    ∙ ap (list_all (is_gone_or_dead p (g.P.Path.facts a.path.now) a.pattern.now))
+    (c.members.ensures.value ∙ ap (λ q. members q a.curriculum) c.instance.ensures)

@@ -13,6 +13,7 @@ loop-first-preserved c =
     let first = c.in-Some.first.now in
     let others = c.in-Some.others.now in
     record {
-      same = met_goes_on (are_distinct c.args.courses.now) c.insert.result c.loop-first.taken c.insert.new.self c.loop-first.rest.now (first ∷ []) others before.same c.in-Some.ensures.cases.0 (c.insert.ensures others) c.if-not-insert.false;
+      same = met_goes_on (are_distinct c.args.courses.now) c.insert.result c.loop-first.taken c.insert.new.self c.loop-first.rest.now
+          (first ∷ []) others before.same c.in-Some.ensures.cases.0 (c.insert.ensures others) c.if-not-insert.false;
       below = All-rest (λ n. n < 2048) first others c.loop-first.rest.now c.in-Some.ensures.cases.0 before.below;
     }

@@ -9,7 +9,9 @@ loop-block-preserved g c =
     let a = c.args in
     let p = g.P.Path.problem a.path.now in
     record {
-      counted = block_next (length p.rooms) (λ r. live_in p (g.P.Path.facts a.path.now) a.courses.now r (slot a.day a.period)) c.loop-block.block c.open_block.result c.loop-block.total c.count-total.result c.open_block.ensures c.loop-block.invariant.counted c.count-total.ensures.value;
+      counted = block_next (length p.rooms) (λ r. live_in p (g.P.Path.facts a.path.now) a.courses.now r (slot a.day a.period))
+          c.loop-block.block c.open_block.result c.loop-block.total c.count-total.result c.open_block.ensures
+          c.loop-block.invariant.counted c.count-total.ensures.value;
       at_most = omega (arith, c.loop-block.invariant.at_most, c.count-total.ensures.within);
     }
 
@@ -17,5 +19,6 @@ pub returns-clause-value : goal.returns-clause-value
 returns-clause-value g c =
     let a = c.args in
     let p = g.P.Path.problem a.path.now in
-    blocks_whole (length p.rooms) (λ r. live_in p (g.P.Path.facts a.path.now) a.courses.now r (slot a.day a.period)) (c.loop-block.block * 64) c.loop-block.total c.loop-block.invariant.counted
+    blocks_whole (length p.rooms) (λ r. live_in p (g.P.Path.facts a.path.now) a.courses.now r (slot a.day a.period))
+    (c.loop-block.block * 64) c.loop-block.total c.loop-block.invariant.counted
     (omega (arith, c.rooms.ensures.value, ap (λ q. length q.rooms) c.instance.ensures))

@@ -9,6 +9,7 @@ abbrev pub invariant-loop-block : goal.invariant-loop-block
 invariant-loop-block g l =
     let p = g.P.Path.problem l.path in
     record {
-      counted : l.total ≡ count_by (λ r. nat_lt r (length p.rooms) && live_in p (g.P.Path.facts l.path) l.courses r (slot l.day l.period)) (range_below (l.block * 64));
+      counted : l.total ≡ count_by (λ r. nat_lt r (length p.rooms) && live_in p (g.P.Path.facts l.path) l.courses r
+          (slot l.day l.period)) (range_below (l.block * 64));
       at_most : l.total ≤ l.block * 64;
     }

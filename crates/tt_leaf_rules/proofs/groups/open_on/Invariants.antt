@@ -8,4 +8,5 @@ use Rattle.tt_leaf_rules.proofs.groups.open_on.Given as goal
 abbrev pub invariant-loop-course : goal.invariant-loop-course
 invariant-loop-course g l =
     let p = g.P.Path.problem l.path in
-    (s : ℕ) → s < 64 → has_bit l.open s ≡ (nat_lt s p.periods && live_for p (g.P.Path.facts l.path) (take l.course-index l.courses) (slot l.day s))
+    (s : ℕ) → s < 64 → has_bit l.open s ≡ (nat_lt s p.periods && live_for p (g.P.Path.facts l.path) (take l.course-index l.courses)
+    (slot l.day s))

@@ -22,6 +22,8 @@ returns g c =
     let same = c.instance-instance.ensures in
     let at_most : p.periods ≤ 64 = omega (arith, c.periods.ensures.value, c.periods.ensures.within, ap (λ z. z.periods) same) in
     let are : c.members-members.result.now ≡ members p q = c.members-members.ensures.value ∙ ap (λ z. members z q) same in
-    all-isolated p (g.P.Path.facts c.args.path.now) q c.args.day c.requires.day at_most c.pinned_periods-pinned.result c.pinned_periods-pinned.ensures
+    all-isolated p (g.P.Path.facts c.args.path.now) q c.args.day c.requires.day at_most c.pinned_periods-pinned.result
+    c.pinned_periods-pinned.ensures
     c.members-members.result.now are c.open_on-live.result c.open_on-live.ensures
-    c.next.result c.previous.result c.without.result c.without-2.result c.next.ensures c.previous.ensures c.without.ensures c.without-2.ensures
+    c.next.result c.previous.result c.without.result c.without-2.result c.next.ensures c.previous.ensures c.without.ensures
+    c.without-2.ensures

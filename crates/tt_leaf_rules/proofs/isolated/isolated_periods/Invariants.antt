@@ -11,4 +11,8 @@ abbrev pub invariant-loop-day : goal.invariant-loop-day
 invariant-loop-day g l =
     let p = g.P.Path.problem l.path in
     let path = g.P.Path.facts l.path in
-    record { counted : l.total ≡ sum_by (on_day p (λ s. pinned p path (Curriculum l.curriculum) s && is_alone p path l.curriculum s)) (range_below l.day); at_most : l.total ≤ l.day * 64 }
+    record {
+      counted : l.total ≡ sum_by (on_day p (λ s. pinned p path (Curriculum l.curriculum) s && is_alone p path l.curriculum s))
+          (range_below l.day);
+      at_most : l.total ≤ l.day * 64;
+    }

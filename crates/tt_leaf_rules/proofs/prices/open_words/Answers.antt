@@ -12,9 +12,18 @@ loop-block-preserved g c =
     record {
       len = length-set c.loop-block.words c.loop-block.block c.open_block.result ∙ c.loop-block.invariant.len;
       before = word_more c.loop-block.words c.loop-block.block c.open_block.result (length p.rooms)
-          (λ r. priced_live_in p (g.P.Path.facts c.args.path.now) c.args.courses.now r (slot c.args.day c.args.period)) (omega (arith, c.loop-block.invariant.len, c.loop-block-test.true, c.block_count-block-end.ensures.within)) c.open_block.ensures c.loop-block.invariant.before;
+          (λ r. priced_live_in p (g.P.Path.facts c.args.path.now) c.args.courses.now r (slot c.args.day c.args.period))
+          (omega (arith, c.loop-block.invariant.len, c.loop-block-test.true, c.block_count-block-end.ensures.within))
+          c.open_block.ensures c.loop-block.invariant.before;
     }
 
 pub returns : goal.returns
 returns g c = λ r there.
-    c.loop-block.invariant.before r (omega (arith, there, c.block_count-block-end.ensures.whole, c.loop-block-test.false, ap (λ (q : Problem). length q.rooms) c.instance.ensures)) there
+    c.loop-block.invariant.before r
+    (omega (
+      arith,
+      there,
+      c.block_count-block-end.ensures.whole,
+      c.loop-block-test.false,
+      ap (λ (q : Problem). length q.rooms) c.instance.ensures,
+    )) there

@@ -9,5 +9,6 @@ invariant-loop-block g l =
     let p = g.P.Path.problem l.path in
     record {
       len : length l.words ≡ 8;
-      before : (r : ℕ) → r < l.block * 64 → r < length p.rooms → has_bit (slice_index_or l.words (r / 64) 0) (r % 64) ≡ priced_live_in p (g.P.Path.facts l.path) l.courses r (slot l.day l.period);
+      before : (r : ℕ) → r < l.block * 64 → r < length p.rooms → has_bit (slice_index_or l.words (r / 64) 0) (r % 64) ≡ priced_live_in p
+          (g.P.Path.facts l.path) l.courses r (slot l.day l.period);
     }

@@ -6,8 +6,10 @@ use Rattle.tt_leaf_rules.proofs.slots.slot_at.Goals as goal
 pub returns-clause-value : goal.returns-clause-value
 returns-clause-value c =
     let n = c.periods-periods.result in
-    slot_of_place c.args.instance.now n c.args.place (slot (c.args.place / n) (c.args.place % n)) c.periods-periods.ensures.value c.periods-periods.ensures.positive c.requires
+    slot_of_place c.args.instance.now n c.args.place (slot (c.args.place / n) (c.args.place % n)) c.periods-periods.ensures.value
+    c.periods-periods.ensures.positive c.requires
 
 pub returns-clause-day : goal.returns-clause-day
 returns-clause-day c =
-    day_of_place c.args.instance.now c.periods-periods.result c.args.place c.periods-periods.ensures.value c.periods-periods.ensures.positive c.requires
+    day_of_place c.args.instance.now c.periods-periods.result c.args.place c.periods-periods.ensures.value
+    c.periods-periods.ensures.positive c.requires

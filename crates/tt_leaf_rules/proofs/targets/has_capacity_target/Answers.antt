@@ -11,4 +11,5 @@ pub returns-in-Prices : goal.returns-in-Prices
 returns-in-Prices c =
     let course = c.args.course in
     c.is_priced.ensures ∙ ap (list_any (λ (k : ℕ × ℕ). course == k.0)) c.as_slice.ensures
-    ∙ priced_capacity c.in-Prices.courses c.in-Prices.rooms course ∙ ap (λ (x : Claim). claims_target x (RoomCapacity course)) (sym c.in-Prices.is)
+    ∙ priced_capacity c.in-Prices.courses c.in-Prices.rooms course ∙ ap (λ (x : Claim). claims_target x (RoomCapacity course))
+    (sym c.in-Prices.is)

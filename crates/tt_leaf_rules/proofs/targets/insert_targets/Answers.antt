@@ -7,7 +7,8 @@ pub insert-requires : goal.insert-requires
 insert-requires c = placed_first c.args.claim.now (4 * c.in-Capacity.course) [] c.requires (ap places_of c.in-Capacity.is)
 
 pub insert-requires-in-Days : goal.insert-requires-in-Days
-insert-requires-in-Days c = placed_first c.args.claim.now (4 * c.in-Days.course + 1) [] c.requires (elim c.in-Days.is [ inl e ↦ ap places_of e | inr e ↦ ap places_of e ])
+insert-requires-in-Days c = placed_first c.args.claim.now (4 * c.in-Days.course + 1) [] c.requires
+    (elim c.in-Days.is [ inl e ↦ ap places_of e | inr e ↦ ap places_of e ])
 
 pub insert-requires-in-Compact : goal.insert-requires-in-Compact
 insert-requires-in-Compact c = placed_first c.args.claim.now (4 * c.in-Compact.curriculum + 2) [] c.requires (ap places_of c.in-Compact.is)
@@ -17,10 +18,12 @@ insert-requires-in-Stable c = placed_first c.args.claim.now (4 * c.in-Stable.cou
 
 pub insert_capacities-requires : goal.insert_capacities-requires
 insert_capacities-requires c =
-    let are = ap (map (λ k. 4 * k.0)) c.as_slice.ensures ∙ priced_places c.in-Prices.courses c.in-Prices.rooms ∙ ap places_of (sym c.in-Prices.is) in
+    let are = ap (map (λ k. 4 * k.0)) c.as_slice.ensures ∙ priced_places c.in-Prices.courses c.in-Prices.rooms
+    ∙ ap places_of (sym c.in-Prices.is) in
     subst (All (λ n. n < 32768)) (sym are) c.requires
 
 pub returns-in-Prices : goal.returns-in-Prices
 returns-in-Prices c = λ behind.
-    let are = ap (map (λ k. 4 * k.0)) c.as_slice.ensures ∙ priced_places c.in-Prices.courses c.in-Prices.rooms ∙ ap places_of (sym c.in-Prices.is) in
+    let are = ap (map (λ k. 4 * k.0)) c.as_slice.ensures ∙ priced_places c.in-Prices.courses c.in-Prices.rooms
+    ∙ ap places_of (sym c.in-Prices.is) in
     ap (λ l. are_new c.args.taken.now (l ++ behind)) (sym are) ∙ c.insert_capacities.ensures behind

@@ -17,7 +17,8 @@ returns-in-One c =
     let o = c.args.occupied.now in
     let u = remove o.entries (first_of c.args.step) in
     let first = c.in-One.ensures in
-    let value = c.cost_change.ensures.value o.problem u o.entries (stepped o.entries c.args.step) first.exchange (subst (λ z. IsCost o.problem u z c.args.before) (sym first.gone) c.requires.before) in
+    let value = c.cost_change.ensures.value o.problem u o.entries (stepped o.entries c.args.step) first.exchange
+    (subst (λ z. IsCost o.problem u z c.args.before) (sym first.gone) c.requires.before) in
     omega (arith, ints)
 
 pub returns-in-Two : goal.returns-in-Two
@@ -26,6 +27,8 @@ returns-in-Two c =
     let u = remove o.entries (first_of c.args.step) in
     let lead = c.in-Two.ensures in
     let after = stepped o.entries c.args.step in
-    let moved = c.cost_change-moved_there.ensures.value o.problem u o.entries lead.1 lead.2.exchange (subst (λ z. IsCost o.problem u z c.args.before) (sym lead.2.gone) c.requires.before) in
-    let then = c.cost_change-moved_here.ensures.value o.problem lead.0 lead.1 after lead.3 (c.cost_before.ensures o.problem lead.0 lead.1 after lead.3) in
+    let moved = c.cost_change-moved_there.ensures.value o.problem u o.entries lead.1 lead.2.exchange
+    (subst (λ z. IsCost o.problem u z c.args.before) (sym lead.2.gone) c.requires.before) in
+    let then = c.cost_change-moved_here.ensures.value o.problem lead.0 lead.1 after lead.3
+    (c.cost_before.ensures o.problem lead.0 lead.1 after lead.3) in
     omega (arith, ints)

@@ -11,4 +11,5 @@ cost_weight-requires c =
 pub returns : goal.returns
 returns c =
     let u = remove c.args.occupied.now.entries c.args.entry in
-    subst (λ r. IsCost r.occupied.now.problem u r.gone c.cost_weight.result) c.without-rest.ensures.value (c.cost_weight.ensures u c.without-rest.ensures.rest)
+    subst (λ r. IsCost r.occupied.now.problem u r.gone c.cost_weight.result) c.without-rest.ensures.value
+    (c.cost_weight.ensures u c.without-rest.ensures.rest)

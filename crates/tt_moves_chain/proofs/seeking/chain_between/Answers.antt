@@ -13,8 +13,12 @@ returns-in-Some c =
     let w = c.in-Some.ensures in
     let inside = subst (λ (z : List ℕ). w.0 < length z) is w.1 in
     let here = ap (λ z. get_or z w.0 0) (sym is) ∙ w.2 in
-    let before = λ (k : ℕ) (l : k < w.0). ap (λ z. is_shut o.problem o.entries a b (get_or z k 0)) (sym is) ∙ w.4 k l in
-    (sym c.is_same_slot.ensures ∙ c.if-is_same_slot.false, ms, c.in-Ok.ensures.chain, first_shut o.problem o.entries a b ms c.in-Ok.ensures.rising w.0 c.in-Some.member inside here w.3 before)
+    let before = λ (k : ℕ) (l : k < w.0). ap (λ z. is_shut o.problem o.entries a b (get_or z k 0)) (sym is) ∙ w.4 k l in (
+      sym c.is_same_slot.ensures ∙ c.if-is_same_slot.false,
+      ms,
+      c.in-Ok.ensures.chain,
+      first_shut o.problem o.entries a b ms c.in-Ok.ensures.rising w.0 c.in-Some.member inside here w.3 before,
+    )
 
 pub returns : goal.returns
 returns c =
@@ -23,7 +27,8 @@ returns c =
     let b = c.args.to in
     let ms = c.in-Ok.members.items in
     let is = c.as_slice.ensures.value in
-    let none = λ (k : ℕ) (l : k < length ms). ap (λ z. is_shut o.problem o.entries a b (get_or z k 0)) (sym is) ∙ c.in_default-first_barred.ensures k (subst (λ (z : List ℕ). k < length z) (sym is) l) in
+    let none = λ (k : ℕ) (l : k < length ms). ap (λ z. is_shut o.problem o.entries a b (get_or z k 0)) (sym is)
+    ∙ c.in_default-first_barred.ensures k (subst (λ (z : List ℕ). k < length z) (sym is) l) in
     record {
       from = refl;
       to = refl;

@@ -11,4 +11,5 @@ returns-in_ok-push-clause-marking c =
     let ws = c.args.waiting.now.items in
     let at = c.args.at in
     let fresh = get_or_default fs at false c.index.result.now c.requires ∙ sym c.index.ensures ∙ c.if-not-index.true in
-    subst (λ (l : List ℕ). IsMarking fs ws (slice_set fs at true) l) (sym c.in_ok-push.ensures.items) (marking-one fs ws at c.requires fresh)
+    subst (λ (l : List ℕ). IsMarking fs ws (slice_set fs at true) l) (sym c.in_ok-push.ensures.items)
+    (marking-one fs ws at c.requires fresh)

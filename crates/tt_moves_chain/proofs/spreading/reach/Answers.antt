@@ -19,8 +19,10 @@ loop-j-preserved c =
     let old = c.loop-j.flags.items in
     let none : Cell = record { course = 0; room = 0; day = 0; period = 0 } in
     let x = slice_index_or t from none in
-    let here : (k : ℕ) (d : Cell) → j ≡ k → k < length t → linked p c.args.a c.args.b x (slice_index_or t k d) ≡ true → c.is_linked.result ≡ true = λ k d same short l.
-    c.is_linked.ensures ∙ subst (λ z. linked p c.args.a c.args.b x z ≡ true) (get_or_default t k d none short ∙ ap (λ n. get_or t n none) (sym same)) l in
+    let here : (k : ℕ) (d : Cell) → j ≡ k → k < length t → linked p c.args.a c.args.b x (slice_index_or t k d) ≡ true
+    → c.is_linked.result ≡ true = λ k d same short l.
+    c.is_linked.ensures ∙ subst (λ z. linked p c.args.a c.args.b x z ≡ true)
+    (get_or_default t k d none short ∙ ap (λ n. get_or t n none) (sym same)) l in
     let old = c.loop-j.flags.items in
     let waited = c.loop-j.waiting.items in
     let new = c.if-is_linked.flags.items in
@@ -28,7 +30,8 @@ loop-j-preserved c =
     let step : IsMarking old waited new waiting = elim c.if-is_linked.branch [
       | then-is_linked+in_ok-mark w ↦
           subst (λ (l : List Bool). IsMarking old waited l waiting) (sym (ap (λ v. v.items) w.flags-is))
-          (subst (λ (l : List ℕ). IsMarking old waited w.mark.new.flags.items l) (sym (ap (λ v. v.items) w.waiting-is)) w.in_ok-mark.ensures.marking)
+          (subst (λ (l : List ℕ). IsMarking old waited w.mark.new.flags.items l)
+          (sym (ap (λ v. v.items) w.waiting-is)) w.in_ok-mark.ensures.marking)
       | else-is_linked w ↦
           subst (λ (l : List Bool). IsMarking old waited l waiting) (sym (ap (λ v. v.items) w.flags-is))
           (subst (λ (l : List ℕ). IsMarking old waited old l) (sym (ap (λ v. v.items) w.waiting-is)) (marking-none old waited))
@@ -37,7 +40,8 @@ loop-j-preserved c =
       | then-is_linked+in_ok-mark w ↦ λ _. ap (λ v. marked v.items j) w.flags-is ∙ w.in_ok-mark.ensures.marked
       | else-is_linked w ↦ λ e. absurd (both_ways c.is_linked.result w.if-is_linked.false e)
     ] in
-    let only : (i : ℕ) → marked new i ≡ true → (marked old i ≡ true) ⊎ ((i ≡ j) × (c.is_linked.result ≡ true)) = elim c.if-is_linked.branch [
+    let only : (i : ℕ) → marked new i ≡ true → (marked old i ≡ true) ⊎ ((i ≡ j) × (c.is_linked.result ≡ true)) =
+    elim c.if-is_linked.branch [
       | then-is_linked+in_ok-mark w ↦ λ i e. elim (w.in_ok-mark.ensures.only i (sym (ap (λ v. marked v.items i) w.flags-is) ∙ e)) [
         | inl m ↦ inl m
         | inr m ↦ inr (m, w.if-is_linked.true)

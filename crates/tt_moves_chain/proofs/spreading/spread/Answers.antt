@@ -19,7 +19,16 @@ pub loop-from-smaller : goal.loop-from-smaller
 loop-from-smaller c =
     let step = c.in_ok-reach.ensures.marking in
     let n = count_by-le-length (λ b. b) c.reach.new.flags.items in
-    omega (arith, step.counted, step.grows, step.size, n, c.loop-from.invariant.size, ap length c.in-Some.ensures.items, length-append c.pop.new.self.items (c.in-Some.from ∷ []))
+    omega (
+      arith,
+      step.counted,
+      step.grows,
+      step.size,
+      n,
+      c.loop-from.invariant.size,
+      ap length c.in-Some.ensures.items,
+      length-append c.pop.new.self.items (c.in-Some.from ∷ []),
+    )
 
 pub loop-from-preserved : goal.loop-from-preserved
 loop-from-preserved c =
@@ -43,13 +52,16 @@ loop-from-preserved c =
         | inl m ↦ elim (inv.followed i m) [
           | inl w ↦ elim (Contains-push_cases rest from i (subst (λ l. Contains l i) split w)) [
             | inl r ↦ inl (step.still_waits i r)
-            | inr s ↦ inr (λ j d h l. c.in_ok-reach.ensures.reached j d h (subst (λ k. linked p c.args.a c.args.b (slice_index_or t k d) (slice_index_or t j d) ≡ true) (sym s) l))
+            | inr s ↦ inr
+                (λ j d h l. c.in_ok-reach.ensures.reached j d h
+                (subst (λ k. linked p c.args.a c.args.b (slice_index_or t k d) (slice_index_or t j d) ≡ true) (sym s) l))
           ]
           | inr f ↦ inr (λ j d h l. step.stays j (f j d h l))
         ]
         | inr w ↦ inl w
       ];
-      sound = λ m closed starts i e. c.in_ok-reach.ensures.sound m closed (inv.sound m closed starts from here) (λ k f. inv.sound m closed starts k f) i e;
+      sound = λ m closed starts i e. c.in_ok-reach.ensures.sound m closed (inv.sound m closed starts from here)
+          (λ k f. inv.sound m closed starts k f) i e;
     }
 
 pub returns : goal.returns

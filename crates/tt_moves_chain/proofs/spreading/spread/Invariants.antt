@@ -14,6 +14,8 @@ invariant-loop-from l = record {
   starts : marked l.flags.items l.entry ≡ true;
   inside : (i : ℕ) → Contains l.waiting.items i → marked l.flags.items i ≡ true;
   followed : (i : ℕ) → marked l.flags.items i ≡ true → Contains l.waiting.items i ⊎
-      ((j : ℕ) (d : Cell) → j < length l.entries → linked l.instance l.a l.b (slice_index_or l.entries i d) (slice_index_or l.entries j d) ≡ true → marked l.flags.items j ≡ true);
-  sound : (m : ℕ → Bool) → IsClosed l.instance l.entries l.a l.b m → m l.entry ≡ true → (i : ℕ) → marked l.flags.items i ≡ true → m i ≡ true;
+      ((j : ℕ) (d : Cell) → j < length l.entries → linked l.instance l.a l.b (slice_index_or l.entries i d)
+      (slice_index_or l.entries j d) ≡ true → marked l.flags.items j ≡ true);
+  sound : (m : ℕ → Bool) → IsClosed l.instance l.entries l.a l.b m → m l.entry ≡ true → (i : ℕ) → marked l.flags.items i ≡ true
+      → m i ≡ true;
 }

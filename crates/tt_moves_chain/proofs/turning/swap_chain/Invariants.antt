@@ -5,4 +5,8 @@ use Rattle.tt_moves_chain.proofs.turning.swap_chain.Given as goal
 
 abbrev pub invariant-loop-member : goal.invariant-loop-member
 invariant-loop-member l =
-    l.occupied ≡ record { problem = l.initial.occupied.problem; entries = swapped l.chain.from l.chain.to (has_number (take l.member-index l.member-items)) l.initial.occupied.entries }
+    l.occupied ≡ record {
+      problem = l.initial.occupied.problem;
+      entries = swapped l.chain.from l.chain.to
+          (has_number (take l.member-index l.member-items)) l.initial.occupied.entries;
+    }

@@ -9,7 +9,8 @@ pub returns-in_err-move_to-clause-err : goal.returns-in_err-move_to-clause-err
 returns-in_err-move_to-clause-err c =
     let a = c.args in
     let l = c.loop-room in
-    on_err c.from_residual.result (scan_spent _ a.occupied.now l.occupied a.left.now l.left l.invariant c.move_to.new.occupied c.in_err-move_to.ensures.err)
+    on_err c.from_residual.result
+    (scan_spent _ a.occupied.now l.occupied a.left.now l.left l.invariant c.move_to.new.occupied c.in_err-move_to.ensures.err)
 
 pub loop-room-preserved : goal.loop-room-preserved
 loop-room-preserved c =

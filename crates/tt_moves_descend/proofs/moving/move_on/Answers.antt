@@ -10,11 +10,13 @@ pub returns-in_err-try_step-clause-err : goal.returns-in_err-try_step-clause-err
 returns-in_err-try_step-clause-err c =
     let a = c.args in
     let l = c.loop-period in
-    on_err c.from_residual.result (scan_spent _ a.occupied.now l.occupied a.left.now l.left l.invariant c.try_step.new.occupied c.in_err-try_step.ensures.err)
+    on_err c.from_residual.result
+    (scan_spent _ a.occupied.now l.occupied a.left.now l.left l.invariant c.try_step.new.occupied c.in_err-try_step.ensures.err)
 
 pub loop-period-preserved : goal.loop-period-preserved
 loop-period-preserved c =
     let a = c.args in
     let l = c.loop-period in
-    scan_next (λ n o. ¬ Lowers o (Move a.entry a.room a.day n)) a.occupied.now l.occupied c.try_step.new.occupied l.period a.left.now l.left c.try_step.new.left l.invariant
+    scan_next (λ n o. ¬ Lowers o (Move a.entry a.room a.day n)) a.occupied.now l.occupied c.try_step.new.occupied l.period a.left.now
+    l.left c.try_step.new.left l.invariant
     (c.in_ok-try_step.ensures.ok)

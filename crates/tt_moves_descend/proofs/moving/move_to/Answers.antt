@@ -9,11 +9,13 @@ pub returns-in_err-move_on-clause-err : goal.returns-in_err-move_on-clause-err
 returns-in_err-move_on-clause-err c =
     let a = c.args in
     let l = c.loop-day in
-    on_err c.from_residual.result (scan_spent _ a.occupied.now l.occupied a.left.now l.left l.invariant c.move_on.new.occupied c.in_err-move_on.ensures.err)
+    on_err c.from_residual.result
+    (scan_spent _ a.occupied.now l.occupied a.left.now l.left l.invariant c.move_on.new.occupied c.in_err-move_on.ensures.err)
 
 pub loop-day-preserved : goal.loop-day-preserved
 loop-day-preserved c =
     let a = c.args in
     let l = c.loop-day in
-    scan_next (NoMoveOn a.entry a.room) a.occupied.now l.occupied c.move_on.new.occupied l.day a.left.now l.left c.move_on.new.left l.invariant
+    scan_next (NoMoveOn a.entry a.room) a.occupied.now l.occupied c.move_on.new.occupied l.day a.left.now l.left c.move_on.new.left
+    l.invariant
     (c.in_ok-move_on.ensures.ok)

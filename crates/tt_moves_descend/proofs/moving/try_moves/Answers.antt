@@ -9,7 +9,8 @@ pub returns-in_err-move_of-clause-err : goal.returns-in_err-move_of-clause-err
 returns-in_err-move_of-clause-err c =
     let a = c.args in
     let l = c.loop-entry in
-    on_err c.from_residual.result (scan_spent _ a.occupied.now l.occupied a.left.now l.left l.invariant c.move_of.new.occupied c.in_err-move_of.ensures.err)
+    on_err c.from_residual.result
+    (scan_spent _ a.occupied.now l.occupied a.left.now l.left l.invariant c.move_of.new.occupied c.in_err-move_of.ensures.err)
 
 pub loop-entry-preserved : goal.loop-entry-preserved
 loop-entry-preserved c =

@@ -9,7 +9,8 @@ pub returns-in_err-swap_of-clause-err : goal.returns-in_err-swap_of-clause-err
 returns-in_err-swap_of-clause-err c =
     let a = c.args in
     let l = c.loop-first in
-    on_err c.from_residual.result (scan_spent _ a.occupied.now l.occupied a.left.now l.left l.invariant c.swap_of.new.occupied c.in_err-swap_of.ensures.err)
+    on_err c.from_residual.result
+    (scan_spent _ a.occupied.now l.occupied a.left.now l.left l.invariant c.swap_of.new.occupied c.in_err-swap_of.ensures.err)
 
 pub loop-first-preserved : goal.loop-first-preserved
 loop-first-preserved c =

@@ -7,4 +7,5 @@ loop-entry-preserved c =
     let p = c.args.instance.now in
     let t = c.args.entries.now in
     let k = c.loop-entry.entry-index in
-    tables_same p (_ ∷ take k t) (take (k + 1) t) (same_more t k _ _ c.loop-entry-test.true refl) c.add.new.self (c.add.ensures (take k t) c.loop-entry.invariant)
+    tables_same p (_ ∷ take k t) (take (k + 1) t) (same_more t k _ _ c.loop-entry-test.true refl) c.add.new.self
+    (c.add.ensures (take k t) c.loop-entry.invariant)

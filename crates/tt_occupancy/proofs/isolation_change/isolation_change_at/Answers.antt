@@ -9,12 +9,15 @@ loop-row-preserved c =
     let k = c.loop-row.row-index in
     record {
       isolation_change = λ p u ok tally.
-          subst (λ z. IsIsolationChange p u z c.args.day c.args.period c.with-isolation_change.result) (sym (take_more rows k 0 c.loop-row-test.true))
-          (c.with-isolation_change.ensures.isolation_change p u (take k rows) (get_or rows k 0) c.args.day c.args.period (c.loop-row.invariant.isolation_change p u ok tally) (c.neighbour_counts.ensures.neighbour_counts p u ok tally));
+          subst (λ z. IsIsolationChange p u z c.args.day c.args.period c.with-isolation_change.result)
+          (sym (take_more rows k 0 c.loop-row-test.true))
+          (c.with-isolation_change.ensures.isolation_change p u (take k rows) (get_or rows k 0) c.args.day c.args.period
+          (c.loop-row.invariant.isolation_change p u ok tally) (c.neighbour_counts.ensures.neighbour_counts p u ok tally));
       alone_at_most = omega (arith, c.with-isolation_change.ensures.alone_at_most);
       joined_at_most = omega (arith, c.with-isolation_change.ensures.joined_at_most, c.neighbour_counts.ensures.at_most);
     }
 
 pub returns-clause-isolation_change : goal.returns-clause-isolation_change
 returns-clause-isolation_change c = λ p u ok tally.
-    subst (λ z. IsIsolationChange p u z c.args.day c.args.period c.loop-row.isolation_change) (take_all c.loop-row.row-index c.args.rows.now c.loop-row-test.false) (c.loop-row.invariant.isolation_change p u ok tally)
+    subst (λ z. IsIsolationChange p u z c.args.day c.args.period c.loop-row.isolation_change)
+    (take_all c.loop-row.row-index c.args.rows.now c.loop-row-test.false) (c.loop-row.invariant.isolation_change p u ok tally)

@@ -8,7 +8,8 @@ use Rattle.tt_occupancy.proofs.isolation_change.isolation_change_at.Given as goa
 
 abbrev pub invariant-loop-row : goal.invariant-loop-row
 invariant-loop-row l = record {
-  isolation_change : (p : Problem) (u : List Cell) → IsTimetable p u → IsTally p (length p.curricula) (of_curriculum p) u l.week → IsIsolationChange p u (take l.row-index l.rows) l.day l.period l.isolation_change;
+  isolation_change : (p : Problem) (u : List Cell) → IsTimetable p u → IsTally p (length p.curricula) (of_curriculum p) u l.week
+      → IsIsolationChange p u (take l.row-index l.rows) l.day l.period l.isolation_change;
   alone_at_most : l.isolation_change.alone ≤ l.row-index;
   joined_at_most : l.isolation_change.joined ≤ l.row-index * 131072;
 }

@@ -28,8 +28,15 @@ rescored-requires c =
     let u = c.requires.counted.0 in
     let h = c.requires.counted.1 in
     let rest = All-tail (InRange p) c.args.from u h.in_range in
-    let taken = c.take.ensures u h.tables in
-    (p, u, c.args.from, c.args.to, exchange p u c.args.from c.args.to c.args.tables.now c.args.score c.weigh-before.result c.weigh-after.result h c.requires.in_range c.requires.course (c.weigh-before.ensures u rest taken) (c.weigh-after.ensures u rest taken))
+    let taken = c.take.ensures u h.tables in (
+      p,
+      u,
+      c.args.from,
+      c.args.to,
+      exchange p u c.args.from c.args.to c.args.tables.now c.args.score c.weigh-before.result
+          c.weigh-after.result h c.requires.in_range c.requires.course (c.weigh-before.ensures u rest taken)
+          (c.weigh-after.ensures u rest taken),
+    )
 
 pub returns : goal.returns
 returns c = λ u h.
@@ -42,5 +49,7 @@ returns c = λ u h.
       in_range = All-cons (InRange p) c.args.to u c.requires.in_range rest;
       at_most = omega arith;
       tables = c.add.ensures u taken;
-      score = c.rescored.ensures p u c.args.from c.args.to (exchange p u c.args.from c.args.to c.args.tables.now c.args.score c.weigh-before.result c.weigh-after.result h c.requires.in_range c.requires.course (c.weigh-before.ensures u rest taken) (c.weigh-after.ensures u rest taken));
+      score = c.rescored.ensures p u c.args.from c.args.to
+          (exchange p u c.args.from c.args.to c.args.tables.now c.args.score c.weigh-before.result c.weigh-after.result h
+          c.requires.in_range c.requires.course (c.weigh-before.ensures u rest taken) (c.weigh-after.ensures u rest taken));
     }

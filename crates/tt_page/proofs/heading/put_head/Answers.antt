@@ -13,4 +13,6 @@ pub returns : goal.returns
 unfolding head_text
 returns c =
     let style = rw c.as_bytes-2.ensures.value at c.put_token-3.ensures in
-    then_put _ _ _ _ _ (then_put _ _ _ _ _ (then_put _ _ _ _ _ (then_put _ _ _ _ _ ((begin_put c)) c.put_name.ensures) c.put_token-2.ensures) style) c.put_token-4.ensures
+    then_put _ _ _ _ _
+    (then_put _ _ _ _ _ (then_put _ _ _ _ _ (then_put _ _ _ _ _ ((begin_put c)) c.put_name.ensures) c.put_token-2.ensures) style)
+    c.put_token-4.ensures

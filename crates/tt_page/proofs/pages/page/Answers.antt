@@ -10,7 +10,9 @@ pub returns-in_default-clause-size : goal.returns-in_default-clause-size
 returns-in_default-clause-size g c =
     let text = page_text c.args.instance.now c.args.table.now c.args.labels.now c.args.proved c.args.style.now in
     let put : c.put_page.new.out ≡ put_text (window 0 PAGE_PIECE_BYTES too_many) text =
-    c.put_page.ensures ∙ (λ i. put_text (c.in_ok-out.ensures i) (page_text (c.in_ok-plan.ensures i).problem (c.in_ok-plan.ensures i).table c.args.labels.now c.args.proved c.args.style.now)) in
+    c.put_page.ensures
+    ∙ (λ i. put_text (c.in_ok-out.ensures i)
+    (page_text (c.in_ok-plan.ensures i).problem (c.in_ok-plan.ensures i).table c.args.labels.now c.args.proved c.args.style.now)) in
     page_too_large PAGE_PIECE_BYTES text c.put_page.new.out c.total.result put c.total.ensures c.in_default.is
 
 pub write_pieces-requires-clause-total : goal.write_pieces-requires-clause-total
@@ -23,12 +25,17 @@ pub returns-in_err-write_pieces-clause-size : goal.returns-in_err-write_pieces-c
 returns-in_err-write_pieces-clause-size g c =
     let text = page_text c.args.instance.now c.args.table.now c.args.labels.now c.args.proved c.args.style.now in
     let put : c.put_page.new.out ≡ put_text (window 0 PAGE_PIECE_BYTES too_many) text =
-    c.put_page.ensures ∙ (λ i. put_text (c.in_ok-out.ensures i) (page_text (c.in_ok-plan.ensures i).problem (c.in_ok-plan.ensures i).table c.args.labels.now c.args.proved c.args.style.now)) in
-    size_of_write _ text c.from_residual-in_err-write_pieces.ensures.1 (page_counted PAGE_PIECE_BYTES c.in-Some.total text c.put_page.new.out c.total.result put c.total.ensures c.in-Some.is).1
+    c.put_page.ensures
+    ∙ (λ i. put_text (c.in_ok-out.ensures i)
+    (page_text (c.in_ok-plan.ensures i).problem (c.in_ok-plan.ensures i).table c.args.labels.now c.args.proved c.args.style.now)) in
+    size_of_write _ text c.from_residual-in_err-write_pieces.ensures.1
+    (page_counted PAGE_PIECE_BYTES c.in-Some.total text c.put_page.new.out c.total.result put c.total.ensures c.in-Some.is).1
 
 pub returns-clause-size : goal.returns-clause-size
 returns-clause-size g c =
     let text = page_text c.args.instance.now c.args.table.now c.args.labels.now c.args.proved c.args.style.now in
     let put : c.put_page.new.out ≡ put_text (window 0 PAGE_PIECE_BYTES too_many) text =
-    c.put_page.ensures ∙ (λ i. put_text (c.in_ok-out.ensures i) (page_text (c.in_ok-plan.ensures i).problem (c.in_ok-plan.ensures i).table c.args.labels.now c.args.proved c.args.style.now)) in
+    c.put_page.ensures
+    ∙ (λ i. put_text (c.in_ok-out.ensures i)
+    (page_text (c.in_ok-plan.ensures i).problem (c.in_ok-plan.ensures i).table c.args.labels.now c.args.proved c.args.style.now)) in
     (page_counted PAGE_PIECE_BYTES c.in-Some.total text c.put_page.new.out c.total.result put c.total.ensures c.in-Some.is).1

@@ -29,7 +29,8 @@ pub returns-in_err-write_all-clause-part : goal.returns-in_err-write_all-clause-
 returns-in_err-write_all-clause-part g c =
     let text = page_text c.args.plan.now.problem c.args.plan.now.table c.args.labels.now c.args.proved c.args.style.now in
     if_err c.from_residual.result
-    (piece_failed (g.W.Sink.contents c.args.sink.now) (g.W.Sink.contents c.pieces.sink) (g.W.Sink.contents c.write_all.new.sink) text c.bytes.result.now c.pieces.from PAGE_PIECE_BYTES
+    (piece_failed (g.W.Sink.contents c.args.sink.now) (g.W.Sink.contents c.pieces.sink)
+    (g.W.Sink.contents c.write_all.new.sink) text c.bytes.result.now c.pieces.from PAGE_PIECE_BYTES
     c.pieces.invariant.taken (c.bytes.ensures ∙ c.pieces.invariant.piece) c.in_err-write_all.ensures.part)
 
 pub returns-then-from-total-clause-written : goal.returns-then-from-total-clause-written
@@ -41,7 +42,8 @@ returns-then-from-total-clause-written g c =
     let more = subst (Appends mid after) (c.bytes.ensures ∙ sym c.bytes-in-pieces.ensures) c.in_ok-write_all.ensures.all in
     let past : length text ≤ c.pieces.from + length bytes = omega (arith, c.requires.total, c.if-from-total.true) in
     pieces_taken (g.W.Sink.contents c.args.sink.now) after text (c.pieces.from + length bytes) past
-    (piece_taken (g.W.Sink.contents c.args.sink.now) mid after text bytes c.pieces.from PAGE_PIECE_BYTES c.pieces.invariant.taken (c.bytes-in-pieces.ensures ∙ c.pieces.invariant.piece) more)
+    (piece_taken (g.W.Sink.contents c.args.sink.now) mid after text bytes c.pieces.from PAGE_PIECE_BYTES c.pieces.invariant.taken
+    (c.bytes-in-pieces.ensures ∙ c.pieces.invariant.piece) more)
 
 pub pieces-smaller : goal.pieces-smaller
 pieces-smaller g c =
@@ -49,7 +51,8 @@ pieces-smaller g c =
     let bytes = c.bytes-in-pieces.result.now in
     let left : c.pieces.from + length bytes < c.args.total = c.if-from-total.false in
     let short : c.pieces.from + length bytes < length text = omega (arith, c.requires.total, left) in
-    let further = piece_further c.pieces.from PAGE_PIECE_BYTES text bytes (c.bytes-in-pieces.ensures ∙ c.pieces.invariant.piece) (lit< tt) short in
+    let further = piece_further c.pieces.from PAGE_PIECE_BYTES text bytes (c.bytes-in-pieces.ensures ∙ c.pieces.invariant.piece)
+    (lit< tt) short in
     omega (arith, further, left)
 
 pub pieces-preserved : goal.pieces-preserved
@@ -60,11 +63,14 @@ pieces-preserved g c =
     let bytes = c.bytes-in-pieces.result.now in
     let from = c.pieces.from + length bytes in
     let more = subst (Appends mid after) (c.bytes.ensures ∙ sym c.bytes-in-pieces.ensures) c.in_ok-write_all.ensures.all in
-    let restarted : c.restart.new.self ≡ window from PAGE_PIECE_BYTES (from + PAGE_PIECE_BYTES) = c.restart.ensures ∙ ap (λ k. window from k (from + PAGE_PIECE_BYTES)) c.pieces.invariant.size in
-    let put : c.put_page.new.out ≡ put_text (window from PAGE_PIECE_BYTES (from + PAGE_PIECE_BYTES)) text = c.put_page.ensures ∙ ap (λ (s : PageState). put_text s text) restarted in record {
+    let restarted : c.restart.new.self ≡ window from PAGE_PIECE_BYTES (from + PAGE_PIECE_BYTES) = c.restart.ensures
+    ∙ ap (λ k. window from k (from + PAGE_PIECE_BYTES)) c.pieces.invariant.size in
+    let put : c.put_page.new.out ≡ put_text (window from PAGE_PIECE_BYTES (from + PAGE_PIECE_BYTES)) text = c.put_page.ensures
+    ∙ ap (λ (s : PageState). put_text s text) restarted in record {
       within = omega (arith, c.if-from-total.false);
       size = ap (λ (s : PageState). s.size) put ∙ size_put (window from PAGE_PIECE_BYTES (from + PAGE_PIECE_BYTES)) text;
       piece = ap (λ (s : PageState). s.bytes) put ∙ bytes_to_end from PAGE_PIECE_BYTES text;
-      taken = piece_taken (g.W.Sink.contents c.args.sink.now) mid after text bytes c.pieces.from PAGE_PIECE_BYTES c.pieces.invariant.taken (c.bytes-in-pieces.ensures ∙ c.pieces.invariant.piece) more;
+      taken = piece_taken (g.W.Sink.contents c.args.sink.now) mid after text bytes c.pieces.from PAGE_PIECE_BYTES
+          c.pieces.invariant.taken (c.bytes-in-pieces.ensures ∙ c.pieces.invariant.piece) more;
       failed = c.in_ok-write_all.ensures.failed ∙ c.pieces.invariant.failed;
     }

@@ -9,7 +9,9 @@ invariant-pieces g l = record {
   within : l.from ≤ l.total;
   size : l.out.size ≡ PAGE_PIECE_BYTES;
   piece : l.out.bytes ≡ take PAGE_PIECE_BYTES (drop l.from (page_text l.plan.problem l.plan.table l.labels l.proved l.style));
-  taken : Taken (g.W.Sink.contents l.fn.sink) (g.W.Sink.contents l.sink) (page_text l.plan.problem l.plan.table l.labels l.proved l.style) (drop l.from (page_text l.plan.problem l.plan.table l.labels l.proved l.style));
+  taken : Taken (g.W.Sink.contents l.fn.sink) (g.W.Sink.contents l.sink)
+      (page_text l.plan.problem l.plan.table l.labels l.proved l.style)
+      (drop l.from (page_text l.plan.problem l.plan.table l.labels l.proved l.style));
   failed : g.W.Sink.has_failed l.sink ≡ g.W.Sink.has_failed l.fn.sink;
 }
 

@@ -7,4 +7,6 @@ unfolding days_text
 returns c =
     let head = rw (c.days.ensures.value, c.instance.ensures) at c.put_days_head.ensures in
     let index = rw c.instance-2.ensures at c.put_day_index.ensures in
-    then_put _ _ _ _ _ (then_put _ _ _ _ _ (then_put _ _ _ _ _ (then_put _ _ _ _ _ head index) c.put_token.ensures) c.put_day_grids.ensures) c.put_token-2.ensures
+    then_put _ _ _ _ _
+    (then_put _ _ _ _ _ (then_put _ _ _ _ _ (then_put _ _ _ _ _ head index) c.put_token.ensures) c.put_day_grids.ensures)
+    c.put_token-2.ensures

@@ -14,4 +14,5 @@ unfolding room_row_head
 returns c =
     let first = c.args.out.now in
     let middle = c.put_week_link.new.out in
-    then_put first middle _ _ _ (then_put first c.put_token.new.out middle (codes "<tr>\n<th scope=\"row\">") _ (head_put c) c.put_week_link.ensures) c.put_token-2.ensures
+    then_put first middle _ _ _ (then_put first c.put_token.new.out middle (codes "<tr>\n<th scope=\"row\">") _
+    (head_put c) c.put_week_link.ensures) c.put_token-2.ensures

@@ -6,4 +6,5 @@ use Rattle.tt_page_lists.specs.Grouped.{curriculum_item}
 use Rattle.tt_page_lists.proofs.grouped.put_curriculum_items.Given as goal
 
 abbrev pub invariant-loop-curriculum : goal.invariant-loop-curriculum
-invariant-loop-curriculum l = l.out ≡ put_text l.initial.out (flat_map (curriculum_item l.plan.problem l.plan.table l.labels) (range_below l.curriculum))
+invariant-loop-curriculum l =
+    l.out ≡ put_text l.initial.out (flat_map (curriculum_item l.plan.problem l.plan.table l.labels) (range_below l.curriculum))

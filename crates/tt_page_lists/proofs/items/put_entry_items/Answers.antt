@@ -12,11 +12,15 @@ loop-index-preserved c =
     let t = c.args.plan.now.table in
     let i = c.loop-index.index in
     let within : i < length t = subst (λ (es : List Cell). i < length es) c.entries-entry-items.ensures.value c.loop-index-test.true in
-    let put = subst (λ (es : List Cell). c.put_entry_item.new.out ≡ put_text c.loop-index.out (entry_item p c.args.labels.now c.args.rule (get_or es i nobody) (drop (i + 1) t))) c.entries-entry-items.ensures.value c.put_entry_item.ensures in
+    let put = subst (λ (es : List Cell). c.put_entry_item.new.out ≡ put_text c.loop-index.out
+    (entry_item p c.args.labels.now c.args.rule (get_or es i nobody) (drop (i + 1) t))) c.entries-entry-items.ensures.value
+    c.put_entry_item.ensures in
     item_further p c.args.labels.now c.args.rule t i nobody _ c.loop-index.out c.put_entry_item.new.out within put c.loop-index.invariant
 
 pub returns : goal.returns
 returns c =
     let p = c.args.plan.now.problem in
     let t = c.args.plan.now.table in
-    items_done p c.args.labels.now c.args.rule t c.loop-index.index _ c.loop-index.out (subst (λ (es : List Cell). length es ≤ c.loop-index.index) c.entries-entry-items.ensures.value (omega (arith, c.loop-index-test.false))) c.loop-index.invariant
+    items_done p c.args.labels.now c.args.rule t c.loop-index.index _ c.loop-index.out
+    (subst (λ (es : List Cell). length es ≤ c.loop-index.index) c.entries-entry-items.ensures.value
+    (omega (arith, c.loop-index-test.false))) c.loop-index.invariant

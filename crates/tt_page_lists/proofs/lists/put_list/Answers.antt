@@ -11,6 +11,7 @@ unfolding list_text
 returns c =
     let p = c.args.plan.now.problem in
     let t = c.args.plan.now.table in
-    let some : (rule_count p t c.args.rule == 0) ≡ false = ne_eqb (rule_count p t c.args.rule) 0 (λ none. c.if-count-eq0.false (c.count-count.ensures ∙ none)) in
+    let some : (rule_count p t c.args.rule == 0) ≡ false = ne_eqb (rule_count p t c.args.rule) 0
+    (λ none. c.if-count-eq0.false (c.count-count.ensures ∙ none)) in
     let head = rw c.count-count.ensures at c.put_list_head.ensures in
     rw some (then_put _ _ _ _ _ (then_put _ _ _ _ _ head c.put_items.ensures) c.put_token.ensures)

@@ -5,4 +5,5 @@ use Rattle.tt_page_plan.proofs.counts.is_taught_in.Goals as goal
 
 pub returns : goal.returns
 returns c =
-    c.has_entry_in.ensures ∙ any_in_group (is_of c.args.course) (is_in c.args.room) c.args.plan.now.table c.of_course-entries.result c.of_course-entries.ensures.group
+    c.has_entry_in.ensures ∙ any_in_group (is_of c.args.course) (is_in c.args.room) c.args.plan.now.table c.of_course-entries.result
+    c.of_course-entries.ensures.group

@@ -8,6 +8,14 @@ use Rattle.tt_page_plan.proofs.marks.is_taught_after.Goals as goal
 pub returns-then-entry-last : goal.returns-then-entry-last
 returns-then-entry-last c =
     let p = c.args.plan.now.problem in
-    let last : c.args.entry.now.period + 1 ≡ p.periods = omega (arith, c.if-entry-last.true, c.periods-last.ensures.value, c.periods-last.ensures.positive, ap (λ (q : Problem). q.periods) c.instance.ensures) in
-    let ok : All (InRange p) c.args.plan.now.table = subst (All (InRange p)) c.entries-entries.ensures.value c.entries-entries.ensures.in_range in
+    let last : c.args.entry.now.period + 1 ≡ p.periods =
+    omega (
+      arith,
+      c.if-entry-last.true,
+      c.periods-last.ensures.value,
+      c.periods-last.ensures.positive,
+      ap (λ (q : Problem). q.periods) c.instance.ensures,
+    ) in
+    let ok : All (InRange p) c.args.plan.now.table =
+    subst (All (InRange p)) c.entries-entries.ensures.value c.entries-entries.ensures.in_range in
     sym (none_after p (λ x. in_curriculum p c.args.curriculum x.course) c.args.plan.now.table c.args.entry.now ok last)

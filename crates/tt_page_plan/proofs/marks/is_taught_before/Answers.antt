@@ -11,4 +11,5 @@ returns-then-entry-eq0 c =
 pub returns : goal.returns
 returns c =
     let p = c.args.plan.now.problem in
-    c.is_taught.ensures ∙ right_before p (λ x. in_curriculum p c.args.curriculum x.course) c.args.plan.now.table c.args.entry.now (omega (arith, c.if-entry-eq0.false))
+    c.is_taught.ensures ∙ right_before p (λ x. in_curriculum p c.args.curriculum x.course) c.args.plan.now.table c.args.entry.now
+    (omega (arith, c.if-entry-eq0.false))

@@ -13,4 +13,5 @@ pub loop-course-preserved : goal.loop-course-preserved
 loop-course-preserved c =
     let test = in_curriculum c.args.instance.now c.args.curriculum in
     let same : test c.loop-course.course ≡ true = sym c.in_curriculum.ensures ∙ c.if-not-in_curriculum.false in
-    number_kept test c.loop-course.course c.loop-course.own.items c.push.new.self.items same c.loop-course.invariant c.in_ok-push.ensures.items
+    number_kept test c.loop-course.course c.loop-course.own.items c.push.new.self.items same c.loop-course.invariant
+    c.in_ok-push.ensures.items

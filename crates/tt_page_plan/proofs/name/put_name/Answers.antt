@@ -9,7 +9,8 @@ pub loop-index-preserved : goal.loop-index-preserved
 loop-index-preserved c =
     let names = c.args.instance.now.name in
     let i = c.loop-index.index in
-    let here : get_or names i [] ≡ c.name_token.result.now = get_or_from_slice_get names i c.name_token.result.now [] c.name_token.ensures in
+    let here : get_or names i [] ≡ c.name_token.result.now = get_or_from_slice_get names i c.name_token.result.now
+    [] c.name_token.ensures in
     taken_further next_shown names i [] c.args.out.now c.loop-index.out c.put_next_shown.new.out
     (slice_get_within names i c.name_token.result.now c.name_token.ensures)
     c.loop-index.invariant

@@ -12,5 +12,6 @@ returns c =
     let sorted =
     sorted_in_order (λ x. x.now) (name_of p kind) (count_of p kind) c.in_ok-named.named.items c.sort_unstable.new.self.items
     c.in_ok-named.ensures.numbers c.in_ok-named.ensures.names c.sort_unstable.ensures.permutation c.sort_unstable.ensures.sorted in
-    IfOk-weaker c.numbers_in.result (λ numbers. numbers.items ≡ map (λ x. x.1) c.deref.result.now) (λ numbers. numbers.items ≡ numbers_of p kind)
+    IfOk-weaker c.numbers_in.result (λ numbers. numbers.items ≡ map (λ x. x.1) c.deref.result.now)
+    (λ numbers. numbers.items ≡ numbers_of p kind)
     (λ numbers same. same ∙ ap (map (λ x. x.1)) c.deref.ensures.value ∙ sorted) c.numbers_in.ensures

@@ -7,5 +7,7 @@ use Rattle.tt_page_text.proofs.shown.put_letters.Goals as goal
 
 pub returns : goal.returns
 returns c =
-    let end = YieldsList-end (YieldsList-from_chars c.args.text.now c.utf8.text cc) c.loop-letter.yielded _ c.loop-letter.yielded_by _ _ c.in-None.is c.next.ensures.steps in
-    c.loop-letter.invariant ∙ ap (λ (cs : List ℕ). put_text c.args.out.now (flat_map letter_text cs)) (sym (map-id c.loop-letter.yielded) ∙ end.0)
+    let end = YieldsList-end (YieldsList-from_chars c.args.text.now c.utf8.text cc) c.loop-letter.yielded _ c.loop-letter.yielded_by _ _
+    c.in-None.is c.next.ensures.steps in
+    c.loop-letter.invariant ∙ ap (λ (cs : List ℕ). put_text c.args.out.now (flat_map letter_text cs))
+    (sym (map-id c.loop-letter.yielded) ∙ end.0)

@@ -13,7 +13,8 @@ loop-chunk-preserved-then-not-is_empty c =
     let valid = c.in-Some.chunk.valid.now in
     let some : 0 < length c.in-Some.chunk.invalid.now = search rules in
     let is = utf8_lossy_chunk _ _ _ _ steps.0 steps.3.0 steps.3.1 some in
-    chunk_put _ c.loop-chunk.out c.put_letters.new.out c.put_letter.new.out (utf8_chunks_rest c.loop-chunk.chunk-iterator) valid (utf8_chunks_rest c.next.new.self)
+    chunk_put _ c.loop-chunk.out c.put_letters.new.out c.put_letter.new.out (utf8_chunks_rest c.loop-chunk.chunk-iterator) valid
+    (utf8_chunks_rest c.next.new.self)
     (subst IsUtf8 c.valid.ensures c.valid.utf8) is (rw c.valid.ensures at c.put_letters.ensures) c.put_letter.ensures c.loop-chunk.invariant
 
 pub loop-chunk-preserved : goal.loop-chunk-preserved
@@ -22,7 +23,8 @@ loop-chunk-preserved c =
     let valid = c.in-Some.chunk.valid.now in
     let none : length c.in-Some.chunk.invalid.now ≡ 0 = search rules in
     let is = utf8_lossy_last_chunk _ _ _ _ steps.0 steps.3.0 none (steps.2 none) in
-    last_chunk_put _ c.loop-chunk.out c.put_letters.new.out (utf8_chunks_rest c.loop-chunk.chunk-iterator) valid (utf8_chunks_rest c.next.new.self)
+    last_chunk_put _ c.loop-chunk.out c.put_letters.new.out (utf8_chunks_rest c.loop-chunk.chunk-iterator) valid
+    (utf8_chunks_rest c.next.new.self)
     (subst IsUtf8 c.valid.ensures c.valid.utf8) is (rw c.valid.ensures at c.put_letters.ensures) c.loop-chunk.invariant
 
 pub returns-clause-puts : goal.returns-clause-puts

@@ -6,4 +6,5 @@ use Rattle.tt_page_text.proofs.Chunks.{letters_text}
 use Rattle.tt_page_text.proofs.shown.put_shown.Given as goal
 
 abbrev pub invariant-loop-chunk : goal.invariant-loop-chunk
-invariant-loop-chunk l = put_text l.out (letters_text (utf8_lossy (utf8_chunks_rest l.chunk-iterator))) ≡ put_text l.initial.out (letters_text (utf8_lossy l.name))
+invariant-loop-chunk l = put_text l.out (letters_text (utf8_lossy (utf8_chunks_rest l.chunk-iterator))) ≡ put_text l.initial.out
+    (letters_text (utf8_lossy l.name))

@@ -14,4 +14,5 @@ unfolding day_head
 returns c =
     let first = c.args.out.now in
     let middle = c.put_day.new.out in
-    then_put first middle _ _ _ (then_put first c.put_token.new.out middle (codes "<th scope=\"col\">") _ (head_put c) c.put_day.ensures) c.put_token-2.ensures
+    then_put first middle _ _ _ (then_put first c.put_token.new.out middle (codes "<th scope=\"col\">") _
+    (head_put c) c.put_day.ensures) c.put_token-2.ensures

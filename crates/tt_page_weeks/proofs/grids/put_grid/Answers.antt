@@ -10,4 +10,5 @@ returns c =
     let title = rw c.instance-instance.ensures at c.put_grid_title.ensures in
     let days = rw c.instance-instance.ensures at c.put_day_heads.ensures in
     let rows = rw c.own_courses-own.ensures.value at c.put_rows.ensures in
-    then_put _ _ _ _ _ (then_put _ _ _ _ _ (then_put _ _ _ _ _ (then_put _ _ _ _ _ title days) c.put_token.ensures) rows) c.put_token-2.ensures
+    then_put _ _ _ _ _ (then_put _ _ _ _ _ (then_put _ _ _ _ _ (then_put _ _ _ _ _ title days) c.put_token.ensures) rows)
+    c.put_token-2.ensures

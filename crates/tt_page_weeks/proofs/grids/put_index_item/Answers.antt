@@ -11,11 +11,16 @@ class_put : (c : goal.After-put_token-3) → c.put_token.new.out ≡ put_text c.
 class_put c = c.put_token.ensures
 
 -- the hue was written
-hue_put : (c : goal.After-put_token-3) → c.put_hue.new.out ≡ put_text c.put_token.new.out (hue_class (curriculum_of c.args.kind c.args.number))
+hue_put : (c : goal.After-put_token-3) → c.put_hue.new.out ≡ put_text c.put_token.new.out
+    (hue_class (curriculum_of c.args.kind c.args.number))
 hue_put c = rw c.curriculum_of.ensures at c.put_hue.ensures
 
 pub returns : goal.returns
 unfolding index_item
 returns c =
     let first = c.args.out.now in
-    then_put first _ _ _ _ (then_put first _ _ _ _ (then_put first _ _ _ _ (then_put first _ _ (codes "<li class=\"week") _ (class_put c) (hue_put c)) c.put_token-2.ensures) c.put_week_link.ensures) c.put_token-3.ensures
+    then_put first _ _ _ _
+    (then_put first _ _ _ _
+    (then_put first _ _ _ _
+    (then_put first _ _
+    (codes "<li class=\"week") _ (class_put c) (hue_put c)) c.put_token-2.ensures) c.put_week_link.ensures) c.put_token-3.ensures

@@ -8,4 +8,5 @@ returns c =
     let head = rw c.instance.ensures at c.put_section_head.ensures in
     let index = rw (c.instance-2.ensures, c.in_order-numbers.ensures.value) at c.put_index.ensures in
     let grids = rw c.in_order-numbers.ensures.value at c.put_grids.ensures in
-    then_put _ _ _ _ _ (then_put _ _ _ _ _ (then_put _ _ _ _ _ (then_put _ _ _ _ _ head index) c.put_token.ensures) grids) c.put_token-2.ensures
+    then_put _ _ _ _ _ (then_put _ _ _ _ _ (then_put _ _ _ _ _ (then_put _ _ _ _ _ head index) c.put_token.ensures) grids)
+    c.put_token-2.ensures

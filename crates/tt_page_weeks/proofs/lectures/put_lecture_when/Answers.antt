@@ -14,4 +14,6 @@ unfolding lecture_when
 returns c =
     let first = c.args.out.now in
     let middle = c.put_when.new.out in
-    then_put first middle _ _ _ (then_put first c.put_token.new.out middle (codes "\"><span class=\"when\">") _ (head_put c) c.put_when.ensures) c.put_token-2.ensures
+    then_put first middle _ _ _
+    (then_put first c.put_token.new.out middle
+    (codes "\"><span class=\"when\">") _ (head_put c) c.put_when.ensures) c.put_token-2.ensures

@@ -12,4 +12,5 @@ returns c =
     let e = c.args.entry.now in
     c.has_conflict_with.ensures
     ∙ ap (λ (q : Problem). list_any (λ x. conflict q x.course e.course) c.in_period-others.result) c.instance-instance.ensures
-    ∙ any_in_group (is_at (slot e.day e.period)) (λ x. conflict p x.course e.course) c.args.plan.now.table c.in_period-others.result c.in_period-others.ensures.group
+    ∙ any_in_group (is_at (slot e.day e.period)) (λ x. conflict p x.course e.course) c.args.plan.now.table c.in_period-others.result
+    c.in_period-others.ensures.group

@@ -8,4 +8,5 @@ pub returns : goal.returns
 returns c =
     let e = c.args.entry.now in
     ap (nat_lt 1)
-    (c.count_of-count.ensures ∙ count_in_group (is_at (slot e.day e.period)) (is_of e.course) c.args.plan.now.table c.in_period-others.result c.in_period-others.ensures.group)
+    (c.count_of-count.ensures ∙ count_in_group (is_at (slot e.day e.period))
+    (is_of e.course) c.args.plan.now.table c.in_period-others.result c.in_period-others.ensures.group)

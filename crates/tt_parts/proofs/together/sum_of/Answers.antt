@@ -14,7 +14,8 @@ returns-in-Ok-clause-found c =
     let proofs = c.args.proofs.now in
     let all : take c.loop-proof.proof-index proofs ≡ proofs = take_all c.loop-proof.proof-index proofs (omega arith) in
     let given = subst (λ l. AllZip Gives c.loop-proof.sources.items (texts_of l)) all c.loop-proof.invariant in
-    c.in-Ok.ensures.found (texts_of proofs) (subst (λ (l : List (Peeked Cut)). AllZip Gives l (texts_of proofs)) (sym c.as_mut_slice.ensures.value) given)
+    c.in-Ok.ensures.found (texts_of proofs) (subst (λ (l : List (Peeked Cut)). AllZip Gives l (texts_of proofs))
+    (sym c.as_mut_slice.ensures.value) given)
 
 pub loop-proof-preserved : goal.loop-proof-preserved
 loop-proof-preserved c =

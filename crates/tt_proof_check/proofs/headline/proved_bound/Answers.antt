@@ -13,7 +13,9 @@ returns-in_err-bound-clause-only g c =
 
 pub returns-in_err-bound-clause-up_to_failed_read : goal.returns-in_err-bound-clause-up_to_failed_read
 returns-in_err-bound-clause-up_to_failed_read g c =
-    λ reported. c.in_err-bound.ensures.up_to_failed_read (ap (λ f. Err f) (read_checked c.in_err-bound.field-0.0 (err_same c.from_residual.result _ read_failed c.from_residual.ensures.1 reported)))
+    λ reported. c.in_err-bound.ensures.up_to_failed_read
+    (ap (λ f. Err f)
+    (read_checked c.in_err-bound.field-0.0 (err_same c.from_residual.result _ read_failed c.from_residual.ensures.1 reported)))
 
 pub returns-in_err-bound-clause-memory : goal.returns-in_err-bound-clause-memory
 returns-in_err-bound-clause-memory g c =

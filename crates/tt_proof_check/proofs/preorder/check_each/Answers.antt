@@ -13,7 +13,8 @@ returns-in-Err-Rule-clause-fault g c =
     let p = g.P.Path.problem c.args.path.now in
     let n = c.index-nodes-i.result in
     let e = rw c.in-Err-Rule.field-0-is at c.in-Err-Rule.ensures in
-    rw c.in-Err-Rule.field-0-is (midway_fails p c.args.bound nodes c.requires.tree i n inside c.index-nodes-i.is path c.loop-i.invariant.walked c.in-Err-Rule.fault
+    rw c.in-Err-Rule.field-0-is
+    (midway_fails p c.args.bound nodes c.requires.tree i n inside c.index-nodes-i.is path c.loop-i.invariant.walked c.in-Err-Rule.fault
     (subst (λ q. Stops q c.args.bound path n (Rule c.in-Err-Rule.fault)) c.loop-i.invariant.same_problem e.stops))
 
 pub returns-in-Err-TooDeep-clause-fault : goal.returns-in-Err-TooDeep-clause-fault
@@ -46,4 +47,5 @@ loop-i-preserved g c =
 pub returns-clause-derived : goal.returns-clause-derived
 returns-clause-derived g c =
     let past : length c.args.nodes.now ≤ c.loop-i.i = omega arith in
-    midway_end (g.P.Path.problem c.args.path.now) c.args.bound c.args.nodes.now c.requires.tree c.loop-i.i past (g.P.Path.facts c.loop-i.path) c.loop-i.invariant.walked
+    midway_end (g.P.Path.problem c.args.path.now) c.args.bound c.args.nodes.now c.requires.tree c.loop-i.i past
+    (g.P.Path.facts c.loop-i.path) c.loop-i.invariant.walked

@@ -8,7 +8,8 @@ use Rattle.tt_proof_check.proofs.preorder.check_nodes.Goals as goal
 
 pub returns-clause-only : goal.returns-clause-only
 returns-clause-only c =
-    subst (λ (p : Problem). Proves p c.args.bound c.args.nodes.now → IsOkUnless c.check_each.result OutOfMemory) c.in_ok-path.ensures.problem
+    subst (λ (p : Problem). Proves p c.args.bound c.args.nodes.now → IsOkUnless c.check_each.result OutOfMemory)
+    c.in_ok-path.ensures.problem
     (checked_only c.in_ok-path.path.problem c.args.bound c.args.nodes.now c.check_each.result c.check_each.ensures.fault)
 
 pub returns-clause-holds : goal.returns-clause-holds

@@ -46,7 +46,8 @@ returns-clause-proved g c =
     let checked = c.in_ok-check_tree.ensures in
     let known = is_some (g.R.Source.remaining c.args.source.now) in
     let s = stream_at fresh (g.R.Source.remaining c.args.source.now) in
-    subst (λ (b : Bound). Proved (g.P.Path.problem c.args.path.now) known (Visited g.L.NodeVisitor.visits 0 c.args.visitor.now c.check_tree.new.visitor) s b) (sym c.bound-bound.ensures) (record {
+    subst (λ (b : Bound). Proved (g.P.Path.problem c.args.path.now) known
+    (Visited g.L.NodeVisitor.visits 0 c.args.visitor.now c.check_tree.new.visitor) s b) (sym c.bound-bound.ensures) (record {
       version = reader.version;
       tree = checked.checked.tree;
       reads = λ k. record {
@@ -67,7 +68,8 @@ returns-in_err-check_tree-clause-up_to_failed_read g c =
     λ reported k.
     let reader = c.in_ok-reader.reader in
     let start = c.in_ok-reader.ensures in
-    let is = err_same c.from_residual-in_err-check_tree.result c.in_err-check_tree.field-0.0 (Text read_failed) c.from_residual-in_err-check_tree.ensures.1 reported in
+    let is = err_same c.from_residual-in_err-check_tree.result c.in_err-check_tree.field-0.0
+    (Text read_failed) c.from_residual-in_err-check_tree.ensures.1 reported in
     let here = c.in_err-check_tree.ensures.up_to_failed_read (ap (λ x. Err x) is) (start.known k) in
     let first = start.cut_short k _ here.0 in
     (first.0, inr (reader.version, reader.bound, _, first.1, inl here.1))
@@ -90,7 +92,14 @@ returns-in_err-finish-clause-up_to_failed_read g c =
         _,
         first.1,
         inr (
-          record { tree = tree.1.tree; rest = _; reads = tree.1.reads refl; shallow = tree.1.shallow; derives = tree.1.derives; fails = tt },
+          record {
+            tree = tree.1.tree;
+            rest = _;
+            reads = tree.1.reads refl;
+            shallow = tree.1.shallow;
+            derives = tree.1.derives;
+            fails = tt;
+          },
           here.1 ∙ ap (λ x. Err x) is,
         ),
       ),
@@ -113,11 +122,13 @@ returns-in_err-reader-clause-failed g c =
 
 pub returns-in_err-check_tree-clause-failed : goal.returns-in_err-check_tree-clause-failed
 returns-in_err-check_tree-clause-failed g c =
-    same_reads c.from_residual-in_err-check_tree.result c.in_err-check_tree.field-0.0 is_failed _ _ _ c.from_residual-in_err-check_tree.ensures.1 c.in_err-check_tree.ensures.failed c.in_ok-reader.ensures.failed
+    same_reads c.from_residual-in_err-check_tree.result c.in_err-check_tree.field-0.0 is_failed _ _ _
+    c.from_residual-in_err-check_tree.ensures.1 c.in_err-check_tree.ensures.failed c.in_ok-reader.ensures.failed
 
 pub returns-in_err-finish-clause-failed : goal.returns-in_err-finish-clause-failed
 returns-in_err-finish-clause-failed g c =
     let checked = c.in_ok-check_tree.ensures in
     let e = c.in_err-finish.ensures in
-    err_reads c.from_residual-in_err-finish.result c.in_err-finish.field-0.0 _ _ _ c.from_residual-in_err-finish.ensures.1 (e.failed checked.sound)
+    err_reads c.from_residual-in_err-finish.result c.in_err-finish.field-0.0 _ _ _ c.from_residual-in_err-finish.ensures.1
+    (e.failed checked.sound)
     (checked.failed ∙ c.in_ok-reader.ensures.failed)

@@ -20,11 +20,15 @@ pub loop-node-init : goal.loop-node-init
 loop-node-init g c =
     let r = c.requires in
     record {
-      sofar = sofar_start (g.P.Path.problem c.args.path.now) c.args.reader.now.bound (is_some (g.R.Source.remaining c.args.source.now)) (Visited g.L.NodeVisitor.visits 0 c.args.visitor.now c.args.visitor.now)
-          (stream_at c.args.reader.now.fed (g.R.Source.remaining c.args.source.now)) c.args.reader.now (g.P.Path.facts c.args.path.now) r.root r.unread r.place r.sizes r.sound refl;
+      sofar = sofar_start (g.P.Path.problem c.args.path.now) c.args.reader.now.bound (is_some (g.R.Source.remaining c.args.source.now))
+          (Visited g.L.NodeVisitor.visits 0 c.args.visitor.now c.args.visitor.now)
+          (stream_at c.args.reader.now.fed (g.R.Source.remaining c.args.source.now)) c.args.reader.now
+          (g.P.Path.facts c.args.path.now) r.root r.unread r.place r.sizes r.sound refl;
       failing = λ k rest m. (
         m,
-        sofar_start (g.P.Path.problem c.args.path.now) c.args.reader.now.bound true Unvisited (cut_at rest c.args.reader.now.fed (g.R.Source.remaining c.args.source.now)) c.args.reader.now (g.P.Path.facts c.args.path.now) r.root r.unread r.place r.sizes r.sound tt,
+        sofar_start (g.P.Path.problem c.args.path.now) c.args.reader.now.bound true Unvisited
+            (cut_at rest c.args.reader.now.fed (g.R.Source.remaining c.args.source.now)) c.args.reader.now
+            (g.P.Path.facts c.args.path.now) r.root r.unread r.place r.sizes r.sound tt,
       );
       problem = refl;
       count = sym r.unread;
@@ -38,8 +42,14 @@ take-requires g c = λ κs.
     let e = rw c.in-Some.is at c.in_ok-node.ensures in
     let inv = c.loop-node.invariant in
     let p = g.P.Path.problem c.args.path.now in
-    let n = c.in-Some.node in
-    ((refl, tt), (subst (λ (q : Problem). IsNodeOf q n) (sym inv.problem) (node_numbers p c.loop-node.reader.version n (e.node p inv.sofar.sizes)), inv.sofar.walked.within))
+    let n = c.in-Some.node in (
+      (refl, tt),
+      (
+        subst (λ (q : Problem). IsNodeOf q n) (sym inv.problem)
+            (node_numbers p c.loop-node.reader.version n (e.node p inv.sofar.sizes)),
+        inv.sofar.walked.within,
+      ),
+    )
 
 pub loop-node-preserved : goal.loop-node-preserved
 loop-node-preserved g c =
@@ -60,13 +70,17 @@ loop-node-preserved g c =
     let goes = e.state inv.sofar.sound in
     let count : old.count + 1 ≡ new.count = ap (λ (r : Reader). r.count) (sym goes.1) in
     record {
-      sofar = sofar_next p v b known _ s old t path inv.sofar new u n goes (λ k. e.read inv.sofar.sound (inv.known k)) _ (λ nodes long visited. visited_push g.L.NodeVisitor.visits 0 c.args.visitor.now c.loop-node.visitor c.visit.new.self c.loop-node.count n c.visit.ensures nodes (omega (arith, long, inv.count)) visited) next
+      sofar = sofar_next p v b known _ s old t path inv.sofar new u n goes (λ k. e.read inv.sofar.sound (inv.known k)) _
+          (λ nodes long visited. visited_push g.L.NodeVisitor.visits 0 c.args.visitor.now c.loop-node.visitor c.visit.new.self
+          c.loop-node.count n c.visit.ensures nodes (omega (arith, long, inv.count)) visited) next
           (steps_as _ p c.bound-bound.result b path n next inv.problem c.bound-bound.ensures c.in-Ok.ensures.steps) c.in-Ok.ensures.within;
       failing = λ k rest m.
           let here = e.cut_short inv.sofar.sound (inv.known k) rest m in
           let first = inv.failing k rest here.0 in (
             first.0,
-            sofar_next p v b true Unvisited _ old _ path first.1 new _ n goes (λ _. here.1) Unvisited (λ nodes long h. tt) next (steps_as _ p c.bound-bound.result b path n next inv.problem c.bound-bound.ensures c.in-Ok.ensures.steps) c.in-Ok.ensures.within,
+            sofar_next p v b true Unvisited _ old _ path first.1 new _ n goes (λ _. here.1) Unvisited (λ nodes long h. tt) next
+                (steps_as _ p c.bound-bound.result b path n next inv.problem c.bound-bound.ensures c.in-Ok.ensures.steps)
+                c.in-Ok.ensures.within,
           );
       problem = c.in-Ok.ensures.unchanged ∙ inv.problem;
       count = omega (arith, count, inv.count);
@@ -112,7 +126,8 @@ returns-in-Err-Rule-clause-fault g c =
     let path = g.P.Path.facts c.loop-node.path in
     let new = c.next_node.new.self in
     let u = stream_at new.fed (g.R.Source.remaining c.next_node.new.source) in
-    rw c.in-Err-Rule.field-0-is (sofar_wrong p v b known _ s old t path inv.sofar new u n (e.state inv.sofar.sound) (λ j. e.read inv.sofar.sound (inv.known j)) c.loop-node.count f inv.count
+    rw c.in-Err-Rule.field-0-is (sofar_wrong p v b known _ s old t path inv.sofar new u n (e.state inv.sofar.sound)
+    (λ j. e.read inv.sofar.sound (inv.known j)) c.loop-node.count f inv.count
     (stops_as _ p c.bound-bound.result b path n (Rule f) inv.problem c.bound-bound.ensures taken.stops) k)
 
 pub returns-in-Err-TooDeep-clause-known : goal.returns-in-Err-TooDeep-clause-known
@@ -137,8 +152,10 @@ returns-in-Err-TooDeep-clause-fault g c =
     let path = g.P.Path.facts c.loop-node.path in
     let new = c.next_node.new.self in
     let u = stream_at new.fed (g.R.Source.remaining c.next_node.new.source) in
-    sofar_deep p v b known _ s old t path inv.sofar new u n (e.state inv.sofar.sound) (λ j. e.read inv.sofar.sound (inv.known j)) c.loop-node.count c.deep_fault.result inv.count
-    (stops_as _ p c.bound-bound.result b path n TooDeep inv.problem c.bound-bound.ensures taken.stops) k (c.deep_fault.ensures.fault (e.known (inv.known k)))
+    sofar_deep p v b known _ s old t path inv.sofar new u n (e.state inv.sofar.sound)
+    (λ j. e.read inv.sofar.sound (inv.known j)) c.loop-node.count c.deep_fault.result inv.count
+    (stops_as _ p c.bound-bound.result b path n TooDeep inv.problem c.bound-bound.ensures taken.stops) k
+    (c.deep_fault.ensures.fault (e.known (inv.known k)))
 
 pub returns-clause-checked : goal.returns-clause-checked
 returns-clause-checked g c =
@@ -186,7 +203,8 @@ returns-in-Err-TooDeep-clause-up_to_failed_read g c =
     let here = e.cut_short inv.sofar.sound (inv.known k) _ child.0 in
     let first = inv.failing k _ here.0 in (
       first.0,
-      sofar_deep_breaks p _ b true Unvisited _ old _ path first.1 new _ n (e.state inv.sofar.sound) (λ _. here.1) (stops_as _ p c.bound-bound.result b path n TooDeep inv.problem c.bound-bound.ensures taken.stops) refl child.1,
+      sofar_deep_breaks p _ b true Unvisited _ old _ path first.1 new _ n (e.state inv.sofar.sound) (λ _. here.1)
+          (stops_as _ p c.bound-bound.result b path n TooDeep inv.problem c.bound-bound.ensures taken.stops) refl child.1,
     )
 
 pub returns-clause-cut_short : goal.returns-clause-cut_short

@@ -23,10 +23,15 @@ pub loop-claims-preserved : goal.loop-claims-preserved
 loop-claims-preserved g c =
     let is_claim = rw c.in-Some.is at c.in_ok-claim.ensures.within in
     record {
-      read = rw c.in_ok-push.ensures.items (underway_then _ _ _ (claim_takes c.args.sizes c.args.version) _ _ _ _ c.in_ok-claim.field-0 c.in-Some.claim c.in-Some.is c.loop-claims.invariant.read c.in_ok-claim.ensures.read);
+      read = rw c.in_ok-push.ensures.items
+          (underway_then _ _ _ (claim_takes c.args.sizes c.args.version) _ _ _ _ c.in_ok-claim.field-0 c.in-Some.claim c.in-Some.is
+          c.loop-claims.invariant.read c.in_ok-claim.ensures.read);
       tables = c.in_ok-claim.ensures.tables;
-      within = rw c.in_ok-push.ensures.items (All-push (IsClaimAt c.args.sizes c.args.version) c.loop-claims.claims.items c.in-Some.claim c.loop-claims.invariant.within is_claim);
+      within = rw c.in_ok-push.ensures.items
+          (All-push (IsClaimAt c.args.sizes c.args.version) c.loop-claims.claims.items c.in-Some.claim c.loop-claims.invariant.within
+          is_claim);
     }
 
 pub returns-clause-read : goal.returns-clause-read
-returns-clause-read g c = underway_end _ _ _ _ c.loop-claims.claims _ _ _ _ c.in_ok-claim.field-0 refl c.in_default.is c.loop-claims.invariant.read c.in_ok-claim.ensures.read
+returns-clause-read g c = underway_end _ _ _ _ c.loop-claims.claims _ _ _ _ c.in_ok-claim.field-0 refl c.in_default.is
+    c.loop-claims.invariant.read c.in_ok-claim.ensures.read

@@ -7,7 +7,12 @@ pub returns-in-Ok-None-clause-read : goal.returns-in-Ok-None-clause-read
 unfolding end_at
 returns-in-Ok-None-clause-read g c =
     let ended = rw c.in-Ok-None.field-0-is at c.in-Ok-None.ensures in
-    record { known = search rules; failed = search rules; gives = search rules; cut_short = λ k rest m. absurd (ended.cut_short (c.in_ok-read_word.ensures.read.known k) rest m) }
+    record {
+      known = search rules;
+      failed = search rules;
+      gives = search rules;
+      cut_short = λ k rest m. absurd (ended.cut_short (c.in_ok-read_word.ensures.read.known k) rest m);
+    }
 
 pub returns-in-Err-clause-read : goal.returns-in-Err-clause-read
 unfolding end_at

@@ -29,11 +29,15 @@ loop-course-preserved g c =
     let new = rw c.in-Some.is at c.in_ok-course.ensures.new in
     let added = ap (λ (l : Listed). l.numbers) c.in_ok-add.ensures.ok in
     record {
-      read = rw added (underway_then _ _ _ (listed_takes c.args.sizes) _ _ _ _ c.in_ok-course.field-0 c.in-Some.course c.in-Some.is c.loop-course.invariant.read c.in_ok-course.ensures.read);
-      within = rw added (All-push (λ n. n < c.args.sizes.courses) c.loop-course.seen.numbers c.in-Some.course c.loop-course.invariant.within below);
+      read = rw added
+          (underway_then _ _ _ (listed_takes c.args.sizes) _ _ _ _ c.in_ok-course.field-0 c.in-Some.course c.in-Some.is
+          c.loop-course.invariant.read c.in_ok-course.ensures.read);
+      within = rw added
+          (All-push (λ n. n < c.args.sizes.courses) c.loop-course.seen.numbers c.in-Some.course c.loop-course.invariant.within below);
       once = rw added (each_two_push (λ a b. a == b) c.loop-course.seen.numbers c.in-Some.course c.loop-course.invariant.once new);
       count = ap (λ (l : Listed). l.count) c.in_ok-add.ensures.ok ∙ c.loop-course.invariant.count;
     }
 
 pub returns-clause-read : goal.returns-clause-read
-returns-clause-read g c = underway_end _ _ _ _ c.in_ok-courses.courses _ _ _ _ c.in_ok-course.field-0 c.in_ok-courses.ensures c.in_default.is c.loop-course.invariant.read c.in_ok-course.ensures.read
+returns-clause-read g c = underway_end _ _ _ _ c.in_ok-courses.courses _ _ _ _ c.in_ok-course.field-0 c.in_ok-courses.ensures
+    c.in_default.is c.loop-course.invariant.read c.in_ok-course.ensures.read

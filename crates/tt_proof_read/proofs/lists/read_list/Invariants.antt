@@ -11,7 +11,8 @@ use Rattle.tt_proof_read.proofs.lists.read_list.Given as goal
 
 abbrev pub invariant-loop-course : goal.invariant-loop-course
 invariant-loop-course g l = record {
-  read : IsUnderway push (listed_at l.sizes) (list_at l.sizes) (state_of g.R.Source l.fn.feed l.fn.source) (state_of g.R.Source l.feed l.source) l.seen.numbers;
+  read : IsUnderway push (listed_at l.sizes) (list_at l.sizes) (state_of g.R.Source l.fn.feed l.fn.source)
+      (state_of g.R.Source l.feed l.source) l.seen.numbers;
   within : AreBelow l.sizes.courses l.seen.numbers;
   once : each_two (λ a b. not (a == b)) l.seen.numbers ≡ true;
   count : l.seen.count ≡ l.fn.seen.count;

@@ -8,7 +8,8 @@ use Rattle.tt_proof_read.proofs.prices.read_prices.Given as goal
 
 abbrev pub invariant-loop-prices : goal.invariant-loop-prices
 invariant-loop-prices g l = record {
-  read : IsUnderway with_pair (next_pair_at l.sizes) (prices_at l.sizes) (state_of g.R.Source l.fn.feed l.fn.source) (state_of g.R.Source l.feed l.source) (price_lists_of l.prices);
+  read : IsUnderway with_pair (next_pair_at l.sizes) (prices_at l.sizes) (state_of g.R.Source l.fn.feed l.fn.source)
+      (state_of g.R.Source l.feed l.source) (price_lists_of l.prices);
   forward : room_of l.feed ≤ room_of l.fn.feed;
   tables : AreTables l.sizes l.tables;
   seen : seen_of l.tables ≡ seen_in (price_lists_of l.prices);

@@ -20,10 +20,17 @@ loop-node-preserved c =
     let i = c.loop-node.node-index in
     let places = c.loop-node.places in
     let more = open_more nodes i places c.node-item.result c.loop-node-test.true c.node-item.is c.if-places-eq0.false in
-    let next = λ (e : c.match-node.places ≡ places_after c.node-item.result places). c.loop-node.invariant.0 ∙ more ∙ ap (λ n. open_after n (drop (i + 1) nodes)) (sym e) in
+    let next = λ (e : c.match-node.places ≡ places_after c.node-item.result places). c.loop-node.invariant.0 ∙ more
+    ∙ ap (λ n. open_after n (drop (i + 1) nodes)) (sym e) in
     elim c.match-node.branch [
-      | in-Split w ↦ (next (w.places-is ∙ ap (λ (x : Node). places_after x places) (sym w.in-Split.is)), omega (arith, w.places-is, c.loop-node.invariant.1))
-      | in-Leaf w ↦ (next (w.places-is ∙ ap (λ (x : Node). places_after x places) (sym w.in-Leaf.is)), omega (arith, w.places-is, c.loop-node.invariant.1))
+      | in-Split w ↦ (
+        next (w.places-is ∙ ap (λ (x : Node). places_after x places) (sym w.in-Split.is)),
+        omega (arith, w.places-is, c.loop-node.invariant.1),
+      )
+      | in-Leaf w ↦ (
+        next (w.places-is ∙ ap (λ (x : Node). places_after x places) (sym w.in-Leaf.is)),
+        omega (arith, w.places-is, c.loop-node.invariant.1),
+      )
     ]
 
 pub returns : goal.returns

@@ -19,13 +19,15 @@ returns-in-Err-clause-up_to_failed_read g c =
     λ reported bytes known.
     let e = c.in-Err.ensures in
     header_cut c.args.instance.now (g.R.Source.remaining c.args.source.now) (g.R.Source.remaining c.new.new.source) c.in-Err.fault
-    (reported_failed c.fault_of_text.result c.proof-file.result c.args.table.now.proof c.in-Err.fault c.fault_of_text.ensures c.proof-file.ensures reported) e.known e.cut_short bytes known
+    (reported_failed c.fault_of_text.result c.proof-file.result c.args.table.now.proof c.in-Err.fault c.fault_of_text.ensures
+    c.proof-file.ensures reported) e.known e.cut_short bytes known
 
 pub loop-claim-init : goal.loop-claim-init
 loop-claim-init g c =
     let e = c.in-Ok.ensures in
     record {
-      under = underway_start c.args.instance.now (g.R.Source.remaining c.args.source.now) (g.R.Source.remaining c.new.new.source) c.args.table.now c.in-Ok.reader e.known e.read e.cut_short e.start e.sizes;
+      under = underway_start c.args.instance.now (g.R.Source.remaining c.args.source.now)
+          (g.R.Source.remaining c.new.new.source) c.args.table.now c.in-Ok.reader e.known e.read e.cut_short e.start e.sizes;
       calm = e.failed;
     }
 
@@ -42,11 +44,14 @@ returns-in-Ok-None-clause-joins g c =
     let is : c.next_group.result ≡ Ok None = c.in-Ok-None.is ∙ ap (λ (x : Option GroupClaim). Ok x) c.in-Ok-None.field-0-is in
     let goes = subst (λ (x : Result (Option GroupClaim) TextFault). IsReaderAfter r x after) is (e.state u.sound) in
     let bound_is : c.bound.result ≡ r.bound = c.bound.ensures ∙ ap (λ (x : Reader). x.bound) goes in
-    let finish = reading_end p c.days.ensures.instance start c.args.table.now r now c.loop-claim.table c.loop-claim.number c.loop-claim.total u after later e.known
-    (λ k. subst (λ (x : Result (Option GroupClaim) TextFault). IsReadingOf r (stream_at r.fed now) x (stream_at after.fed later)) is (e.read u.sound k)) in
+    let finish = reading_end p c.days.ensures.instance start c.args.table.now r now c.loop-claim.table c.loop-claim.number
+    c.loop-claim.total u after later e.known
+    (λ k. subst (λ (x : Result (Option GroupClaim) TextFault). IsReadingOf r (stream_at r.fed now) x (stream_at after.fed later)) is
+    (e.read u.sound k)) in
     reached_ok c.reached.result c.proof-file.result c.loop-claim.total c.bound.result _ c.reached.ensures
     (λ enough before parts known of begins kept kind.
-    rw bound_is (joins p c.days.ensures.instance start c.args.table.now r now c.loop-claim.table c.loop-claim.number c.loop-claim.total u parts before of begins known kept kind later after finish (omega (arith, enough, bound_is))))
+    rw bound_is (joins p c.days.ensures.instance start c.args.table.now r now c.loop-claim.table c.loop-claim.number c.loop-claim.total
+    u parts before of begins known kept kind later after finish (omega (arith, enough, bound_is))))
 
 pub returns-in-Ok-None-clause-fault : goal.returns-in-Ok-None-clause-fault
 returns-in-Ok-None-clause-fault g c =
@@ -61,11 +66,15 @@ returns-in-Ok-None-clause-fault g c =
     let is : c.next_group.result ≡ Ok None = c.in-Ok-None.is ∙ ap (λ (x : Option GroupClaim). Ok x) c.in-Ok-None.field-0-is in
     let goes = subst (λ (x : Result (Option GroupClaim) TextFault). IsReaderAfter r x after) is (e.state u.sound) in
     let bound_is : c.bound.result ≡ r.bound = c.bound.ensures ∙ ap (λ (x : Reader). x.bound) goes in
-    let finish = reading_end p c.days.ensures.instance start c.args.table.now r now c.loop-claim.table c.loop-claim.number c.loop-claim.total u after later e.known
-    (λ k. subst (λ (x : Result (Option GroupClaim) TextFault). IsReadingOf r (stream_at r.fed now) x (stream_at after.fed later)) is (e.read u.sound k)) in
+    let finish = reading_end p c.days.ensures.instance start c.args.table.now r now c.loop-claim.table c.loop-claim.number
+    c.loop-claim.total u after later e.known
+    (λ k. subst (λ (x : Result (Option GroupClaim) TextFault). IsReadingOf r (stream_at r.fed now) x (stream_at after.fed later)) is
+    (e.read u.sound k)) in
     reached_err c.reached.result c.proof-file.result c.loop-claim.total c.bound.result _ c.reached.ensures
     (λ below before parts bytes of begins known kind.
-    cheap_fault p c.days.ensures.instance start c.args.table.now r now c.loop-claim.table c.loop-claim.number c.loop-claim.total u parts before of begins bytes known kind later after finish (omega (arith, below, bound_is)) (let small = c.bound.type_inv in omega (arith, small, bound_is)))
+    cheap_fault p c.days.ensures.instance start c.args.table.now r now c.loop-claim.table c.loop-claim.number c.loop-claim.total u parts
+    before of begins bytes known kind later after finish (omega (arith, below, bound_is))
+    (let small = c.bound.type_inv in omega (arith, small, bound_is)))
 
 pub returns-in-Err-next_group-clause-fault : goal.returns-in-Err-next_group-clause-fault
 returns-in-Err-next_group-clause-fault g c =
@@ -77,9 +86,12 @@ returns-in-Err-next_group-clause-fault g c =
     let u = c.loop-claim.invariant.under in
     let after = c.next_group.new.self in
     let later = g.R.Source.remaining c.next_group.new.source in
-    let says : is_some now ≡ true → IsReadingOf r (stream_at r.fed now) (Err c.in-Err-next_group.fault) (stream_at after.fed later) = λ k. subst (λ (x : Result (Option GroupClaim) TextFault). IsReadingOf r (stream_at r.fed now) x (stream_at after.fed later)) c.in-Err-next_group.is (c.next_group.ensures.read u.sound k) in
+    let says : is_some now ≡ true → IsReadingOf r (stream_at r.fed now) (Err c.in-Err-next_group.fault) (stream_at after.fed later) =
+    λ k. subst (λ (x : Result (Option GroupClaim) TextFault). IsReadingOf r (stream_at r.fed now) x (stream_at after.fed later))
+    c.in-Err-next_group.is (c.next_group.ensures.read u.sound k) in
     subst (λ (x : SumFault). ExplainsAdded p parts bytes x) (sym c.fault_of_text-in-Err-next_group.ensures)
-    (text_fault p c.days.ensures.instance start c.args.table.now r now c.loop-claim.table c.loop-claim.number c.loop-claim.total u after later c.in-Err-next_group.fault parts before of begins says bytes known kind c.proof-file.result)
+    (text_fault p c.days.ensures.instance start c.args.table.now r now c.loop-claim.table c.loop-claim.number c.loop-claim.total u after
+    later c.in-Err-next_group.fault parts before of begins says bytes known kind c.proof-file.result)
 
 pub returns-in-Err-next_group-clause-up_to_failed_read : goal.returns-in-Err-next_group-clause-up_to_failed_read
 returns-in-Err-next_group-clause-up_to_failed_read g c =
@@ -91,9 +103,12 @@ returns-in-Err-next_group-clause-up_to_failed_read g c =
     let u = c.loop-claim.invariant.under in
     let after = c.next_group.new.self in
     let later = g.R.Source.remaining c.next_group.new.source in
-    let cut = subst (λ (x : Result (Option GroupClaim) TextFault). GroupAgreesWhenCut r now x after.fed later) c.in-Err-next_group.is (c.next_group.ensures.cut_short u.sound) in
-    claim_cut p c.days.ensures.instance start c.args.table.now r now c.loop-claim.table c.loop-claim.number c.loop-claim.total u after later c.in-Err-next_group.fault
-    (reported_failed c.fault_of_text-in-Err-next_group.result c.proof-file.result c.args.table.now.proof (Text c.in-Err-next_group.fault) c.fault_of_text-in-Err-next_group.ensures c.proof-file.ensures reported)
+    let cut = subst (λ (x : Result (Option GroupClaim) TextFault). GroupAgreesWhenCut r now x after.fed later) c.in-Err-next_group.is
+    (c.next_group.ensures.cut_short u.sound) in
+    claim_cut p c.days.ensures.instance start c.args.table.now r now c.loop-claim.table c.loop-claim.number c.loop-claim.total u after
+    later c.in-Err-next_group.fault
+    (reported_failed c.fault_of_text-in-Err-next_group.result c.proof-file.result c.args.table.now.proof
+    (Text c.in-Err-next_group.fault) c.fault_of_text-in-Err-next_group.ensures c.proof-file.ensures reported)
     c.next_group.ensures.known cut bytes known
 
 pub returns-in_err-take_claim-clause-fault : goal.returns-in_err-take_claim-clause-fault
@@ -109,13 +124,18 @@ returns-in_err-take_claim-clause-fault g c =
     let k = c.in-Ok-Some.claim in
     let is : c.next_group.result ≡ Ok (Some k) = c.in-Ok-Some.is ∙ ap (λ (x : Option GroupClaim). Ok x) c.in-Ok-Some.field-0-is in
     let claim = subst (λ (x : Result (Option GroupClaim) TextFault). IfOk x (λ o. IfSome o (IsClaimAt r.sizes))) is e.claim in
-    let says : is_some now ≡ true → IsReadingOf r (stream_at r.fed now) (Ok (Some k)) (stream_at after.fed later) = λ kn. subst (λ (x : Result (Option GroupClaim) TextFault). IsReadingOf r (stream_at r.fed now) x (stream_at after.fed later)) is (e.read u.sound kn) in
+    let says : is_some now ≡ true → IsReadingOf r (stream_at r.fed now) (Ok (Some k)) (stream_at after.fed later) =
+    λ kn. subst (λ (x : Result (Option GroupClaim) TextFault). IsReadingOf r (stream_at r.fed now) x (stream_at after.fed later)) is
+    (e.read u.sound kn) in
     let f = err_from_is_err_and c.from_residual.result c.from_residual.ensures.1 in
     rw (f.1, f.2) (λ before parts bytes of begins known kind.
     let kn : is_some start ≡ true = ap is_some known in
-    claim_fault p c.days.ensures.instance start c.args.table.now r now c.loop-claim.table c.loop-claim.number c.loop-claim.total u parts before of begins k
-    (claim_is p c.days.ensures.instance start c.args.table.now r now c.loop-claim.table c.loop-claim.number c.loop-claim.total u k claim) kn (stream_at after.fed later)
-    (reading_claim p c.days.ensures.instance start c.args.table.now r now c.loop-claim.table c.loop-claim.number c.loop-claim.total u after later e.known k says kn) bytes known kind c.in_err-take_claim.field-0.0
+    claim_fault p c.days.ensures.instance start c.args.table.now r now c.loop-claim.table c.loop-claim.number c.loop-claim.total u parts
+    before of begins k
+    (claim_is p c.days.ensures.instance start c.args.table.now r now c.loop-claim.table c.loop-claim.number c.loop-claim.total u k
+    claim) kn (stream_at after.fed later)
+    (reading_claim p c.days.ensures.instance start c.args.table.now r now c.loop-claim.table c.loop-claim.number c.loop-claim.total u
+    after later e.known k says kn) bytes known kind c.in_err-take_claim.field-0.0
     c.in_err-take_claim.ensures.fault)
 
 pub loop-claim-preserved : goal.loop-claim-preserved
@@ -133,11 +153,15 @@ loop-claim-preserved g c =
     let is : c.next_group.result ≡ Ok (Some k) = c.in-Ok-Some.is ∙ ap (λ (x : Option GroupClaim). Ok x) c.in-Ok-Some.field-0-is in
     let goes = subst (λ (x : Result (Option GroupClaim) TextFault). IsReaderAfter r x after) is (e.state u.sound) in
     let claim = subst (λ (x : Result (Option GroupClaim) TextFault). IfOk x (λ o. IfSome o (IsClaimAt r.sizes))) is e.claim in
-    let forward = subst (λ (x : Result (Option GroupClaim) TextFault). IfOk x (λ o. IfSome o (λ _. room_of after.fed < room_of r.fed))) is e.forward in
-    let says : is_some now ≡ true → IsReadingOf r (stream_at r.fed now) (Ok (Some k)) (stream_at after.fed later) = λ kn. subst (λ (x : Result (Option GroupClaim) TextFault). IsReadingOf r (stream_at r.fed now) x (stream_at after.fed later)) is (e.read u.sound kn) in
+    let forward = subst (λ (x : Result (Option GroupClaim) TextFault). IfOk x (λ o. IfSome o (λ _. room_of after.fed < room_of r.fed)))
+    is e.forward in
+    let says : is_some now ≡ true → IsReadingOf r (stream_at r.fed now) (Ok (Some k)) (stream_at after.fed later) =
+    λ kn. subst (λ (x : Result (Option GroupClaim) TextFault). IsReadingOf r (stream_at r.fed now) x (stream_at after.fed later)) is
+    (e.read u.sound kn) in
     let cut = subst (λ (x : Result (Option GroupClaim) TextFault). GroupAgreesWhenCut r now x after.fed later) is (e.cut_short u.sound) in
     record {
-      under = underway_more p c.days.ensures.instance start c.args.table.now r now c.loop-claim.table c.loop-claim.number c.loop-claim.total u after later e.known c.take_claim.new.table k (c.loop-claim.number + 1) c.saturating_add-total.result
+      under = underway_more p c.days.ensures.instance start c.args.table.now r now c.loop-claim.table c.loop-claim.number
+          c.loop-claim.total u after later e.known c.take_claim.new.table k (c.loop-claim.number + 1) c.saturating_add-total.result
           goes forward says cut claim taken.free taken.marks taken.holds c.requires refl c.saturating_add-total.ensures;
       calm = result_reads c.next_group.result (Ok (Some k)) is_failed_read _ _ is (e.failed u.sound) ∙ c.loop-claim.invariant.calm;
     }
@@ -146,7 +170,8 @@ pub returns-in-Err-clause-failed : goal.returns-in-Err-clause-failed
 returns-in-Err-clause-failed g c =
     let e = c.in-Err.ensures in
     let f = c.in-Err.fault in
-    reported_reads c.fault_of_text.result c.proof-file.result c.args.table.now.proof f _ _ c.fault_of_text.ensures c.proof-file.ensures e.failed
+    reported_reads c.fault_of_text.result c.proof-file.result c.args.table.now.proof f _ _ c.fault_of_text.ensures c.proof-file.ensures
+    e.failed
 
 pub returns-in-Err-next_group-clause-failed : goal.returns-in-Err-next_group-clause-failed
 returns-in-Err-next_group-clause-failed g c =
@@ -154,23 +179,31 @@ returns-in-Err-next_group-clause-failed g c =
     let t = c.in-Err-next_group.fault in
     let u = c.loop-claim.invariant.under in
     let is = c.in-Err-next_group.is in
-    reported_reads c.fault_of_text-in-Err-next_group.result c.proof-file.result c.args.table.now.proof (Text t) _ _ c.fault_of_text-in-Err-next_group.ensures c.proof-file.ensures
-    (result_reads c.next_group.result (Err t) is_failed_read _ _ is (e.failed u.sound) ∙ ap (λ (b : Bool). if is_failed_read t then true else b) c.loop-claim.invariant.calm)
+    reported_reads c.fault_of_text-in-Err-next_group.result c.proof-file.result c.args.table.now.proof
+    (Text t) _ _ c.fault_of_text-in-Err-next_group.ensures c.proof-file.ensures
+    (result_reads c.next_group.result (Err t) is_failed_read _ _ is (e.failed u.sound)
+    ∙ ap (λ (b : Bool). if is_failed_read t then true else b) c.loop-claim.invariant.calm)
 
 pub returns-in_err-take_claim-clause-failed : goal.returns-in_err-take_claim-clause-failed
 returns-in_err-take_claim-clause-failed g c =
     let f = c.in_err-take_claim.field-0.0 in
     let u = c.loop-claim.invariant.under in
     let before = g.R.Source.has_failed c.args.source.now in
-    let is : c.next_group.result ≡ Ok (Some c.in-Ok-Some.claim) = c.in-Ok-Some.is ∙ ap (λ (x : Option GroupClaim). Ok x) c.in-Ok-Some.field-0-is in
-    let calm = result_reads c.next_group.result (Ok (Some c.in-Ok-Some.claim)) is_failed_read _ _ is (c.next_group.ensures.failed u.sound) ∙ c.loop-claim.invariant.calm in
+    let is : c.next_group.result ≡ Ok (Some c.in-Ok-Some.claim) = c.in-Ok-Some.is
+    ∙ ap (λ (x : Option GroupClaim). Ok x) c.in-Ok-Some.field-0-is in
+    let calm = result_reads c.next_group.result (Ok (Some c.in-Ok-Some.claim)) is_failed_read _ _ is
+    (c.next_group.ensures.failed u.sound) ∙ c.loop-claim.invariant.calm in
     same_reads c.from_residual.result f (is_failed_read_at c.args.table.now.proof) before before _ c.from_residual.ensures.1
-    (calm ∙ ap (λ (b : Bool). if b then true else before) (sym (claim_read c.args.instance.now c.loop-claim.table c.loop-claim.number c.in-Ok-Some.claim c.args.table.now.proof f c.in_err-take_claim.ensures.fault))) refl
+    (calm ∙ ap (λ (b : Bool). if b then true else before)
+    (sym (claim_read c.args.instance.now c.loop-claim.table c.loop-claim.number c.in-Ok-Some.claim c.args.table.now.proof f
+    c.in_err-take_claim.ensures.fault))) refl
 
 pub returns-in-Ok-None-clause-failed : goal.returns-in-Ok-None-clause-failed
 returns-in-Ok-None-clause-failed g c =
     let u = c.loop-claim.invariant.under in
     let before = g.R.Source.has_failed c.args.source.now in
     let is : c.next_group.result ≡ Ok None = c.in-Ok-None.is ∙ ap (λ (x : Option GroupClaim). Ok x) c.in-Ok-None.field-0-is in
-    let calm = result_reads c.next_group.result (Ok None) is_failed_read _ _ is (c.next_group.ensures.failed u.sound) ∙ c.loop-claim.invariant.calm in
-    calm ∙ ap (λ (b : Bool). if b then true else before) (sym (reached_read c.reached.result c.proof-file.result c.args.table.now.proof c.loop-claim.total c.bound.result c.reached.ensures))
+    let calm = result_reads c.next_group.result (Ok None) is_failed_read _ _ is (c.next_group.ensures.failed u.sound)
+    ∙ c.loop-claim.invariant.calm in
+    calm ∙ ap (λ (b : Bool). if b then true else before)
+    (sym (reached_read c.reached.result c.proof-file.result c.args.table.now.proof c.loop-claim.total c.bound.result c.reached.ensures))

@@ -6,25 +6,29 @@ use Rattle.tt_proof_sum.proofs.one_more.take_file.Goals as goal
 pub returns-in-Ok-true-clause-joins : goal.returns-in-Ok-true-clause-joins
 returns-in-Ok-true-clause-joins g c =
     let here = c.in-Ok-true.ensures in
-    groups_joins c.args.instance.now (g.R.Source.remaining c.args.source.now) (g.R.Source.remaining c.peek_groups.new.self) here.bytes c.args.table.now c.begin.new.self c.begin.ensures c.take_groups.result c.take_groups.new.table
+    groups_joins c.args.instance.now (g.R.Source.remaining c.args.source.now) (g.R.Source.remaining c.peek_groups.new.self) here.bytes
+    c.args.table.now c.begin.new.self c.begin.ensures c.take_groups.result c.take_groups.new.table
     (λ bytes known. sym (here.groups bytes known) ∙ c.in-Ok-true.field-0-test) c.take_groups.ensures.joins
 
 pub returns-in-Ok-true-clause-fault : goal.returns-in-Ok-true-clause-fault
 returns-in-Ok-true-clause-fault g c =
     let here = c.in-Ok-true.ensures in
-    kind_fault c.args.instance.now (g.R.Source.remaining c.args.source.now) (g.R.Source.remaining c.peek_groups.new.self) here.bytes c.args.table.now c.begin.new.self c.begin.ensures c.take_groups.result c.take_groups.new.table _
+    kind_fault c.args.instance.now (g.R.Source.remaining c.args.source.now) (g.R.Source.remaining c.peek_groups.new.self) here.bytes
+    c.args.table.now c.begin.new.self c.begin.ensures c.take_groups.result c.take_groups.new.table _
     (λ bytes known. sym (here.groups bytes known) ∙ c.in-Ok-true.field-0-test) c.take_groups.ensures.fault
 
 pub returns-in-Ok-false-clause-joins : goal.returns-in-Ok-false-clause-joins
 returns-in-Ok-false-clause-joins g c =
     let here = c.in-Ok-false.ensures in
-    proof_joins c.args.instance.now (g.R.Source.remaining c.args.source.now) (g.R.Source.remaining c.peek_groups.new.self) here.bytes c.args.table.now c.begin.new.self c.begin.ensures c.take_proof.result c.take_proof.new.table
+    proof_joins c.args.instance.now (g.R.Source.remaining c.args.source.now) (g.R.Source.remaining c.peek_groups.new.self) here.bytes
+    c.args.table.now c.begin.new.self c.begin.ensures c.take_proof.result c.take_proof.new.table
     c.take_proof.ensures.joins
 
 pub returns-in-Ok-false-clause-fault : goal.returns-in-Ok-false-clause-fault
 returns-in-Ok-false-clause-fault g c =
     let here = c.in-Ok-false.ensures in
-    kind_fault c.args.instance.now (g.R.Source.remaining c.args.source.now) (g.R.Source.remaining c.peek_groups.new.self) here.bytes c.args.table.now c.begin.new.self c.begin.ensures c.take_proof.result c.take_proof.new.table _
+    kind_fault c.args.instance.now (g.R.Source.remaining c.args.source.now) (g.R.Source.remaining c.peek_groups.new.self) here.bytes
+    c.args.table.now c.begin.new.self c.begin.ensures c.take_proof.result c.take_proof.new.table _
     (λ bytes known. sym (here.groups bytes known) ∙ c.in-Ok-false.field-0-test) c.take_proof.ensures.fault
 
 pub returns-in-Err-Read-clause-up_to_failed_read : goal.returns-in-Err-Read-clause-up_to_failed_read

@@ -11,7 +11,8 @@ returns-in-Some-clause-fault g c =
     let remaining = g.R.Source.remaining c.args.source.now in
     let b = c.check_proof_with.new.visitor in
     let visited = subst (λ (a : State). IsVisitedProof p remaining (TableVisited a b) c.in-Ok.bound) begins c.in-Ok.ensures.visited in
-    claimed_elsewhere p remaining before b parts of c.in-Ok.bound visited c.days.ensures.instance bytes known c.in-Some.clash (sym c.clash.ensures ∙ c.in-Some.is)
+    claimed_elsewhere p remaining before b parts of c.in-Ok.bound visited c.days.ensures.instance bytes known c.in-Some.clash
+    (sym c.clash.ensures ∙ c.in-Some.is)
 
 pub returns-clause-joins : goal.returns-clause-joins
 returns-clause-joins g c =
@@ -24,4 +25,5 @@ returns-clause-joins g c =
 
 pub returns-clause-proof : goal.returns-clause-proof
 returns-clause-proof g c =
-    newest c.args.instance.now (g.R.Source.remaining c.args.source.now) c.args.table.now c.check_proof_with.new.visitor c.requires c.in-Ok.bound c.in-Ok.ensures.visited
+    newest c.args.instance.now (g.R.Source.remaining c.args.source.now) c.args.table.now c.check_proof_with.new.visitor c.requires
+    c.in-Ok.bound c.in-Ok.ensures.visited

@@ -17,22 +17,33 @@ add-requires g c =
     let old = c.args.sources.now in
     let now = c.loop-source.source-items in
     let within : c.loop-source.source-index ≤ length old = omega arith in
-    let number = taken c.args.instance.now g.R.Source.remaining g.R.Source.has_failed old now c.loop-source.source-index c.loop-source.sum within c.loop-source.invariant.sofar in
+    let number = taken c.args.instance.now g.R.Source.remaining g.R.Source.has_failed old now c.loop-source.source-index
+    c.loop-source.sum within c.loop-source.invariant.sofar in
     record { room = omega (arith, number) }
 
 pub returns-in_err-sum-2-clause-fault : goal.returns-in_err-sum-2-clause-fault
 returns-in_err-sum-2-clause-fault g c =
     let e = err_from_is_err_and c.from_residual-in_err-sum-2.result c.from_residual-in_err-sum-2.ensures.1 in
-    rw (e.1, e.2) (sofar_refused c.args.instance.now g.R.Source.remaining g.R.Source.has_failed c.args.sources.now c.loop-source.source-items c.loop-source.source-index c.loop-source.sum (get_or c.loop-source.source-items c.loop-source.source-index c.source-item.result)
-    c.in_err-sum-2.field-0.0 c.loop-source-test.true (ap (get_or c.loop-source.source-items c.loop-source.source-index) c.source-item.is) c.loop-source.invariant.sofar c.in_err-sum-2.ensures.numbered c.in_err-sum-2.ensures.fault)
+    rw (e.1, e.2)
+    (sofar_refused c.args.instance.now g.R.Source.remaining g.R.Source.has_failed c.args.sources.now c.loop-source.source-items
+    c.loop-source.source-index c.loop-source.sum (get_or c.loop-source.source-items c.loop-source.source-index c.source-item.result)
+    c.in_err-sum-2.field-0.0 c.loop-source-test.true
+    (ap (get_or c.loop-source.source-items c.loop-source.source-index) c.source-item.is) c.loop-source.invariant.sofar
+    c.in_err-sum-2.ensures.numbered c.in_err-sum-2.ensures.fault)
 
 pub returns-in_err-sum-2-clause-only : goal.returns-in_err-sum-2-clause-only
 returns-in_err-sum-2-clause-only g c =
     let e = err_from_is_err_and c.from_residual-in_err-sum-2.result c.from_residual-in_err-sum-2.ensures.1 in
     λ proofs s given h within.
-    let reported = sofar_refused c.args.instance.now g.R.Source.remaining g.R.Source.has_failed c.args.sources.now c.loop-source.source-items c.loop-source.source-index c.loop-source.sum (get_or c.loop-source.source-items c.loop-source.source-index c.source-item.result)
-    c.in_err-sum-2.field-0.0 c.loop-source-test.true (ap (get_or c.loop-source.source-items c.loop-source.source-index) c.source-item.is) c.loop-source.invariant.sofar c.in_err-sum-2.ensures.numbered c.in_err-sum-2.ensures.fault proofs given in
-    rw (e.1, e.2) (sum_silent c.args.instance.now c.days.ensures.instance proofs s h within c.in_err-sum-2.field-0.0 c.in_err-sum-2.ensures.memory reported)
+    let reported = sofar_refused c.args.instance.now g.R.Source.remaining g.R.Source.has_failed c.args.sources.now
+    c.loop-source.source-items c.loop-source.source-index c.loop-source.sum
+    (get_or c.loop-source.source-items c.loop-source.source-index c.source-item.result)
+    c.in_err-sum-2.field-0.0 c.loop-source-test.true
+    (ap (get_or c.loop-source.source-items c.loop-source.source-index) c.source-item.is) c.loop-source.invariant.sofar
+    c.in_err-sum-2.ensures.numbered c.in_err-sum-2.ensures.fault proofs given in
+    rw (e.1, e.2)
+    (sum_silent c.args.instance.now c.days.ensures.instance proofs s h within c.in_err-sum-2.field-0.0 c.in_err-sum-2.ensures.memory
+    reported)
 
 pub returns-in_err-sum-clause-failed : goal.returns-in_err-sum-clause-failed
 returns-in_err-sum-clause-failed g c =
@@ -44,29 +55,45 @@ returns-in_err-sum-2-clause-failed g c =
     let e = err_from_is_err_and c.from_residual-in_err-sum-2.result c.from_residual-in_err-sum-2.ensures.1 in
     let s = c.loop-source.sum in
     let within : c.loop-source.source-index ≤ length c.args.sources.now = omega arith in
-    let here = taken c.args.instance.now g.R.Source.remaining g.R.Source.has_failed c.args.sources.now c.loop-source.source-items c.loop-source.source-index s within c.loop-source.invariant.sofar in
-    rw (e.1, e.2) (failed_at c.args.instance.now g.R.Source.remaining g.R.Source.has_failed c.args.sources.now c.loop-source.source-items c.loop-source.source-index s (get_or c.loop-source.source-items c.loop-source.source-index c.source-item.result) c.add.new.source
-    c.in_err-sum-2.field-0.0 c.loop-source-test.true c.loop-source.invariant.long (ap (get_or c.loop-source.source-items c.loop-source.source-index) c.source-item.is) c.loop-source.invariant.sofar here c.in_err-sum-2.ensures.numbered c.in_err-sum-2.ensures.failed)
+    let here = taken c.args.instance.now g.R.Source.remaining g.R.Source.has_failed c.args.sources.now c.loop-source.source-items
+    c.loop-source.source-index s within c.loop-source.invariant.sofar in
+    rw (e.1, e.2)
+    (failed_at c.args.instance.now g.R.Source.remaining g.R.Source.has_failed c.args.sources.now c.loop-source.source-items
+    c.loop-source.source-index s (get_or c.loop-source.source-items c.loop-source.source-index c.source-item.result)
+    c.add.new.source
+    c.in_err-sum-2.field-0.0 c.loop-source-test.true c.loop-source.invariant.long
+    (ap (get_or c.loop-source.source-items c.loop-source.source-index) c.source-item.is) c.loop-source.invariant.sofar here
+    c.in_err-sum-2.ensures.numbered c.in_err-sum-2.ensures.failed)
 
 pub returns-in_err-sum-2-clause-up_to_failed_read : goal.returns-in_err-sum-2-clause-up_to_failed_read
 returns-in_err-sum-2-clause-up_to_failed_read g c =
     λ i r q bytes reported before after known.
     let s = c.loop-source.sum in
     let f = c.in_err-sum-2.field-0.0 in
-    let is : f ≡ read_failed_at (i + 1) = err_same c.from_residual-in_err-sum-2.result f (read_failed_at (i + 1)) c.from_residual-in_err-sum-2.ensures.1 reported in
+    let is : f ≡ read_failed_at (i + 1) = err_same c.from_residual-in_err-sum-2.result f
+    (read_failed_at (i + 1)) c.from_residual-in_err-sum-2.ensures.1 reported in
     let number : i + 1 ≡ due s = subst (λ (x : SumFault). IsNumbered (due s) x) is c.in_err-sum-2.ensures.numbered in
     let within : c.loop-source.source-index ≤ length c.args.sources.now = omega arith in
-    let here = taken c.args.instance.now g.R.Source.remaining g.R.Source.has_failed c.args.sources.now c.loop-source.source-items c.loop-source.source-index s within c.loop-source.invariant.sofar in
+    let here = taken c.args.instance.now g.R.Source.remaining g.R.Source.has_failed c.args.sources.now c.loop-source.source-items
+    c.loop-source.source-index s within c.loop-source.invariant.sofar in
     let place : i ≡ c.loop-source.source-index = omega (arith, number, here) in
-    let at = at_source c.args.instance.now g.R.Source.remaining g.R.Source.has_failed c.args.sources.now c.loop-source.source-items c.loop-source.source-index s (get_or c.loop-source.source-items c.loop-source.source-index c.source-item.result) c.add.new.source c.loop-source-test.true
-    c.loop-source.invariant.long (ap (get_or c.loop-source.source-items c.loop-source.source-index) c.source-item.is) c.loop-source.invariant.sofar i r q place before after in
+    let at = at_source c.args.instance.now g.R.Source.remaining g.R.Source.has_failed c.args.sources.now c.loop-source.source-items
+    c.loop-source.source-index s (get_or c.loop-source.source-items c.loop-source.source-index c.source-item.result)
+    c.add.new.source c.loop-source-test.true
+    c.loop-source.invariant.long (ap (get_or c.loop-source.source-items c.loop-source.source-index) c.source-item.is)
+    c.loop-source.invariant.sofar i r q place before after in
     subst (λ x. IsFileCheckedUpToFailedRead c.args.instance.now bytes (g.R.Source.remaining x)) (sym at.is)
-    (c.in_err-sum-2.ensures.up_to_failed_read (ap (λ (x : SumFault). Err x) (is ∙ ap read_failed_at number)) bytes (ap g.R.Source.remaining at.was ∙ known))
+    (c.in_err-sum-2.ensures.up_to_failed_read (ap (λ (x : SumFault). Err x) (is ∙ ap read_failed_at number)) bytes
+    (ap g.R.Source.remaining at.was ∙ known))
 
 pub loop-source-preserved : goal.loop-source-preserved
 loop-source-preserved g c = record {
-  sofar = sofar_next c.args.instance.now g.R.Source.remaining g.R.Source.has_failed c.args.sources.now c.loop-source.source-items c.loop-source.source-index c.loop-source.sum c.in_ok-sum-2.sum (get_or c.loop-source.source-items c.loop-source.source-index c.source-item.result) c.add.new.source
-      c.loop-source-test.true c.loop-source.invariant.long (ap (get_or c.loop-source.source-items c.loop-source.source-index) c.source-item.is) c.loop-source.invariant.sofar c.in_ok-sum-2.ensures.added c.in_ok-sum-2.ensures.failed;
+  sofar = sofar_next c.args.instance.now g.R.Source.remaining g.R.Source.has_failed c.args.sources.now c.loop-source.source-items
+      c.loop-source.source-index c.loop-source.sum c.in_ok-sum-2.sum
+      (get_or c.loop-source.source-items c.loop-source.source-index c.source-item.result) c.add.new.source
+      c.loop-source-test.true c.loop-source.invariant.long
+      (ap (get_or c.loop-source.source-items c.loop-source.source-index) c.source-item.is) c.loop-source.invariant.sofar
+      c.in_ok-sum-2.ensures.added c.in_ok-sum-2.ensures.failed;
   long = simp length-set c.loop-source.invariant.long;
 }
 
@@ -75,21 +102,25 @@ returns-clause-found g c =
     λ proofs given.
     let h = c.loop-source.invariant.sofar in
     subst (λ (b : Bound). IsSum c.args.instance.now proofs b) (sym (c.bound.ensures h.parts h.of))
-    (sofar_found c.args.instance.now g.R.Source.remaining g.R.Source.has_failed c.args.sources.now c.loop-source.source-items c.loop-source.source-index c.loop-source.sum c.loop-source-test.false h proofs given)
+    (sofar_found c.args.instance.now g.R.Source.remaining g.R.Source.has_failed c.args.sources.now c.loop-source.source-items
+    c.loop-source.source-index c.loop-source.sum c.loop-source-test.false h proofs given)
 
 pub returns-clause-only : goal.returns-clause-only
 returns-clause-only g c =
     λ proofs s given i within.
     let h = c.loop-source.invariant.sofar in
-    let found = sofar_found c.args.instance.now g.R.Source.remaining g.R.Source.has_failed c.args.sources.now c.loop-source.source-items c.loop-source.source-index c.loop-source.sum c.loop-source-test.false h proofs given in
+    let found = sofar_found c.args.instance.now g.R.Source.remaining g.R.Source.has_failed c.args.sources.now c.loop-source.source-items
+    c.loop-source.source-index c.loop-source.sum c.loop-source-test.false h proofs given in
     c.bound.ensures h.parts h.of ∙ same_sum c.args.instance.now c.days.ensures.instance proofs _ s found i
 
 pub returns-clause-holds : goal.returns-clause-holds
 returns-clause-holds g c =
     let h = c.loop-source.invariant.sofar in
     subst (λ (b : Bound). HoldsOfAll c.args.instance.now b) (sym (c.bound.ensures h.parts h.of))
-    (sofar_holds c.args.instance.now g.R.Source.remaining g.R.Source.has_failed c.args.sources.now c.loop-source.source-items c.loop-source.source-index c.loop-source.sum h)
+    (sofar_holds c.args.instance.now g.R.Source.remaining g.R.Source.has_failed c.args.sources.now c.loop-source.source-items
+    c.loop-source.source-index c.loop-source.sum h)
 
 pub returns-clause-failed : goal.returns-clause-failed
 returns-clause-failed g c =
-    λ i r found. same_at c.args.instance.now g.R.Source.remaining g.R.Source.has_failed c.args.sources.now c.loop-source.source-items c.loop-source.source-index c.loop-source.sum c.loop-source.invariant.long c.loop-source.invariant.sofar i r found
+    λ i r found. same_at c.args.instance.now g.R.Source.remaining g.R.Source.has_failed c.args.sources.now c.loop-source.source-items
+    c.loop-source.source-index c.loop-source.sum c.loop-source.invariant.long c.loop-source.invariant.sofar i r found

@@ -5,4 +5,5 @@ use Rattle.tt_proof_text.proofs.ByteLaws.{pieces_counted}
 use Rattle.tt_proof_text.proofs.bytes.courses_bytes.Goals as goal
 
 pub returns : goal.returns
-returns c = pieces_counted course_piece c.args.courses.now c.loop-course.course-index 2 c.loop-course.total (Text (codes ";") ∷ []) c.loop-course.invariant c.loop-course-test.false refl
+returns c = pieces_counted course_piece c.args.courses.now c.loop-course.course-index 2 c.loop-course.total
+    (Text (codes ";") ∷ []) c.loop-course.invariant c.loop-course-test.false refl

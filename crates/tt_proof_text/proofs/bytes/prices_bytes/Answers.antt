@@ -8,5 +8,6 @@ use Rattle.tt_proof_text.proofs.bytes.prices_bytes.Goals as goal
 
 pub returns : goal.returns
 returns c = λ letter.
-    rows_counted (priced_pieces letter) c.args.prices.now c.loop-number.number-index 0 c.loop-number.total [] (c.loop-number.invariant letter) c.loop-number-test.false refl
+    rows_counted (priced_pieces letter) c.args.prices.now c.loop-number.number-index 0 c.loop-number.total []
+    (c.loop-number.invariant letter) c.loop-number-test.false refl
     ∙ ap (λ (ps : List Piece). clipped (length (tail_text ps))) (append-nil _)

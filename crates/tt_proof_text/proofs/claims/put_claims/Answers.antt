@@ -8,14 +8,21 @@ use Rattle.tt_lists.proofs.Beginnings.{All_more, All_done}
 
 pub loop-claim-preserved : goal.loop-claim-preserved
 loop-claim-preserved c = record {
-  text = one_more (λ k. tail_text (claim_pieces k)) c.args.claims.now c.loop-claim.claim-index c.claim-item.result c.claim-item.result c.args.out.now.items c.loop-claim.out.items c.put_claim.new.out.items c.loop-claim-test.true c.claim-item.is c.loop-claim.invariant.text c.in_ok-put_claim.ensures.text;
-  narrow = All_more IsNarrowClaim c.args.claims.now c.loop-claim.claim-index c.claim-item.result c.claim-item.result c.loop-claim-test.true c.claim-item.is c.loop-claim.invariant.narrow c.in_ok-put_claim.ensures.narrow;
+  text = one_more (λ k. tail_text (claim_pieces k)) c.args.claims.now c.loop-claim.claim-index c.claim-item.result c.claim-item.result
+      c.args.out.now.items c.loop-claim.out.items c.put_claim.new.out.items c.loop-claim-test.true c.claim-item.is
+      c.loop-claim.invariant.text c.in_ok-put_claim.ensures.text;
+  narrow = All_more IsNarrowClaim c.args.claims.now c.loop-claim.claim-index c.claim-item.result c.claim-item.result
+      c.loop-claim-test.true c.claim-item.is c.loop-claim.invariant.narrow c.in_ok-put_claim.ensures.narrow;
 }
 
 pub returns-clause-narrow : goal.returns-clause-narrow
-returns-clause-narrow c = on_ok c.put_next_token.result (All_done IsNarrowClaim c.args.claims.now c.loop-claim.claim-index c.loop-claim-test.false c.loop-claim.invariant.narrow)
+returns-clause-narrow c =
+    on_ok c.put_next_token.result
+    (All_done IsNarrowClaim c.args.claims.now c.loop-claim.claim-index c.loop-claim-test.false c.loop-claim.invariant.narrow)
 
 pub returns-clause-text : goal.returns-clause-text
 returns-clause-text c =
     IfOk-equal c.put_next_token.result _ _ _ c.put_next_token.ensures.ok
-    (pieces_behind _ _ _ _ _ (rows_written claim_pieces c.args.claims.now c.loop-claim.claim-index c.args.out.now.items c.loop-claim.out.items c.loop-claim.invariant.text c.loop-claim-test.false) refl)
+    (pieces_behind _ _ _ _ _
+    (rows_written claim_pieces c.args.claims.now c.loop-claim.claim-index c.args.out.now.items c.loop-claim.out.items
+    c.loop-claim.invariant.text c.loop-claim-test.false) refl)

@@ -8,7 +8,8 @@ pub loop-node-init : goal.loop-node-init
 loop-node-init c = walk_begins c.args.nodes.now c.new-pending.result.items c.new-pending.ensures
 
 pub returns-then-depth-eq-MAX_FACTS : goal.returns-then-depth-eq-MAX_FACTS
-returns-then-depth-eq-MAX_FACTS c = walk_too_deep _ _ _ _ _ _ c.requires c.loop-node.invariant c.loop-node-test.true c.node-item.is c.in-Split.is c.if-depth-eq-MAX_FACTS.true
+returns-then-depth-eq-MAX_FACTS c = walk_too_deep _ _ _ _ _ _ c.requires c.loop-node.invariant c.loop-node-test.true c.node-item.is
+    c.in-Split.is c.if-depth-eq-MAX_FACTS.true
 
 pub push-requires : goal.push-requires
 push-requires c = (lit< tt, walk_room _ _ _ c.loop-node.pending.items c.loop-node.invariant c.if-depth-eq-MAX_FACTS.false)
@@ -18,11 +19,13 @@ loop-node-preserved c =
     elim c.match-node.branch [
       | in-Split+else-depth-eq-MAX_FACTS w ↦
           (let pushed : c.match-node.pending.items ≡ c.loop-node.pending.items ++ (c.loop-node.depth + 1) ∷ [] = cc in
-          walk_split _ _ _ _ _ _ _ _ c.loop-node-test.true c.node-item.is w.in-Split.is w.if-depth-eq-MAX_FACTS.false w.depth-is pushed c.loop-node.invariant)
+          walk_split _ _ _ _ _ _ _ _ c.loop-node-test.true c.node-item.is w.in-Split.is w.if-depth-eq-MAX_FACTS.false w.depth-is pushed
+          c.loop-node.invariant)
       | in-Leaf w ↦
           (let next : c.match-node.depth ≡ unwrap_or w.pop.result 0 = cc in
           let popped : c.loop-node.pending.items ≡ c.match-node.pending.items ++ option_to_list w.pop.result = cc in
-          walk_leaf _ _ _ _ _ _ _ _ _ c.loop-node-test.true c.node-item.is w.in-Leaf.is next popped w.pop.ensures.variant c.loop-node.invariant)
+          walk_leaf _ _ _ _ _ _ _ _ _ c.loop-node-test.true c.node-item.is w.in-Leaf.is next popped w.pop.ensures.variant
+          c.loop-node.invariant)
     ]
 
 pub returns : goal.returns

@@ -9,11 +9,16 @@ use Rattle.tt_lists.proofs.Beginnings.{All_more}
 
 pub loop-course-preserved : goal.loop-course-preserved
 loop-course-preserved c = record {
-  text = one_more (λ n. tail_text (course_piece n ∷ [])) c.args.courses.now c.loop-course.course-index 0 _ c.args.out.now.items c.loop-course.out.items c.put_index.new.out.items c.loop-course-test.true refl c.loop-course.invariant.text c.in_ok-put_index.ensures.text;
-  narrow = All_more IsNarrow c.args.courses.now c.loop-course.course-index 0 _ c.loop-course-test.true refl c.loop-course.invariant.narrow c.in_ok-put_index.ensures.narrow;
+  text = one_more (λ n. tail_text (course_piece n ∷ [])) c.args.courses.now c.loop-course.course-index 0 _ c.args.out.now.items
+      c.loop-course.out.items c.put_index.new.out.items c.loop-course-test.true refl c.loop-course.invariant.text
+      c.in_ok-put_index.ensures.text;
+  narrow = All_more IsNarrow c.args.courses.now c.loop-course.course-index 0 _ c.loop-course-test.true refl
+      c.loop-course.invariant.narrow c.in_ok-put_index.ensures.narrow;
 }
 
 pub returns-clause-text : goal.returns-clause-text
 returns-clause-text c =
     IfOk-equal c.put_next_token.result _ _ _ c.put_next_token.ensures.ok
-    (pieces_behind _ _ _ _ _ (pieces_written course_piece c.args.courses.now c.loop-course.course-index c.args.out.now.items c.loop-course.out.items c.loop-course.invariant.text c.loop-course-test.false) refl)
+    (pieces_behind _ _ _ _ _
+    (pieces_written course_piece c.args.courses.now c.loop-course.course-index c.args.out.now.items c.loop-course.out.items
+    c.loop-course.invariant.text c.loop-course-test.false) refl)

@@ -12,10 +12,13 @@ pub loop-nodes-init : goal.loop-nodes-init
 loop-nodes-init g c =
     let r = c.requires in
     record {
-      sofar = rw c.new-nodes.ensures.items (collected_start (is_some (g.R.Source.remaining c.args.source.now)) (stream_at c.args.reader.now.fed (g.R.Source.remaining c.args.source.now)) c.args.reader.now r.unread r.place r.sound);
+      sofar = rw c.new-nodes.ensures.items (collected_start (is_some (g.R.Source.remaining c.args.source.now))
+          (stream_at c.args.reader.now.fed (g.R.Source.remaining c.args.source.now)) c.args.reader.now r.unread r.place r.sound);
       failing = λ k rest m. (
         m,
-        rw c.new-nodes.ensures.items (collected_start true (cut_at rest c.args.reader.now.fed (g.R.Source.remaining c.args.source.now)) c.args.reader.now r.unread r.place r.sound),
+        rw c.new-nodes.ensures.items
+            (collected_start true (cut_at rest c.args.reader.now.fed (g.R.Source.remaining c.args.source.now)) c.args.reader.now
+            r.unread r.place r.sound),
       );
       at_most = omega (arith, r.unread);
       known = λ k. k;
@@ -29,8 +32,10 @@ returns-in_err-node-clause-fault g c =
     let h = c.in_err-node.ensures in
     let inv = c.loop-nodes.invariant in
     let old = c.loop-nodes.reader in
-    rw (e.1, e.2) (λ n. collected_breaks c.args.reader.now.sizes c.args.reader.now.version (is_some (g.R.Source.remaining c.args.source.now)) (stream_at c.args.reader.now.fed (g.R.Source.remaining c.args.source.now))
-    old (stream_at old.fed (g.R.Source.remaining c.loop-nodes.source)) c.loop-nodes.nodes.items inv.sofar c.in_err-node.field-0.0 (h.state inv.sofar.sound).0 k (h.read inv.sofar.sound (inv.known k)))
+    rw (e.1, e.2) (λ n. collected_breaks c.args.reader.now.sizes c.args.reader.now.version
+    (is_some (g.R.Source.remaining c.args.source.now)) (stream_at c.args.reader.now.fed (g.R.Source.remaining c.args.source.now))
+    old (stream_at old.fed (g.R.Source.remaining c.loop-nodes.source)) c.loop-nodes.nodes.items inv.sofar c.in_err-node.field-0.0
+    (h.state inv.sofar.sound).0 k (h.read inv.sofar.sound (inv.known k)))
 
 pub loop-nodes-preserved : goal.loop-nodes-preserved
 loop-nodes-preserved g c =
@@ -41,14 +46,19 @@ loop-nodes-preserved g c =
     let goes = e.state inv.sofar.sound in
     let count : old.count + 1 ≡ new.count = ap (λ (r : Reader). r.count) (sym goes.1) in
     record {
-      sofar = rw c.in_ok-push.ensures.items (collected_next c.args.reader.now.sizes c.args.reader.now.version (is_some (g.R.Source.remaining c.args.source.now)) (stream_at c.args.reader.now.fed (g.R.Source.remaining c.args.source.now))
-          old (stream_at old.fed (g.R.Source.remaining c.loop-nodes.source)) c.loop-nodes.nodes.items inv.sofar new (stream_at new.fed (g.R.Source.remaining c.next_node.new.source)) c.in-Some.node goes
+      sofar = rw c.in_ok-push.ensures.items
+          (collected_next c.args.reader.now.sizes c.args.reader.now.version (is_some (g.R.Source.remaining c.args.source.now))
+          (stream_at c.args.reader.now.fed (g.R.Source.remaining c.args.source.now))
+          old (stream_at old.fed (g.R.Source.remaining c.loop-nodes.source)) c.loop-nodes.nodes.items inv.sofar new
+          (stream_at new.fed (g.R.Source.remaining c.next_node.new.source)) c.in-Some.node goes
           (λ k. e.read inv.sofar.sound (inv.known k)) e.node);
       failing = λ k rest m.
           let here = e.cut_short inv.sofar.sound (inv.known k) rest m in
           let first = inv.failing k rest here.0 in (
             first.0,
-            rw c.in_ok-push.ensures.items (collected_next c.args.reader.now.sizes c.args.reader.now.version true _ old _ c.loop-nodes.nodes.items first.1 new _ c.in-Some.node goes (λ _. here.1) e.node),
+            rw c.in_ok-push.ensures.items
+                (collected_next c.args.reader.now.sizes c.args.reader.now.version true _ old _ c.loop-nodes.nodes.items first.1 new _
+                c.in-Some.node goes (λ _. here.1) e.node),
           );
       at_most = omega (arith, count, e.room);
       known = λ k. e.known (inv.known k);
@@ -68,8 +78,10 @@ returns-clause-collected g c =
     let old = c.loop-nodes.reader in
     let new = c.next_node.new.self in
     let goes = e.state inv.sofar.sound in
-    collected_end c.args.reader.now.sizes c.args.reader.now.version (is_some (g.R.Source.remaining c.args.source.now)) (stream_at c.args.reader.now.fed (g.R.Source.remaining c.args.source.now))
-    old (stream_at old.fed (g.R.Source.remaining c.loop-nodes.source)) c.loop-nodes.nodes.items inv.sofar (stream_at new.fed (g.R.Source.remaining c.next_node.new.source)) goes.0
+    collected_end c.args.reader.now.sizes c.args.reader.now.version (is_some (g.R.Source.remaining c.args.source.now))
+    (stream_at c.args.reader.now.fed (g.R.Source.remaining c.args.source.now))
+    old (stream_at old.fed (g.R.Source.remaining c.loop-nodes.source)) c.loop-nodes.nodes.items inv.sofar
+    (stream_at new.fed (g.R.Source.remaining c.next_node.new.source)) goes.0
     (λ k. e.read inv.sofar.sound (inv.known k))
 
 pub returns-clause-cut_short : goal.returns-clause-cut_short
@@ -88,8 +100,11 @@ returns-in_err-node-clause-up_to_failed_read g c =
     let inv = c.loop-nodes.invariant in
     let is = err_same c.from_residual.result c.in_err-node.field-0.0 read_failed c.from_residual.ensures.1 reported in
     let here = e.cut_short inv.sofar.sound (inv.known k) (ap is_failed_read is) in
-    let first = inv.failing k _ here.0 in
-    (first.0, collected_breaks_off _ _ true _ c.loop-nodes.reader _ c.loop-nodes.nodes.items first.1 (e.state inv.sofar.sound).0 refl (here.1 ∙ ap (λ x. Err x) is))
+    let first = inv.failing k _ here.0 in (
+      first.0,
+      collected_breaks_off _ _ true _ c.loop-nodes.reader _ c.loop-nodes.nodes.items first.1 (e.state inv.sofar.sound).0 refl
+          (here.1 ∙ ap (λ x. Err x) is),
+    )
 
 pub returns-in_err-node-clause-failed : goal.returns-in_err-node-clause-failed
 returns-in_err-node-clause-failed g c =

@@ -7,7 +7,8 @@ use Rattle.tt_proof_upgrade.proofs.reading.collect.Given as goal
 abbrev pub invariant-loop-nodes : goal.invariant-loop-nodes
 invariant-loop-nodes g l = record {
   sofar : Collected l.fn.reader.sizes l.fn.reader.version (is_some (g.R.Source.remaining l.fn.source))
-      (stream_at l.fn.reader.fed (g.R.Source.remaining l.fn.source)) l.reader (stream_at l.reader.fed (g.R.Source.remaining l.source)) l.nodes.items;
+      (stream_at l.fn.reader.fed (g.R.Source.remaining l.fn.source)) l.reader (stream_at l.reader.fed (g.R.Source.remaining l.source))
+      l.nodes.items;
   failing : BeforeFailure l.fn.reader.fed (g.R.Source.remaining l.fn.source) l.reader.fed (g.R.Source.remaining l.source)
       (λ s t. Collected l.fn.reader.sizes l.fn.reader.version true s l.reader t l.nodes.items);
   at_most : l.reader.count ≤ 16777216;

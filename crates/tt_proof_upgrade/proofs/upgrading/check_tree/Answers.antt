@@ -7,4 +7,5 @@ node_fault-requires c =
 
 pub returns-in-Err-clause-fault : goal.returns-in-Err-clause-fault
 returns-in-Err-clause-fault c =
-    fault_of_node c.args.instance.now c.args.bound c.args.nodes.now c.in-Err.fault c.node_fault.result c.node_fault.ensures c.in-Err.ensures.fault
+    fault_of_node c.args.instance.now c.args.bound c.args.nodes.now c.in-Err.fault c.node_fault.result c.node_fault.ensures
+    c.in-Err.ensures.fault

@@ -24,7 +24,9 @@ returns-in_err-read-clause-only g c =
     let e = err_from_is_err_and c.from_residual.result c.from_residual.ensures.1 in
     let p = c.args.instance.now in
     let f = c.in_err-read.field-0.0 in
-    λ bytes b known proved. rw (e.1, e.2) (silent p c.days.ensures.instance bytes b proved _ (text_tells p (stream_of bytes) f (λ n. c.in_err-read.ensures.fault n bytes known)))
+    λ bytes b known proved. rw (e.1, e.2)
+    (silent p c.days.ensures.instance bytes b proved _
+    (text_tells p (stream_of bytes) f (λ n. c.in_err-read.ensures.fault n bytes known)))
 
 pub returns-in_err-read-clause-fault : goal.returns-in_err-read-clause-fault
 returns-in_err-read-clause-fault g c =
@@ -39,27 +41,36 @@ returns-in_err-check_tree-clause-only g c =
     let p = c.args.instance.now in
     let read = c.in_ok-read.read in
     λ bytes b known proved. rw (e.1, e.2) (silent p c.days.ensures.instance bytes b proved _
-    (nodes_tell p (stream_of bytes) read.version read.bound read.nodes.items (c.in_ok-read.ensures.read bytes known) c.in_err-check_tree.field-0.0 (rw c.deref.ensures.value at c.in_err-check_tree.ensures.fault)))
+    (nodes_tell p (stream_of bytes) read.version read.bound read.nodes.items
+    (c.in_ok-read.ensures.read bytes known) c.in_err-check_tree.field-0.0
+    (rw c.deref.ensures.value at c.in_err-check_tree.ensures.fault)))
 
 pub returns-in_err-bytes-clause-fault : goal.returns-in_err-bytes-clause-fault
 returns-in_err-bytes-clause-fault g c =
     let e = err_from_is_err_and c.from_residual-in_err-bytes.result c.from_residual-in_err-bytes.ensures.1 in
     let p = c.args.instance.now in
     let read = c.in_ok-read.read in
-    rw (e.1, e.2) (λ bytes known. write_tells p (stream_of bytes) read.version read.bound read.nodes.items (c.in_ok-read.ensures.read bytes known) (subst (Proves p read.bound) c.deref.ensures.value c.in_ok-check_tree.ensures.proves) c.in_err-bytes.field-0.0 (rw c.deref-2.ensures.value at c.in_err-bytes.ensures.fault))
+    rw (e.1, e.2) (λ bytes known. write_tells p (stream_of bytes) read.version read.bound read.nodes.items
+    (c.in_ok-read.ensures.read bytes known) (subst (Proves p read.bound) c.deref.ensures.value c.in_ok-check_tree.ensures.proves)
+    c.in_err-bytes.field-0.0 (rw c.deref-2.ensures.value at c.in_err-bytes.ensures.fault))
 
 pub returns-clause-found : goal.returns-clause-found
 returns-clause-found g c =
     let p = c.args.instance.now in
     let read = c.in_ok-read.read in
-    λ bytes known. upgraded p bytes c.in_ok-bytes.bytes.items read.version read.bound read.nodes.items (c.in_ok-read.ensures.read bytes known) (subst (Proves p read.bound) c.deref.ensures.value c.in_ok-check_tree.ensures.proves) c.in_ok-read.ensures.nodes
-    (rw c.deref-2.ensures.value at c.in_ok-bytes.ensures.text) (λ tree e each. c.in_ok-bytes.ensures.again p tree (e ∙ sym c.deref-2.ensures.value) (subst (All (IsNode p 2)) (sym c.deref-2.ensures.value) each))
+    λ bytes known. upgraded p bytes c.in_ok-bytes.bytes.items read.version read.bound read.nodes.items
+    (c.in_ok-read.ensures.read bytes known) (subst (Proves p read.bound) c.deref.ensures.value c.in_ok-check_tree.ensures.proves)
+    c.in_ok-read.ensures.nodes
+    (rw c.deref-2.ensures.value at c.in_ok-bytes.ensures.text)
+    (λ tree e each. c.in_ok-bytes.ensures.again p tree (e ∙ sym c.deref-2.ensures.value)
+    (subst (All (IsNode p 2)) (sym c.deref-2.ensures.value) each))
 
 pub returns-clause-only : goal.returns-clause-only
 returns-clause-only g c =
     let p = c.args.instance.now in
     let read = c.in_ok-read.read in
-    λ bytes b known proved. bound_read p c.days.ensures.instance bytes b proved read.version read.bound read.nodes.items (c.in_ok-read.ensures.read bytes known)
+    λ bytes b known proved. bound_read p c.days.ensures.instance bytes b proved read.version read.bound read.nodes.items
+    (c.in_ok-read.ensures.read bytes known)
 
 pub returns-clause-holds : goal.returns-clause-holds
 returns-clause-holds g c =
@@ -69,7 +80,9 @@ returns-clause-holds g c =
 
 pub returns-in_err-read-clause-up_to_failed_read : goal.returns-in_err-read-clause-up_to_failed_read
 returns-in_err-read-clause-up_to_failed_read g c =
-    λ reported. c.in_err-read.ensures.up_to_failed_read (ap (λ f. Err f) (read_reported c.in_err-read.field-0.0 (err_same c.from_residual.result _ read_failed c.from_residual.ensures.1 reported)))
+    λ reported. c.in_err-read.ensures.up_to_failed_read
+    (ap (λ f. Err f)
+    (read_reported c.in_err-read.field-0.0 (err_same c.from_residual.result _ read_failed c.from_residual.ensures.1 reported)))
 
 pub returns-in_err-read-clause-memory : goal.returns-in_err-read-clause-memory
 returns-in_err-read-clause-memory g c =

@@ -6,4 +6,5 @@ use Rattle.tt_report.proofs.blocks.name_of_teacher.Goals as goal
 pub returns : goal.returns
 returns c =
     let p = c.args.instance.now in
-    c.teacher_name.ensures ∙ sym (named (teachers p) (get_or p.courses c.args.course no_course).teacher c.teacher_of.result c.teacher_of.ensures.value)
+    c.teacher_name.ensures
+    ∙ sym (named (teachers p) (get_or p.courses c.args.course no_course).teacher c.teacher_of.result c.teacher_of.ensures.value)

@@ -12,5 +12,7 @@ returns g c =
     let p = c.args.instance.now in
     let days = day_text p c.args.by_period.now.entries c.args.block in
     let all : c.loop-day.day ≡ p.days = omega (arith, c.days-day-end.ensures.value) in
-    puts_both g.W.Sink.contents g.W.Sink.has_failed c.args.out.now c.put_head.new.out c.loop-day.out (line_text (head_of p c.args.block)) (flat_map days (range_below p.days)) c.put_head.ensures
-    (subst (λ n. Puts g.W.Sink.contents g.W.Sink.has_failed c.put_head.new.out c.loop-day.out (flat_map days (range_below n))) all c.loop-day.invariant)
+    puts_both g.W.Sink.contents g.W.Sink.has_failed c.args.out.now c.put_head.new.out c.loop-day.out
+    (line_text (head_of p c.args.block)) (flat_map days (range_below p.days)) c.put_head.ensures
+    (subst (λ n. Puts g.W.Sink.contents g.W.Sink.has_failed c.put_head.new.out c.loop-day.out (flat_map days (range_below n))) all
+    c.loop-day.invariant)

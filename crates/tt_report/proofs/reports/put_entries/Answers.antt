@@ -8,7 +8,8 @@ pub loop-entry-init : goal.loop-entry-init
 loop-entry-init g c =
     let all = c.into_iter-entry-iterator.ensures.into_iter_gives in
     record {
-      text = entries_begun g.W.Sink.contents g.W.Sink.has_failed c.args.instance.now c.args.block c.args.out.now c.args.entries c.into_iter-entry-iterator.result all;
+      text = entries_begun g.W.Sink.contents g.W.Sink.has_failed c.args.instance.now c.args.block c.args.out.now c.args.entries
+          c.into_iter-entry-iterator.result all;
       left = subst (All (InRange c.args.instance.now)) (sym all) c.requires.in_range;
     }
 
@@ -19,7 +20,8 @@ loop-entry-preserved-then-has g c =
     let first = c.in-Some.ensures.steps in
     record {
       text = entry_shown g.W.Sink.contents g.W.Sink.has_failed p c.args.block e c.next.new.self c.loop-entry.entry-iterator c.args.entries
-          c.args.out.now c.loop-entry.out c.put_entry.new.out first (sym c.has.ensures ∙ c.if-has.true) c.loop-entry.invariant.text c.put_entry.ensures;
+          c.args.out.now c.loop-entry.out c.put_entry.new.out first (sym c.has.ensures ∙ c.if-has.true) c.loop-entry.invariant.text
+          c.put_entry.ensures;
       left = All-tail (InRange p) e c.next.new.self (subst (All (InRange p)) first c.loop-entry.invariant.left);
     }
 

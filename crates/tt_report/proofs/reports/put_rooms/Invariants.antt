@@ -6,4 +6,5 @@ use Rattle.tt_report.specs.declared.blocks.Block.TheVariants as of
 use Rattle.tt_report.proofs.reports.put_rooms.Given as goal
 
 abbrev pub invariant-loop-room : goal.invariant-loop-room
-invariant-loop-room g l = Puts g.W.Sink.contents g.W.Sink.has_failed l.initial.out l.out (flat_map (λ r. block_text l.instance l.by_period.entries (of.Room r)) (range_below l.room))
+invariant-loop-room g l = Puts g.W.Sink.contents g.W.Sink.has_failed l.initial.out l.out
+    (flat_map (λ r. block_text l.instance l.by_period.entries (of.Room r)) (range_below l.room))

@@ -5,5 +5,6 @@ use Rattle.tt_report.proofs.reports.put_teachers.Goals as goal
 
 pub loop-teacher-preserved : goal.loop-teacher-preserved
 loop-teacher-preserved g c =
-    puts_further g.W.Sink.contents g.W.Sink.has_failed (λ k. block_text c.args.instance.now c.args.by_period.now.entries (of.Teacher k)) c.loop-teacher.teacher
+    puts_further g.W.Sink.contents g.W.Sink.has_failed (λ k. block_text c.args.instance.now c.args.by_period.now.entries (of.Teacher k))
+    c.loop-teacher.teacher
     c.args.out.now c.loop-teacher.out c.put_block.new.out c.loop-teacher.invariant c.put_block.ensures

@@ -6,4 +6,5 @@ use Rattle.tt_report.specs.declared.blocks.Block.TheVariants as of
 use Rattle.tt_report.proofs.reports.put_teachers.Given as goal
 
 abbrev pub invariant-loop-teacher : goal.invariant-loop-teacher
-invariant-loop-teacher g l = Puts g.W.Sink.contents g.W.Sink.has_failed l.initial.out l.out (flat_map (λ k. block_text l.instance l.by_period.entries (of.Teacher k)) (range_below l.teacher))
+invariant-loop-teacher g l = Puts g.W.Sink.contents g.W.Sink.has_failed l.initial.out l.out
+    (flat_map (λ k. block_text l.instance l.by_period.entries (of.Teacher k)) (range_below l.teacher))

@@ -6,4 +6,5 @@ use Rattle.tt_report_export.proofs.names.teacher_of.Goals as goal
 pub returns : goal.returns
 returns c =
     let p = c.args.instance.now in
-    c.name_of_teacher.ensures ∙ sym (named (teachers p) (get_or p.courses c.args.course no_course).teacher c.teacher_of.result c.teacher_of.ensures.value)
+    c.name_of_teacher.ensures
+    ∙ sym (named (teachers p) (get_or p.courses c.args.course no_course).teacher c.teacher_of.result c.teacher_of.ensures.value)

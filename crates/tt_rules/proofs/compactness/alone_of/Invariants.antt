@@ -6,6 +6,7 @@ use Rattle.tt_rules.proofs.compactness.alone_of.Given as goal
 
 abbrev pub invariant-loop-course : goal.invariant-loop-course
 invariant-loop-course l = record {
-  summed : l.total ≡ sum_by (λ c. count_by (λ e. is_of c e && is_alone l.instance l.taught e) l.by_course.entries) (take l.course-index l.courses);
+  summed : l.total ≡ sum_by (λ c. count_by (λ e. is_of c e && is_alone l.instance l.taught e) l.by_course.entries)
+      (take l.course-index l.courses);
   at_most : l.total ≤ l.course-index * 16384;
 }

@@ -11,7 +11,9 @@ use Rattle.tt_rules.proofs.compactness.mark_places.Goals as goal
 pub add-requires : goal.add-requires
 add-requires c =
     let p = c.args.instance.now in
-    c.place.ensures.at_most (All-head (InRange p) c.in-Some.entry.now c.next.new.self (subst (All (InRange p)) c.in-Some.ensures.steps c.loop-entry.invariant.left))
+    c.place.ensures.at_most
+    (All-head (InRange p) c.in-Some.entry.now c.next.new.self
+    (subst (All (InRange p)) c.in-Some.ensures.steps c.loop-entry.invariant.left))
 
 pub loop-entry-preserved : goal.loop-entry-preserved
 loop-entry-preserved c =
@@ -23,6 +25,7 @@ loop-entry-preserved c =
     let added : (k : ℕ) → slice_index_or c.add.new.self k false ≡ (slice_index_or c.loop-entry.marks k false || at k entry) =
     λ k. c.add.ensures k ∙ ap (λ n. slice_index_or c.loop-entry.marks k false || (n == k)) c.place.ensures.value in
     record {
-      marks = marks_more at (λ k. slice_index_or c.args.marks.now k false || list_any (at k) c.args.group) c.loop-entry.marks c.add.new.self entry c.next.new.self c.loop-entry.entry-iterator first added before.marks;
+      marks = marks_more at (λ k. slice_index_or c.args.marks.now k false || list_any (at k) c.args.group) c.loop-entry.marks
+          c.add.new.self entry c.next.new.self c.loop-entry.entry-iterator first added before.marks;
       left = All-tail (InRange p) entry c.next.new.self (subst (All (InRange p)) first before.left);
     }

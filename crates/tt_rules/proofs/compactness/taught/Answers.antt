@@ -11,7 +11,8 @@ use Rattle.tt_rules.proofs.compactness.taught.Goals as goal
 pub mark_places-requires : goal.mark_places-requires
 mark_places-requires c =
     let p = c.args.instance.now in
-    subst (All (InRange p)) (sym c.of_course.ensures.group) (All-filter (is_of (get_or c.args.courses.now c.loop-course.course-index 0)) (InRange p) c.args.by_course.now.entries c.requires.in_range)
+    subst (All (InRange p)) (sym c.of_course.ensures.group) (All-filter (is_of (get_or c.args.courses.now c.loop-course.course-index 0))
+    (InRange p) c.args.by_course.now.entries c.requires.in_range)
 
 pub loop-course-preserved : goal.loop-course-preserved
 loop-course-preserved c k =

@@ -6,4 +6,5 @@ use Rattle.tt_rules.specs.Inner.Places.{place_of}
 use Rattle.tt_rules.proofs.compactness.taught.Given as goal
 
 abbrev pub invariant-loop-course : goal.invariant-loop-course
-invariant-loop-course l = (k : ℕ) → slice_index_or l.marks k false ≡ list_any (λ c. list_any (λ e. is_of c e && (place_of l.instance e == k)) l.by_course.entries) (take l.course-index l.courses)
+invariant-loop-course l = (k : ℕ) → slice_index_or l.marks k false ≡ list_any
+    (λ c. list_any (λ e. is_of c e && (place_of l.instance e == k)) l.by_course.entries) (take l.course-index l.courses)

@@ -15,9 +15,11 @@ returns-clause-count c =
     let e = c.args.entry.now in
     let later = drop (c.args.index + 1) c.args.by_period.now.entries in
     let t = c.args.by_period.now.entries in
-    let here : InRange p e = subst (InRange p) (get_or_from_slice_get t c.args.index e e c.requires.there) (c.requires.in_range c.args.index e (slice_get_within t c.args.index e c.requires.there)) in
+    let here : InRange p e = subst (InRange p) (get_or_from_slice_get t c.args.index e e c.requires.there)
+    (c.requires.in_range c.args.index e (slice_get_within t c.args.index e c.requires.there)) in
     let behind : c.after.result ≡ filter (in_group (Period p.periods) (group_of (Period p.periods) e)) later =
     subst (λ by. c.after.result ≡ filter (in_group by (group_of by e)) later) c.requires.by
-    (subst (λ o. IfSome o (λ x. c.after.result ≡ filter (in_group c.args.by_period.now.by (group_of c.args.by_period.now.by x)) later)) c.requires.there c.after.ensures.group) in
+    (subst (λ o. IfSome o (λ x. c.after.result ≡ filter (in_group c.args.by_period.now.by (group_of c.args.by_period.now.by x)) later))
+    c.requires.there c.after.ensures.group) in
     c.excluded.ensures.count ∙ ap (count_by (λ other. conflict p e.course other.course)) behind
     ∙ collide_behind p e later here (All-drop (InRange p) (c.args.index + 1) t c.requires.in_range)

@@ -11,9 +11,12 @@ loop-index-preserved c =
     let t = c.args.entries.now in
     let i = c.loop-index.index in
     let found : c.against-total.result ≡ count_by (collide p (get_or t i nobody)) (drop (i + 1) t) =
-    subst (λ (xs : List Cell). c.against-total.result ≡ count_by (collide p (get_or t i nobody)) (drop (i + 1) xs)) c.requires.entries c.against-total.ensures.count in
-    let at_most : c.against-total.result ≤ length t = subst (λ (xs : List Cell). c.against-total.result ≤ length xs) c.requires.entries c.against-total.ensures.at_most in
+    subst (λ (xs : List Cell). c.against-total.result ≡ count_by (collide p (get_or t i nobody)) (drop (i + 1) xs)) c.requires.entries
+    c.against-total.ensures.count in
+    let at_most : c.against-total.result ≤ length t =
+    subst (λ (xs : List Cell). c.against-total.result ≤ length xs) c.requires.entries c.against-total.ensures.at_most in
     record {
-      counted = pairs_more (collide p) t i nobody c.loop-index.total c.against-total.result c.loop-index-test.true c.loop-index.invariant.counted found;
+      counted = pairs_more (collide p) t i nobody c.loop-index.total c.against-total.result c.loop-index-test.true
+          c.loop-index.invariant.counted found;
       at_most = omega (arith, at_most, c.requires.at_most, c.loop-index.invariant.at_most);
     }

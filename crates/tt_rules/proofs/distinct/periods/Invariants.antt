@@ -7,6 +7,7 @@ use Rattle.tt_rules.proofs.distinct.periods.Given as goal
 
 abbrev pub invariant-loop-entry : goal.invariant-loop-entry
 invariant-loop-entry l = record {
-  marks : MarksTo (λ k e. e.day * l.instance.periods + e.period == k) (λ k. list_any (λ e. e.day * l.instance.periods + e.period == k) l.fn.group) l.marks l.entry-iterator;
+  marks : MarksTo (λ k e. e.day * l.instance.periods + e.period == k)
+      (λ k. list_any (λ e. e.day * l.instance.periods + e.period == k) l.fn.group) l.marks l.entry-iterator;
   left : All (InRange l.instance) l.entry-iterator;
 }

@@ -7,9 +7,11 @@ use Rattle.tt_rules.proofs.lectures.periods_of.Goals as goal
 
 pub periods-requires : goal.periods-requires
 periods-requires c =
-    subst (All (InRange c.args.instance.now)) (sym c.of_course.ensures.group) (All-filter (is_of c.args.course) (InRange c.args.instance.now) c.args.by_course.now.entries c.requires.in_range)
+    subst (All (InRange c.args.instance.now)) (sym c.of_course.ensures.group)
+    (All-filter (is_of c.args.course) (InRange c.args.instance.now) c.args.by_course.now.entries c.requires.in_range)
 
 pub returns-clause-count : goal.returns-clause-count
 returns-clause-count c =
-    c.periods.ensures.count ∙ ap (λ group. count_by (λ x. list_any (is_at x) group) (all_slots c.args.instance.now)) c.of_course.ensures.group
+    c.periods.ensures.count ∙ ap (λ group. count_by (λ x. list_any (is_at x) group) (all_slots c.args.instance.now))
+    c.of_course.ensures.group
     ∙ distinct_filtered (is_of c.args.course) is_at c.args.by_course.now.entries (all_slots c.args.instance.now)

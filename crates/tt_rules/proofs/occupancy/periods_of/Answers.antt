@@ -7,7 +7,8 @@ use Rattle.tt_rules.proofs.occupancy.periods_of.Goals as goal
 
 pub periods-requires : goal.periods-requires
 periods-requires c =
-    subst (All (InRange c.args.instance.now)) (sym c.in_room.ensures.group) (All-filter (is_in c.args.room) (InRange c.args.instance.now) c.args.by_room.now.entries c.requires.in_range)
+    subst (All (InRange c.args.instance.now)) (sym c.in_room.ensures.group)
+    (All-filter (is_in c.args.room) (InRange c.args.instance.now) c.args.by_room.now.entries c.requires.in_range)
 
 pub returns : goal.returns
 returns c =

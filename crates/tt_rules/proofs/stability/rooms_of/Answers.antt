@@ -7,7 +7,8 @@ use Rattle.tt_rules.proofs.stability.rooms_of.Goals as goal
 
 pub rooms-requires : goal.rooms-requires
 rooms-requires c =
-    subst (All (InRange c.args.instance.now)) (sym c.of_course.ensures.group) (All-filter (is_of c.args.course) (InRange c.args.instance.now) c.args.by_course.now.entries c.requires.in_range)
+    subst (All (InRange c.args.instance.now)) (sym c.of_course.ensures.group)
+    (All-filter (is_of c.args.course) (InRange c.args.instance.now) c.args.by_course.now.entries c.requires.in_range)
 
 pub returns-clause-count : goal.returns-clause-count
 returns-clause-count c =

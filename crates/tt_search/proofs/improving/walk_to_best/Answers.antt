@@ -13,7 +13,8 @@ returns-clause-best g c =
     let phases = c.walk_phases-made in
     let plans = c.go_plans in
     let same = phases.ensures.problem in
-    let walked = subst (λ p. IsBest p first.entries phases.new.best) (sym same) (phases.ensures.best first.entries c.in_ok-best.ensures.best) in
+    let walked = subst (λ p. IsBest p first.entries phases.new.best) (sym same)
+    (phases.ensures.best first.entries c.in_ok-best.ensures.best) in
     let planned = subst (λ p. IsBest p first.entries plans.new.best) same (plans.ensures.best first.entries walked) in
     subst (IsNoWorse first.problem first.entries) plans.ensures.here planned.found
 
@@ -22,5 +23,6 @@ returns-clause-reached g c =
     let phases = c.walk_phases-made in
     let plans = c.go_plans in
     let left = c.args.draws - phases.result in
-    let planned = subst (λ p. LeadsWithin p phases.new.occupied.entries c.new-schedule.result.draws plans.new.occupied.entries) phases.ensures.problem plans.ensures.reached in
+    let planned = subst (λ p. LeadsWithin p phases.new.occupied.entries c.new-schedule.result.draws plans.new.occupied.entries)
+    phases.ensures.problem plans.ensures.reached in
     leads_then phases.ensures.reached planned (omega (arith, phases.ensures.within, c.new-schedule.ensures))

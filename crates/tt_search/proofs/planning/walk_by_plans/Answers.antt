@@ -36,7 +36,8 @@ loop-plan-preserved g c =
       within = omega (arith, l.invariant.within, c.make_plan-steps.ensures.within);
       here = here;
       reached = λ start. elim c.keep.ensures.either [
-        | inl old ↦ subst (λ (b : Best). LeadsWithin p first (l.made + steps) b.entries.items) (sym old) (leads_more (l.made + steps) (l.invariant.reached start) (omega arith))
+        | inl old ↦ subst (λ (b : Best). LeadsWithin p first (l.made + steps) b.entries.items) (sym old)
+            (leads_more (l.made + steps) (l.invariant.reached start) (omega arith))
         | inr new ↦ subst (λ (t : List Cell). LeadsWithin p first (l.made + steps) t) (sym new) here
       ];
       best = λ t begun good. subst (λ (q : Problem). IsBest q t best) same
@@ -44,7 +45,9 @@ loop-plan-preserved g c =
     }
 
 pub returns-then-is_over-clause-reached : goal.returns-then-is_over-clause-reached
-returns-then-is_over-clause-reached g c = λ start. leads_more c.args.schedule.draws (c.loop-plan.invariant.reached start) c.loop-plan.invariant.within
+returns-then-is_over-clause-reached g c = λ start. leads_more c.args.schedule.draws
+    (c.loop-plan.invariant.reached start) c.loop-plan.invariant.within
 
 pub returns-after-loop-plan-clause-reached : goal.returns-after-loop-plan-clause-reached
-returns-after-loop-plan-clause-reached g c = λ start. leads_more c.args.schedule.draws (c.loop-plan.invariant.reached start) c.loop-plan.invariant.within
+returns-after-loop-plan-clause-reached g c = λ start. leads_more c.args.schedule.draws
+    (c.loop-plan.invariant.reached start) c.loop-plan.invariant.within

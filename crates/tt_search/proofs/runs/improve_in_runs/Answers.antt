@@ -23,7 +23,8 @@ loop-run-preserved g c =
     let next : suc l.run ≡ l.run + 1 = omega arith in
     record {
       kept = IsNoWorse-trans l.invariant.kept found.ensures.no_worse;
-      in_runs = subst (λ n. Runs a.instance.now a.table (steps / 2) (steps - steps / 2) n found.table) next (l.table, l.invariant.in_runs, found.ensures.descended);
+      in_runs = subst (λ n. Runs a.instance.now a.table (steps / 2) (steps - steps / 2) n found.table) next
+          (l.table, l.invariant.in_runs, found.ensures.descended);
     }
 
 pub returns-clause-runs : goal.returns-clause-runs

@@ -8,4 +8,5 @@ add_course-requires-clause-at_most c =
 
 pub loop-course-preserved : goal.loop-course-preserved
 loop-course-preserved c =
-    filled_more c.args.instance.now c.loop-course.course c.loop-course.table c.add_course.new.table c.loop-course.invariant (omega arith) c.in_ok-add_course.ensures
+    filled_more c.args.instance.now c.loop-course.course c.loop-course.table c.add_course.new.table c.loop-course.invariant
+    (omega arith) c.in_ok-add_course.ensures

@@ -8,4 +8,5 @@ has_neighbour-requires-clause-curriculum c =
     let a = c.args in
     let p = a.occupied.now.problem in
     let rows = c.curricula_of-curriculum-items.result.now in
-    passing_below (λ q. in_curriculum p q a.entry.course) (length p.curricula) rows c.curricula_of-curriculum-items.ensures c.loop-curriculum.curriculum-index 0 c.loop-curriculum-test.true
+    passing_below (λ q. in_curriculum p q a.entry.course) (length p.curricula) rows c.curricula_of-curriculum-items.ensures
+    c.loop-curriculum.curriculum-index 0 c.loop-curriculum-test.true

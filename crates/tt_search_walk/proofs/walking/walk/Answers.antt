@@ -27,13 +27,15 @@ loop-made-preserved g c =
     let courses : courses_of drawn.entries ≡ courses_of first = c.try_draw.ensures.courses ∙ l.invariant.courses in
     let here : LeadsWithin p first (l.made + 1) drawn.entries =
     subst (λ (q : Problem). LeadsWithin q first (l.made + 1) drawn.entries) l.invariant.problem
-    (c.try_draw.ensures.reached first l.made (subst (λ (q : Problem). LeadsWithin q first l.made l.occupied.entries) (sym l.invariant.problem) l.invariant.here)) in
+    (c.try_draw.ensures.reached first l.made (subst (λ (q : Problem). LeadsWithin q first l.made l.occupied.entries)
+    (sym l.invariant.problem) l.invariant.here)) in
     record {
       problem = same;
       courses = courses;
       here = here;
       reached = λ start. elim c.keep.ensures.either [
-        | inl old ↦ subst (λ (b : Best). LeadsWithin p first (l.made + 1) b.entries.items) (sym old) (leads_longer (l.invariant.reached start))
+        | inl old ↦ subst (λ (b : Best). LeadsWithin p first (l.made + 1) b.entries.items) (sym old)
+            (leads_longer (l.invariant.reached start))
         | inr new ↦ subst (λ (t : List Cell). LeadsWithin p first (l.made + 1) t) (sym new) here
       ];
       best = λ t begun good. subst (λ (q : Problem). IsBest q t best) same

@@ -9,6 +9,8 @@ invariant-loop-made g l = record {
   problem : l.occupied.problem ≡ l.initial.occupied.problem;
   courses : courses_of l.occupied.entries ≡ courses_of l.initial.occupied.entries;
   here : LeadsWithin l.initial.occupied.problem l.initial.occupied.entries l.made l.occupied.entries;
-  reached : l.initial.best.entries.items ≡ l.initial.occupied.entries → LeadsWithin l.initial.occupied.problem l.initial.occupied.entries l.made l.best.entries.items;
-  best : (t : List Cell) → courses_of l.initial.occupied.entries ≡ courses_of t → IsBest l.initial.occupied.problem t l.initial.best → IsBest l.initial.occupied.problem t l.best;
+  reached : l.initial.best.entries.items ≡ l.initial.occupied.entries
+      → LeadsWithin l.initial.occupied.problem l.initial.occupied.entries l.made l.best.entries.items;
+  best : (t : List Cell) → courses_of l.initial.occupied.entries ≡ courses_of t → IsBest l.initial.occupied.problem t l.initial.best
+      → IsBest l.initial.occupied.problem t l.best;
 }

@@ -5,4 +5,5 @@ pub returns-clause-token : goal.returns-clause-token
 returns-clause-token c = λ p bytes e at failed reported. fault_stands p bytes e at failed reported
 
 pub returns-clause-none : goal.returns-clause-none
-returns-clause-none c = λ p is bytes other e at failed reported begins t spelled. fault_stays p bytes other e at is.within failed reported begins t spelled
+returns-clause-none c = λ p is bytes other e at failed reported begins t spelled. fault_stays p bytes other e at is.within failed
+    reported begins t spelled

@@ -9,7 +9,8 @@ loop-behind-init c = record {
   groups = refl;
   room = refl;
   begins = begins_nowhere c.args.by c.args.entries.now (length c.args.entries.now - 0) (omega arith);
-  named = named_nowhere c.args.by c.args.entries.now (replicate 16384 (length c.args.entries.now)) (length c.args.entries.now - 0) (omega arith);
+  named = named_nowhere c.args.by c.args.entries.now (replicate 16384 (length c.args.entries.now)) (length c.args.entries.now - 0)
+      (omega arith);
 }
 
 pub loop-behind-preserved : goal.loop-behind-preserved
@@ -29,6 +30,9 @@ loop-behind-preserved c =
     record {
       groups = length-set first g i ∙ c.loop-behind.invariant.groups;
       room = length-set next i (get_or first g 0) ∙ c.loop-behind.invariant.room;
-      begins = subst (NamesFirst c.args.by t (set first g i)) (sym after) (begins_more c.args.by t g i own within first (omega (arith, small, c.loop-behind.invariant.groups)) begins);
-      named = subst (NamesNext c.args.by t (set next i (get_or first g 0))) (sym after) (named_more c.args.by t g i own within first next small (omega (arith, within, c.requires.at_most, c.loop-behind.invariant.room)) begins named);
+      begins = subst (NamesFirst c.args.by t (set first g i)) (sym after)
+          (begins_more c.args.by t g i own within first (omega (arith, small, c.loop-behind.invariant.groups)) begins);
+      named = subst (NamesNext c.args.by t (set next i (get_or first g 0))) (sym after)
+          (named_more c.args.by t g i own within first next small
+          (omega (arith, within, c.requires.at_most, c.loop-behind.invariant.room)) begins named);
     }

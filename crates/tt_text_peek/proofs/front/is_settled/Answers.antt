@@ -11,7 +11,8 @@ returns-then-token-saturating_sub c =
     let n = c.saturating_sub.result in
     let w = word_at c.args.bytes.now (place t) c.next.new.self (sym c.new.ensures ∙ c.in-Some.ensures.gives) in
     let yes = lt-ltb (length t.bytes.now) n c.if-token-saturating_sub.true in
-    yes ∙ sym (settled_is c.args.bytes.now (place t) n w c.saturating_sub.ensures ∙ or_left (nat_lt (length t.bytes.now) n) (nat_lt 32 (length t.bytes.now)) yes)
+    yes ∙ sym (settled_is c.args.bytes.now (place t) n w c.saturating_sub.ensures ∙ or_left (nat_lt (length t.bytes.now) n)
+    (nat_lt 32 (length t.bytes.now)) yes)
 
 pub returns-else-token-saturating_sub : goal.returns-else-token-saturating_sub
 returns-else-token-saturating_sub c =

@@ -4,7 +4,8 @@ use Rattle.tt_text_peek.proofs.front.read_front.Given as goal
 
 abbrev pub invariant-loop-front : goal.invariant-loop-front
 invariant-loop-front g l = record {
-  kept : Keeps (prepend_known l.fn.front.items (g.R.Source.remaining l.fn.source)) (prepend_known l.front.items (g.R.Source.remaining l.source));
+  kept : Keeps (prepend_known l.fn.front.items (g.R.Source.remaining l.fn.source))
+      (prepend_known l.front.items (g.R.Source.remaining l.source));
   calm : g.R.Source.has_failed l.source ≡ g.R.Source.has_failed l.fn.source;
 }
 

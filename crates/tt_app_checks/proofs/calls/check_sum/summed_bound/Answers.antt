@@ -24,4 +24,5 @@ returns-in_err-bound-clause-up_to_failed_read g c =
 
 pub returns-in_err-bound-clause-failed : goal.returns-in_err-bound-clause-failed
 returns-in_err-bound-clause-failed g c =
-    λ i r found. same_reads c.from_residual.result c.in_err-bound.field-0.0 (is_failed_read_at (i + 1)) _ _ _ c.from_residual.ensures.1 (c.in_err-bound.ensures.failed i r found) refl
+    λ i r found. same_reads c.from_residual.result c.in_err-bound.field-0.0 (is_failed_read_at (i + 1)) _ _ _ c.from_residual.ensures.1
+    (c.in_err-bound.ensures.failed i r found) refl

@@ -8,7 +8,8 @@ use Rattle.tt_app_searches.proofs.calls.best.best.Goals as goal
 pub returns-in_err-instance-clause-fault : goal.returns-in_err-instance-clause-fault
 returns-in_err-instance-clause-fault g c =
     let e = err_from_is_err_and c.from_residual.result c.from_residual.ensures.1 in
-    rw (e.1, e.2) (tells_first c.args.instance.now (option_copied c.args.search.start) c.in_err-instance.field-0.0 c.in_err-instance.ensures.exact)
+    rw (e.1, e.2)
+    (tells_first c.args.instance.now (option_copied c.args.search.start) c.in_err-instance.field-0.0 c.in_err-instance.ensures.exact)
 
 pub returns-in_err-instance-clause-only : goal.returns-in_err-instance-clause-only
 returns-in_err-instance-clause-only g c =
@@ -18,15 +19,20 @@ returns-in_err-instance-clause-only g c =
 pub returns-in_err-table-clause-fault : goal.returns-in_err-table-clause-fault
 returns-in_err-table-clause-fault g c =
     let e = err_from_is_err_and c.from_residual-in_err-table.result c.from_residual-in_err-table.ensures.1 in
-    rw (e.1, e.2) (tells_given c.args.instance.now (option_copied c.args.search.start) c.in_ok-instance.instance c.in_err-table.field-0.0 c.in_ok-instance.ensures.found c.in_err-table.ensures.fault)
+    rw (e.1, e.2)
+    (tells_given c.args.instance.now (option_copied c.args.search.start) c.in_ok-instance.instance c.in_err-table.field-0.0
+    c.in_ok-instance.ensures.found c.in_err-table.ensures.fault)
 
 pub returns-in_err-table-clause-only : goal.returns-in_err-table-clause-only
 returns-in_err-table-clause-only g c =
     let e = err_from_is_err_and c.from_residual-in_err-table.result c.from_residual-in_err-table.ensures.1 in
-    λ p spells some. rw (e.1, e.2) (given_memory c.args.instance.now (option_copied c.args.search.start) c.in_ok-instance.instance p c.in_err-table.field-0.0 c.in_ok-instance.ensures.found spells some c.in_err-table.ensures.fault)
+    λ p spells some. rw (e.1, e.2)
+    (given_memory c.args.instance.now (option_copied c.args.search.start) c.in_ok-instance.instance p c.in_err-table.field-0.0
+    c.in_ok-instance.ensures.found spells some c.in_err-table.ensures.fault)
 
 pub find_best-requires : goal.find_best-requires
-find_best-requires g c = given_fits c.in_ok-instance.instance (option_copied c.args.search.start) c.in_ok-table.table c.in_ok-table.ensures.found
+find_best-requires g c = given_fits c.in_ok-instance.instance (option_copied c.args.search.start) c.in_ok-table.table
+    c.in_ok-table.ensures.found
 
 pub returns-in_err-week-clause-fault : goal.returns-in_err-week-clause-fault
 returns-in_err-week-clause-fault g c =
@@ -53,5 +59,7 @@ returns-clause-found g c = c.in_ok-answer_of.ensures.found c.args.instance.now c
 
 pub returns-clause-no_more : goal.returns-clause-no_more
 returns-clause-no_more g c =
-    costs_no_more c.args.instance.now (option_copied c.args.search.start) c.args.style.now c.in_ok-instance.instance c.in_ok-table.table c.in_ok-week.week.table _
-    c.in_ok-instance.ensures.found c.in_ok-table.ensures.found c.in_ok-week.ensures.week.table c.in_ok-week.ensures.no_worse (c.in_ok-answer_of.ensures.costs c.args.instance.now c.in_ok-instance.ensures.found)
+    costs_no_more c.args.instance.now (option_copied c.args.search.start) c.args.style.now c.in_ok-instance.instance c.in_ok-table.table
+    c.in_ok-week.week.table _
+    c.in_ok-instance.ensures.found c.in_ok-table.ensures.found c.in_ok-week.ensures.week.table c.in_ok-week.ensures.no_worse
+    (c.in_ok-answer_of.ensures.costs c.args.instance.now c.in_ok-instance.ensures.found)

@@ -16,8 +16,10 @@ returns c =
     let copies = c.in_ok-copy_texts in
     let same = copies.ensures ∙ ap (λ (l : List (Vec ℕ Global)). texts_of l) c.deref.ensures.value in
     let sum = subst (λ (files : List (List ℕ)). IsSum a.instance.now files parts.bound) (sym same) c.requires.parts.sum in
-    let is = whole i solution.field-0.items a.instance.now a.table.now (texts_of copies.field-0.items) page.field-0 a.style.now parts.bound a.cost
-    c.in-AtLeast.points spells solution.ensures.again c.requires.feasible c.requires.cost sum c.requires.parts.holds c.in-AtLeast.is page.ensures in
+    let is = whole i solution.field-0.items a.instance.now a.table.now (texts_of copies.field-0.items) page.field-0 a.style.now
+    parts.bound a.cost
+    c.in-AtLeast.points spells solution.ensures.again c.requires.feasible c.requires.cost sum c.requires.parts.holds c.in-AtLeast.is
+    page.ensures in
     record {
       found = record {
         solution = solution.field-0.items;

@@ -6,12 +6,17 @@ use Rattle.tt_app_searches.proofs.calls.improve.improve.Goals as goal
 pub returns-in_err-instance-clause-only : goal.returns-in_err-instance-clause-only
 returns-in_err-instance-clause-only g c =
     let e = err_from_is_err_and c.from_residual.result c.from_residual.ensures.1 in
-    λ p t alone both. rw (e.1, e.2) (only_memory c.args.instance.now c.args.solution.now p t _ both (tells_instance c.args.instance.now c.args.solution.now c.in_err-instance.field-0.0 c.in_err-instance.ensures.exact))
+    λ p t alone both. rw (e.1, e.2)
+    (only_memory c.args.instance.now c.args.solution.now p t _ both
+    (tells_instance c.args.instance.now c.args.solution.now c.in_err-instance.field-0.0 c.in_err-instance.ensures.exact))
 
 pub returns-in_err-table-clause-only : goal.returns-in_err-table-clause-only
 returns-in_err-table-clause-only g c =
     let e = err_from_is_err_and c.from_residual-in_err-table.result c.from_residual-in_err-table.ensures.1 in
-    λ p t alone both. rw (e.1, e.2) (only_memory c.args.instance.now c.args.solution.now p t _ both (tells_solution c.args.instance.now c.args.solution.now c.in_ok-instance.instance c.in_err-table.field-0.0 c.in_ok-instance.ensures.found c.in_err-table.ensures.exact))
+    λ p t alone both. rw (e.1, e.2)
+    (only_memory c.args.instance.now c.args.solution.now p t _ both
+    (tells_solution c.args.instance.now c.args.solution.now c.in_ok-instance.instance c.in_err-table.field-0.0
+    c.in_ok-instance.ensures.found c.in_err-table.ensures.exact))
 
 pub returns-in_err-table_answer-clause-fault : goal.returns-in_err-table_answer-clause-fault
 returns-in_err-table_answer-clause-fault g c =
@@ -25,13 +30,17 @@ returns-in_err-table_answer-clause-only g c =
 pub returns-in_err-start-clause-fault : goal.returns-in_err-start-clause-fault
 returns-in_err-start-clause-fault g c =
     let e = err_from_is_err_and c.from_residual-in_err-start.result c.from_residual-in_err-start.ensures.1 in
-    rw (e.1, e.2) (refused_start c.args.instance.now c.args.solution.now c.in_ok-instance.instance c.in_ok-table.table c.in_err-start.field-0.0 c.args.search.completes
+    rw (e.1, e.2)
+    (refused_start c.args.instance.now c.args.solution.now c.in_ok-instance.instance c.in_ok-table.table c.in_err-start.field-0.0
+    c.args.search.completes
     (record { spelled = c.in_ok-instance.ensures.found; solved = c.in_ok-table.ensures.found }) c.in_err-start.ensures.fault)
 
 pub returns-in_err-start-clause-only : goal.returns-in_err-start-clause-only
 returns-in_err-start-clause-only g c =
     let e = err_from_is_err_and c.from_residual-in_err-start.result c.from_residual-in_err-start.ensures.1 in
-    λ p t alone both. rw (e.1, e.2) (only_start c.in_ok-instance.instance c.in_ok-table.table c.in_err-start.field-0.0 c.args.search.completes alone c.in_err-start.ensures.fault)
+    λ p t alone both. rw (e.1, e.2)
+    (only_start c.in_ok-instance.instance c.in_ok-table.table c.in_err-start.field-0.0 c.args.search.completes alone
+    c.in_err-start.ensures.fault)
 
 pub returns-in_err-better-clause-fault : goal.returns-in_err-better-clause-fault
 returns-in_err-better-clause-fault g c =

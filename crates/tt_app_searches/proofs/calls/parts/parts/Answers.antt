@@ -17,12 +17,16 @@ returns-in_err-instance-clause-only g c =
 pub returns-in_err-table-clause-fault : goal.returns-in_err-table-clause-fault
 returns-in_err-table-clause-fault g c =
     let e = err_from_is_err_and c.from_residual-in_err-table.result c.from_residual-in_err-table.ensures.1 in
-    rw (e.1, e.2) (tells_given c.args.instance.now (option_copied c.args.guide) c.in_ok-instance.instance c.in_err-table.field-0.0 c.in_ok-instance.ensures.found c.in_err-table.ensures.fault)
+    rw (e.1, e.2)
+    (tells_given c.args.instance.now (option_copied c.args.guide) c.in_ok-instance.instance c.in_err-table.field-0.0
+    c.in_ok-instance.ensures.found c.in_err-table.ensures.fault)
 
 pub returns-in_err-table-clause-only : goal.returns-in_err-table-clause-only
 returns-in_err-table-clause-only g c =
     let e = err_from_is_err_and c.from_residual-in_err-table.result c.from_residual-in_err-table.ensures.1 in
-    λ p spells some. rw (e.1, e.2) (given_memory c.args.instance.now (option_copied c.args.guide) c.in_ok-instance.instance p c.in_err-table.field-0.0 c.in_ok-instance.ensures.found spells some c.in_err-table.ensures.fault)
+    λ p spells some. rw (e.1, e.2)
+    (given_memory c.args.instance.now (option_copied c.args.guide) c.in_ok-instance.instance p c.in_err-table.field-0.0
+    c.in_ok-instance.ensures.found spells some c.in_err-table.ensures.fault)
 
 pub returns-in_err-answer_of-clause-fault : goal.returns-in_err-answer_of-clause-fault
 returns-in_err-answer_of-clause-fault g c =

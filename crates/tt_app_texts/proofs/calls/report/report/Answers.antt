@@ -9,12 +9,17 @@ use Rattle.tt_app_texts.proofs.calls.report.report.Goals as goal
 pub returns-in_err-instance-clause-only : goal.returns-in_err-instance-clause-only
 returns-in_err-instance-clause-only g c =
     let e = err_from_is_err_and c.from_residual.result c.from_residual.ensures.1 in
-    λ p t both. rw (e.1, e.2) (inl (only_memory c.args.instance.now c.args.solution.now p t _ both (tells_instance c.args.instance.now c.args.solution.now c.in_err-instance.field-0.0 c.in_err-instance.ensures.exact)))
+    λ p t both. rw (e.1, e.2)
+    (inl (only_memory c.args.instance.now c.args.solution.now p t _ both
+    (tells_instance c.args.instance.now c.args.solution.now c.in_err-instance.field-0.0 c.in_err-instance.ensures.exact)))
 
 pub returns-in_err-table-clause-only : goal.returns-in_err-table-clause-only
 returns-in_err-table-clause-only g c =
     let e = err_from_is_err_and c.from_residual-in_err-table.result c.from_residual-in_err-table.ensures.1 in
-    λ p t both. rw (e.1, e.2) (inl (only_memory c.args.instance.now c.args.solution.now p t _ both (tells_solution c.args.instance.now c.args.solution.now c.in_ok-instance.instance c.in_err-table.field-0.0 c.in_ok-instance.ensures.found c.in_err-table.ensures.exact)))
+    λ p t both. rw (e.1, e.2)
+    (inl (only_memory c.args.instance.now c.args.solution.now p t _ both
+    (tells_solution c.args.instance.now c.args.solution.now c.in_ok-instance.instance c.in_err-table.field-0.0
+    c.in_ok-instance.ensures.found c.in_err-table.ensures.exact)))
 
 pub returns-in_err-instance-clause-failed : goal.returns-in_err-instance-clause-failed
 returns-in_err-instance-clause-failed g c =
@@ -24,4 +29,5 @@ returns-in_err-instance-clause-failed g c =
 pub returns-in_err-table-clause-failed : goal.returns-in_err-table-clause-failed
 returns-in_err-table-clause-failed g c =
     let f = c.in_err-table.field-0.0 in
-    calm c.from_residual-in_err-table.result (fault_from_solution f) is_failed_write _ _ c.from_residual-in_err-table.ensures.1 (solution_write f) refl
+    calm c.from_residual-in_err-table.result (fault_from_solution f) is_failed_write _ _ c.from_residual-in_err-table.ensures.1
+    (solution_write f) refl

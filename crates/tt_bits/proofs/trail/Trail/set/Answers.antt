@@ -13,7 +13,8 @@ invariant_of-self-2 c =
     let m : n ≤ length c.push.new.self.items = omega (arith, ap length c.in_ok-push.ensures.items, length-append t.log.items) in
     record {
       marks = climb_further t.marks.items n (length c.push.new.self.items) m c.self.invariant.marks;
-      places = rw (length-set t.words.items c.args.place c.args.word, c.in_ok-push.ensures.items) (within_more (length t.words.items) t.log.items _ c.self.invariant.places k);
+      places = rw (length-set t.words.items c.args.place c.args.word, c.in_ok-push.ensures.items)
+          (within_more (length t.words.items) t.log.items _ c.self.invariant.places k);
     }
 
 pub returns-clause-unchanged : goal.returns-clause-unchanged
@@ -21,4 +22,5 @@ returns-clause-unchanged c =
     let t = c.self.inside in
     let k : c.args.place < length t.words.items = omega (arith, ap (λ (v : TrailStates). length v.words) c.self.view_is) in
     let h = c.index.ensures ∙ get_or_default_zero t.words.items c.args.place c.index.result.now k in
-    rw c.in_ok-push.ensures.items (tables_at-write t.words.items t.log.items _ c.args.word t.marks.items k h (climb_at_most t.marks.items (length t.log.items) c.self.invariant.marks) ∙ ap (λ (v : TrailStates). v.earlier) c.self.view_is)
+    rw c.in_ok-push.ensures.items (tables_at-write t.words.items t.log.items _ c.args.word t.marks.items k h
+    (climb_at_most t.marks.items (length t.log.items) c.self.invariant.marks) ∙ ap (λ (v : TrailStates). v.earlier) c.self.view_is)

@@ -25,7 +25,8 @@ loop-self-preserved c =
     let o = c.unwrap-old.result in
     let log = c.pop-in-loop-self.new.self.items in
     let mark = c.unwrap-mark.result in
-    let e : t.log.items ≡ log ++ o ∷ [] = last_taken t.log.items log c.pop-in-loop-self.result o c.pop-in-loop-self.ensures.items c.unwrap-old.ensures in
+    let e : t.log.items ≡ log ++ o ∷ [] = last_taken t.log.items log c.pop-in-loop-self.result o c.pop-in-loop-self.ensures.items
+    c.unwrap-old.ensures in
     let n : length t.log.items ≡ length log + 1 = ap length e ∙ length-append log (o ∷ []) in
     let m : mark ≤ length log = omega (arith, c.len.ensures) in
     let w = within_parts (length t.words.items) log o (rw e at i.places) in
@@ -34,5 +35,8 @@ loop-self-preserved c =
       marks = i.marks;
       places = rw (length-set t.words.items o.place o.word) w.0;
       words = sym (table_at-back t.words.items log o mark m) ∙ ap (λ l. table_at t.words.items l mark) (sym e) ∙ i.words;
-      earlier = sym (tables_at-back t.words.items log o t.marks.items (at_most_all t.marks.items mark (length log) m (climb_at_most t.marks.items mark i.marks))) ∙ ap (λ l. tables_at t.words.items l t.marks.items) (sym e) ∙ i.earlier;
+      earlier = sym
+          (tables_at-back t.words.items log o t.marks.items
+          (at_most_all t.marks.items mark (length log) m (climb_at_most t.marks.items mark i.marks)))
+          ∙ ap (λ l. tables_at t.words.items l t.marks.items) (sym e) ∙ i.earlier;
     }

@@ -19,7 +19,8 @@ returns-clause-under_way c = λ p k.
     record {
       kept = k;
       links = subst AreLinks (sym links) no_links;
-      grown = subst (λ l. IsGrown p (table_of c.args.best) l c.push.new.self.items) (sym links) (subst (λ es. IsGrown p (table_of c.args.best) [] es) (sym items) (grow_root p (table_of c.args.best) root refl refl));
+      grown = subst (λ l. IsGrown p (table_of c.args.best) l c.push.new.self.items) (sym links)
+          (subst (λ es. IsGrown p (table_of c.args.best) [] es) (sym items) (grow_root p (table_of c.args.best) root refl refl));
     }
 
 pub returns-clause-waiting : goal.returns-clause-waiting

@@ -13,5 +13,6 @@ returns-in-None-clause-value c =
 pub returns-in-Some-clause-value : goal.returns-in-Some-clause-value
 returns-in-Some-clause-value c =
     let a = c.args in
-    ap Some (c.from.ensures ∙ c.saturating_sub.ensures ∙ ap (λ n. n - c.in-Some.ranked.seats) (c.students-students.ensures.value ∙ ap (λ (v : Facts). students v.problem a.course) c.self.view_is))
+    ap Some (c.from.ensures ∙ c.saturating_sub.ensures ∙ ap (λ n. n - c.in-Some.ranked.seats) (c.students-students.ensures.value
+    ∙ ap (λ (v : Facts). students v.problem a.course) c.self.view_is))
     ∙ sym (least_excess-roomiest a.self.now.problem a.self.now.facts a.course (slot a.day a.period) c.in-Some.ranked c.in-Some.ensures)

@@ -12,6 +12,7 @@ pub returns : goal.returns
 returns c =
     let v = c.args.self.now in
     let w = c.live_periods.result in
-    let at_most : v.problem.periods ≤ 64 = omega (arith, c.periods.ensures.value, c.periods.ensures.within, ap (λ (u : Facts). u.problem.periods) c.self.view_is) in
+    let at_most : v.problem.periods ≤ 64 =
+    omega (arith, c.periods.ensures.value, c.periods.ensures.within, ap (λ (u : Facts). u.problem.periods) c.self.view_is) in
     ap not c.is_empty.ensures ∙ not-not (list_any (has_bit w) bits)
     ∙ any-set w v.problem.periods (λ s. live_period v.problem v.facts c.args.course (slot c.args.day s)) at_most c.live_periods.ensures

@@ -11,6 +11,7 @@ invariant_of-result c =
       order = c.in_ok-order.ensures;
       depth = rw c.new-facts.ensures.items (omega arith);
       listing = rw (c.new-facts.ensures.items, c.new-firsts.ensures.items, c.new-yes.ensures.items) listing-none;
-      tables = rw c.new-facts.ensures.items (first_tables p c.in_ok-free.free.words c.in_ok-live.live.words c.in_ok-free.ensures.shows c.in_ok-live.ensures.shows);
+      tables = rw c.new-facts.ensures.items
+          (first_tables p c.in_ok-free.free.words c.in_ok-live.live.words c.in_ok-free.ensures.shows c.in_ok-live.ensures.shows);
       earlier = rw (c.new-facts.ensures.items, c.in_ok-free.ensures.earlier, c.in_ok-live.ensures.earlier) (none_earlier p);
     }

@@ -11,7 +11,8 @@ invariant_of-self c =
     let free = c.undo.new.self in
     let live = c.undo-2.new.self in
     let e : s.facts.items ≡ facts ++ f ∷ [] = c.unlist_fact.ensures.fact in
-    let popped = earlier_popped s.instance.now facts f free.earlier live.earlier free.words live.words (rw (e, c.undo.ensures, c.undo-2.ensures) at c.self.invariant.earlier) in
+    let popped = earlier_popped s.instance.now facts f free.earlier live.earlier free.words live.words
+    (rw (e, c.undo.ensures, c.undo-2.ensures) at c.self.invariant.earlier) in
     record {
       links = c.self.invariant.links;
       order = c.self.invariant.order;

@@ -20,7 +20,9 @@ add-requires-clause-listed c = λ denies.
     let f = c.args.fact in
     let old = s.facts.items in
     let facts = c.list_fact.new.facts.items in
-    let listed : AreListed (old ++ f ∷ []) c.as_slice.result.now = subst (AreListed (old ++ f ∷ [])) (sym c.as_slice.ensures.value) (subst (λ l. AreListed l c.list_fact.new.yes.items) c.in_ok-list_fact.ensures.ok (listing-now facts c.list_fact.new.firsts.items c.list_fact.new.yes.items c.list_fact.ensures.listing)) in
+    let listed : AreListed (old ++ f ∷ []) c.as_slice.result.now = subst (AreListed (old ++ f ∷ [])) (sym c.as_slice.ensures.value)
+    (subst (λ l. AreListed l c.list_fact.new.yes.items) c.in_ok-list_fact.ensures.ok
+    (listing-now facts c.list_fact.new.firsts.items c.list_fact.new.yes.items c.list_fact.ensures.listing)) in
     c.requires.listed ∙ sym (ap (λ (v : Facts). has_fact v.facts f.pattern true) c.self.view_is)
     ∙ listed-before old f c.as_slice.result.now f.pattern denies listed
 
@@ -35,7 +37,9 @@ invariant_of-self-in_default c =
     let live = c.add.new.live.words in
     let e : facts ≡ old ++ f ∷ [] = c.in_ok-list_fact.ensures.ok in
     let listing = c.list_fact.ensures.listing in
-    let listed : AreListed (old ++ f ∷ []) c.as_slice.result.now = subst (AreListed (old ++ f ∷ [])) (sym c.as_slice.ensures.value) (subst (λ l. AreListed l c.list_fact.new.yes.items) e (listing-now facts c.list_fact.new.firsts.items c.list_fact.new.yes.items listing)) in
+    let listed : AreListed (old ++ f ∷ []) c.as_slice.result.now = subst (AreListed (old ++ f ∷ [])) (sym c.as_slice.ensures.value)
+    (subst (λ l. AreListed l c.list_fact.new.yes.items) e
+    (listing-now facts c.list_fact.new.firsts.items c.list_fact.new.yes.items listing)) in
     let before = c.self.invariant.tables in
     let kept = earlier_pushed p old f s.free.earlier s.live.earlier s.free.words s.live.words before c.self.invariant.earlier in
     record {

@@ -14,18 +14,21 @@ returns-then-not-live_period c = λ r h.
     let a = c.args in
     let v = a.self.now in
     let live = λ (k : ℕ). is_live v.problem v.facts (cell a.course k (slot a.day a.period)) in
-    false_from_ne_true (live r) (λ t. both_ways (live_period v.problem v.facts a.course (slot a.day a.period)) (sym c.live_period.ensures ∙ c.if-not-live_period.true) (any_below live (length v.problem.rooms) r h t))
+    false_from_ne_true (live r) (λ t. both_ways (live_period v.problem v.facts a.course (slot a.day a.period))
+    (sym c.live_period.ensures ∙ c.if-not-live_period.true) (any_below live (length v.problem.rooms) r h t))
 
 pub is_live-requires : goal.is_live-requires
 is_live-requires c =
     let a = c.args in
     let v = a.self.now in
     let rooms = c.as_slice-ranked-items.result.now in
-    let order : IsRoomOrder v.problem rooms = subst (λ (u : Facts). IsRoomOrder u.problem rooms) c.self.view_is (subst (λ l. IsRoomOrder c.self.inside.instance.now l) (sym c.as_slice-ranked-items.ensures) c.self.invariant.order) in
+    let order : IsRoomOrder v.problem rooms = subst (λ (u : Facts). IsRoomOrder u.problem rooms) c.self.view_is
+    (subst (λ l. IsRoomOrder c.self.inside.instance.now l) (sym c.as_slice-ranked-items.ensures) c.self.invariant.order) in
     let here : c.loop-ranked.ranked-index < length rooms = omega arith in
     record {
       course = c.requires.course;
-      room = (is_ranked v.problem v.facts a.course (slot a.day a.period) rooms order c.loop-ranked.ranked-index (record { room = 0; seats = 0 }) here).0;
+      room = (is_ranked v.problem v.facts a.course (slot a.day a.period) rooms order c.loop-ranked.ranked-index
+          (record { room = 0; seats = 0 }) here).0;
       day = c.requires.day;
       period = c.requires.period;
     }
@@ -35,16 +38,19 @@ returns-then-is_live c =
     let a = c.args in
     let v = a.self.now in
     let rooms = c.as_slice-ranked-items.result.now in
-    let order : IsRoomOrder v.problem rooms = subst (λ (u : Facts). IsRoomOrder u.problem rooms) c.self.view_is (subst (λ l. IsRoomOrder c.self.inside.instance.now l) (sym c.as_slice-ranked-items.ensures) c.self.invariant.order) in
+    let order : IsRoomOrder v.problem rooms = subst (λ (u : Facts). IsRoomOrder u.problem rooms) c.self.view_is
+    (subst (λ l. IsRoomOrder c.self.inside.instance.now l) (sym c.as_slice-ranked-items.ensures) c.self.invariant.order) in
     let here : c.loop-ranked.ranked-index < length rooms = omega arith in
     let d : Ranked = record { room = 0; seats = 0 } in
-    roomiest_at v.problem v.facts a.course (slot a.day a.period) rooms order c.loop-ranked.ranked-index d here (λ j l. c.loop-ranked.invariant j d l) (sym c.is_live.ensures ∙ c.if-is_live.true)
+    roomiest_at v.problem v.facts a.course (slot a.day a.period) rooms order c.loop-ranked.ranked-index d here
+    (λ j l. c.loop-ranked.invariant j d l) (sym c.is_live.ensures ∙ c.if-is_live.true)
 
 pub returns : goal.returns
 returns c =
     let a = c.args in
     let v = a.self.now in
     let rooms = c.as_slice-ranked-items.result.now in
-    let order : IsRoomOrder v.problem rooms = subst (λ (u : Facts). IsRoomOrder u.problem rooms) c.self.view_is (subst (λ l. IsRoomOrder c.self.inside.instance.now l) (sym c.as_slice-ranked-items.ensures) c.self.invariant.order) in
+    let order : IsRoomOrder v.problem rooms = subst (λ (u : Facts). IsRoomOrder u.problem rooms) c.self.view_is
+    (subst (λ l. IsRoomOrder c.self.inside.instance.now l) (sym c.as_slice-ranked-items.ensures) c.self.invariant.order) in
     let d : Ranked = record { room = 0; seats = 0 } in
     none_live v.problem v.facts a.course (slot a.day a.period) rooms order d (λ j l. c.loop-ranked.invariant j d (omega arith))

@@ -13,5 +13,8 @@ returns c =
     let test = is_room_lost p a.self.now.facts a.pattern.now a.cell a.course in
     let span = c.numbers_given-rooms.result in
     let given : range_with_len span.start (span.end - span.start) ≡ numbers_given a.pattern.now.room (length p.rooms) =
-    c.numbers_given-rooms.ensures ∙ ap (numbers_given a.pattern.now.room) (c.rooms.ensures.value ∙ ap (λ (v : Facts). length v.problem.rooms) c.self.view_is) in
-    all_from_yields_List test _ _ c.all.result c.all.ensures.ran (YieldsList-from_range span.start span.end (span.end - span.start) refl refl) (λ x b q k. search (rules, tests)) ∙ ap (list_all test) given
+    c.numbers_given-rooms.ensures ∙ ap (numbers_given a.pattern.now.room)
+    (c.rooms.ensures.value ∙ ap (λ (v : Facts). length v.problem.rooms) c.self.view_is) in
+    all_from_yields_List test _ _ c.all.result c.all.ensures.ran
+    (YieldsList-from_range span.start span.end (span.end - span.start) refl refl) (λ x b q k. search (rules, tests))
+    ∙ ap (list_all test) given

@@ -13,5 +13,9 @@ returns c =
     let a = c.args in
     let test = λ (s : ℕ). is_lost p a.self.now.facts a.cell (cell a.course a.room (slot a.day s)) in
     let span = c.numbers_given-periods.result in
-    let given : range_with_len span.start (span.end - span.start) ≡ numbers_given a.pattern.now.period p.periods = c.numbers_given-periods.ensures ∙ ap (numbers_given a.pattern.now.period) (c.periods.ensures.value ∙ ap (λ (v : Facts). v.problem.periods) c.self.view_is) in
-    all_from_yields_List test _ _ c.all.result c.all.ensures.ran (YieldsList-from_range span.start span.end (span.end - span.start) refl refl) (λ x b q k. search (rules, tests)) ∙ ap (list_all test) given
+    let given : range_with_len span.start (span.end - span.start) ≡ numbers_given a.pattern.now.period p.periods =
+    c.numbers_given-periods.ensures ∙ ap (numbers_given a.pattern.now.period)
+    (c.periods.ensures.value ∙ ap (λ (v : Facts). v.problem.periods) c.self.view_is) in
+    all_from_yields_List test _ _ c.all.result c.all.ensures.ran
+    (YieldsList-from_range span.start span.end (span.end - span.start) refl refl) (λ x b q k. search (rules, tests))
+    ∙ ap (list_all test) given

@@ -13,9 +13,11 @@ returns-then-curriculum-curricula c =
     let s = c.args.self.now in
     let q = c.in-Curriculum.curriculum in
     let past : length s.problem.curricula ≤ q = omega (arith, ap (λ (v : Facts). length v.problem.curricula) c.self.view_is) in
-    le-leb c.curricula.result q c.if-curriculum-curricula.true ∙ sym (excludes-by_nobody s.problem s.facts c.args.pattern.now c.args.cell q c.in-Curriculum.is past)
+    le-leb c.curricula.result q c.if-curriculum-curricula.true
+    ∙ sym (excludes-by_nobody s.problem s.facts c.args.pattern.now c.args.cell q c.in-Curriculum.is past)
 
 pub returns-else-curriculum-curricula : goal.returns-else-curriculum-curricula
 returns-else-curriculum-curricula c =
     let s = c.args.self.now in
-    c.are_members_lost.ensures ∙ sym (excludes-by_members s.problem s.facts c.args.pattern.now c.args.cell c.in-Curriculum.curriculum c.in-Curriculum.is)
+    c.are_members_lost.ensures
+    ∙ sym (excludes-by_members s.problem s.facts c.args.pattern.now c.args.cell c.in-Curriculum.curriculum c.in-Curriculum.is)

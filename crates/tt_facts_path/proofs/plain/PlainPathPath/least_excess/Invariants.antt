@@ -10,6 +10,7 @@ abbrev pub invariant-loop-room : goal.invariant-loop-room
 invariant-loop-room l =
     let p = l.self.problem in
     record {
-      value : l.least ≡ least (map (excess p l.course) (filter (λ r. is_live p l.self.facts (cell l.course r (slot l.day l.period))) (range_below l.room)));
+      value : l.least ≡ least
+          (map (excess p l.course) (filter (λ r. is_live p l.self.facts (cell l.course r (slot l.day l.period))) (range_below l.room)));
       within : IfSome l.least (λ n. n ≤ 1000000);
     }

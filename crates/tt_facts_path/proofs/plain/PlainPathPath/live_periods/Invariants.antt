@@ -6,4 +6,5 @@ use Rattle.tt_facts_path.specs.Live.{live_period}
 use Rattle.tt_facts_path.proofs.plain.PlainPathPath.live_periods.Given as goal
 
 abbrev pub invariant-loop-period : goal.invariant-loop-period
-invariant-loop-period l = (s : ℕ) → s < 64 → has_bit l.live s ≡ (nat_lt s l.period && live_period l.self.problem l.self.facts l.course (slot l.day s))
+invariant-loop-period l = (s : ℕ) → s < 64
+    → has_bit l.live s ≡ (nat_lt s l.period && live_period l.self.problem l.self.facts l.course (slot l.day s))

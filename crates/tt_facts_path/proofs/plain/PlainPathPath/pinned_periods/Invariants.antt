@@ -6,4 +6,5 @@ use Rattle.tt_facts_path.specs.Live.{pinned}
 use Rattle.tt_facts_path.proofs.plain.PlainPathPath.pinned_periods.Given as goal
 
 abbrev pub invariant-loop-period : goal.invariant-loop-period
-invariant-loop-period l = (s : ℕ) → s < 64 → has_bit l.pinned s ≡ (nat_lt s l.period && pinned l.self.problem l.self.facts l.who (slot l.day s))
+invariant-loop-period l = (s : ℕ) → s < 64
+    → has_bit l.pinned s ≡ (nat_lt s l.period && pinned l.self.problem l.self.facts l.who (slot l.day s))

@@ -17,4 +17,5 @@ returns c =
     λ n h.
     ap (λ w. has_bit w n) (c.word.ensures ∙ ap (λ i. slice_index_or words i 0) c.block_place.ensures.value)
     ∙ block_shown p s.facts.items words a.course a.block c.self.invariant.shown hc hb n h
-    ∙ ap (λ (v : Facts). nat_lt (a.block * 64 + n) (length v.problem.rooms) && pinned_room v.problem v.facts a.course (a.block * 64 + n)) c.self.view_is
+    ∙ ap (λ (v : Facts). nat_lt (a.block * 64 + n) (length v.problem.rooms) && pinned_room v.problem v.facts a.course
+    (a.block * 64 + n)) c.self.view_is

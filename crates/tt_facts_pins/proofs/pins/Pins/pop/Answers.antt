@@ -14,7 +14,8 @@ invariant_of-self c =
     let fact_table = c.undo-2.new.self in
     let e : s.facts.items ≡ facts ++ f ∷ [] = c.unlist_fact.ensures.fact in
     let pins = earlier_popped (ShowsPins p) facts f pinned.earlier pinned.words (rw (e, c.undo.ensures) at c.self.invariant.earlier) in
-    let facts_shown = earlier_popped (ShowsFacts p) facts f fact_table.earlier fact_table.words (rw (e, c.undo-2.ensures) at c.self.invariant.facts_earlier) in
+    let facts_shown = earlier_popped (ShowsFacts p) facts f fact_table.earlier fact_table.words
+    (rw (e, c.undo-2.ensures) at c.self.invariant.facts_earlier) in
     record {
       depth = omega (arith, c.self.invariant.depth, ap length e, length-append facts (f ∷ []));
       unplaced = c.unlist_fact.ensures.unplaced;

@@ -20,7 +20,11 @@ invariant_of-self-in_default c =
       unplaced = c.in_ok-list_fact.ensures.unplaced;
       links = before.links;
       shown = rw e (shown_more p s.facts.items f s.pinned.words c.add.new.pinned.words before.shown added.pins);
-      earlier = rw (e, added.kept_pinned) (earlier_pushed (ShowsPins p) s.facts.items f s.pinned.earlier s.pinned.words before.shown before.earlier);
+      earlier = rw (e, added.kept_pinned)
+          (earlier_pushed (ShowsPins p) s.facts.items f s.pinned.earlier s.pinned.words before.shown before.earlier);
       facts_shown = rw e (fact_table_more p s.facts.items f s.fact_table.words c.add.new.fact_table.words before.facts_shown added.adds);
-      facts_earlier = rw (e, added.kept_fact_table) (earlier_pushed (ShowsFacts p) s.facts.items f s.fact_table.earlier s.fact_table.words before.facts_shown before.facts_earlier);
+      facts_earlier =
+          rw (e, added.kept_fact_table)
+          (earlier_pushed (ShowsFacts p) s.facts.items f s.fact_table.earlier s.fact_table.words before.facts_shown
+          before.facts_earlier);
     }

@@ -9,5 +9,6 @@ returns c =
     let word : c.index_mut-word.result.now ≡ get_or words (c.args.number / 64) 0 =
     word_read words c.self.inside.len c.args.number c.index_mut-word.result.now c.self.invariant lt c.index_mut-word.ensures.value in
     written words c.self.inside.len c.args.number c.either.result true c.self.invariant lt
-    (bit_set (get_or words (c.args.number / 64) 0) c.index_mut-word.result.now c.one.result c.either.result (c.args.number % 64) word c.one.ensures c.either.ensures)
+    (bit_set (get_or words (c.args.number / 64) 0) c.index_mut-word.result.now c.one.result c.either.result
+    (c.args.number % 64) word c.one.ensures c.either.ensures)
     ∙ ap (λ (flags : List Bool). set flags c.args.number true) c.self.view_is

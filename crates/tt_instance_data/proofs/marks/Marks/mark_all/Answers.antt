@@ -8,7 +8,8 @@ returns-clause-marked c = λ k.
     let words = c.self.inside.words.items in
     let others = c.other.inside.words.items in
     let n = c.self.inside.len in
-    let long : c.other.inside.len ≡ n = same_length words others n c.other.inside.len c.args.self.now c.args.other.now c.self.view_is c.other.view_is c.requires in
+    let long : c.other.inside.len ≡ n = same_length words others n c.other.inside.len c.args.self.now c.args.other.now c.self.view_is
+    c.other.view_is c.requires in
     let those : flags_in c.deref.result.now n ≡ c.args.other.now =
     ap (λ (ws : List ℕ). flags_in ws n) c.deref.ensures.value ∙ ap (flags_in others) (sym long) ∙ c.other.view_is in
     added words c.deref.result.now c.add_words.new.words.items n k c.self.invariant c.add_words.ensures.bits

@@ -7,14 +7,16 @@ pub loop-left-preserved-then-room-lt-ROOMS : goal.loop-left-preserved-then-room-
 loop-left-preserved-then-room-lt-ROOMS c = record {
   len = length-set c.loop-left.prices _ _ ∙ c.loop-left.invariant.len;
   within = omega (arith, c.loop-left.invariant.within);
-  priced = price_written c.loop-left.prices c.args.listed.now c.loop-left.left c.loop-left-test.true c.loop-left.invariant.within (omega (arith, c.if-room-lt-ROOMS.true, c.loop-left.invariant.len)) c.loop-left.invariant.priced;
+  priced = price_written c.loop-left.prices c.args.listed.now c.loop-left.left c.loop-left-test.true c.loop-left.invariant.within
+      (omega (arith, c.if-room-lt-ROOMS.true, c.loop-left.invariant.len)) c.loop-left.invariant.priced;
 }
 
 pub loop-left-preserved : goal.loop-left-preserved
 loop-left-preserved c = record {
   len = c.loop-left.invariant.len;
   within = omega (arith, c.loop-left.invariant.within);
-  priced = price_beyond c.loop-left.prices c.args.listed.now c.loop-left.left c.loop-left-test.true c.loop-left.invariant.within c.if-room-lt-ROOMS.false c.loop-left.invariant.priced;
+  priced = price_beyond c.loop-left.prices c.args.listed.now c.loop-left.left c.loop-left-test.true c.loop-left.invariant.within
+      c.if-room-lt-ROOMS.false c.loop-left.invariant.priced;
 }
 
 pub loop-left-init : goal.loop-left-init

@@ -14,9 +14,15 @@ returns-clause-value c = λ u rest.
     let p = r.occupied.now.problem in
     let x = c.args.entry in
     let test = λ (e : Cell). conflict p x.course e.course && is_at (slot_of x) e in
-    let in_p = λ (e : Cell). ap (λ (z : Problem). one_if (conflict z x.course e.course && is_at (slot_of x) e)) c.instance-instance.ensures in
+    let in_p = λ (e : Cell). ap (λ (z : Problem). one_if (conflict z x.course e.course && is_at (slot_of x) e))
+    c.instance-instance.ensures in
     let to = ap one_if c.is_in_conflict.ensures ∙ in_p r.to in
     let from = ap one_if c.is_in_conflict-2.ensures ∙ in_p r.from in
     let gone = ap one_if c.is_in_conflict-3.ensures ∙ in_p r.gone in
-    let is : c.adjusted.result ≡ count_by test u = omega (arith, c.adjusted.ensures.value, c.opposing-count.ensures.count, rest.counts test) in
+    let is : c.adjusted.result ≡ count_by test u = omega (
+      arith,
+      c.adjusted.ensures.value,
+      c.opposing-count.ensures.count,
+      rest.counts test,
+    ) in
     is ∙ against_is p u x

@@ -8,6 +8,15 @@ returns c = λ u rest.
     let seated = ap (λ z. students z x.course) c.instance-instance.ensures in
     let seats = ap (λ z. capacity z x.room) c.instance-instance.ensures in
     record {
-      rise = omega (arith, seated, seats, c.students-students.ensures.value, c.capacity.ensures.value, c.saturating_sub-excess.ensures, c.spread_cost.ensures.value u rest, c.isolation_change-isolation_change.ensures.alone u rest);
+      rise = omega (
+        arith,
+        seated,
+        seats,
+        c.students-students.ensures.value,
+        c.capacity.ensures.value,
+        c.saturating_sub-excess.ensures,
+        c.spread_cost.ensures.value u rest,
+        c.isolation_change-isolation_change.ensures.alone u rest,
+      );
       fall = omega (arith, c.isolation_change-isolation_change.ensures.joined u rest);
     }

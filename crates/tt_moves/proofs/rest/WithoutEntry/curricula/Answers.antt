@@ -15,10 +15,17 @@ pub returns-clause-members : goal.returns-clause-members
 returns-clause-members c =
     let p = c.args.self.now.occupied.now.problem in
     let k = c.args.self.now.gone.course in
-    subst (λ z. All (λ q. in_curriculum p q k ≡ true) z) (sym c.curricula_of.ensures) (filter_passes (λ q. in_curriculum p q k) (all_curricula p))
+    subst (λ z. All (λ q. in_curriculum p q k ≡ true) z) (sym c.curricula_of.ensures)
+    (filter_passes (λ q. in_curriculum p q k) (all_curricula p))
 
 pub returns-clause-at_most : goal.returns-clause-at_most
 returns-clause-at_most c =
     let p = c.args.self.now.occupied.now.problem in
     let e = ap (λ z. length z.curricula) c.instance.ensures in
-    omega (arith, c.curricula.ensures.value, c.curricula.ensures.within, passing_few (λ q. in_curriculum p q c.args.self.now.gone.course) (length p.curricula) c.curricula_of.result.now c.curricula_of.ensures)
+    omega (
+      arith,
+      c.curricula.ensures.value,
+      c.curricula.ensures.within,
+      passing_few (λ q. in_curriculum p q c.args.self.now.gone.course)
+          (length p.curricula) c.curricula_of.result.now c.curricula_of.ensures,
+    )

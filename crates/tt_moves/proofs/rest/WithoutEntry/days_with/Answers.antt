@@ -12,7 +12,12 @@ used_anew-requires-clause-enough c =
     let u = c.requires.rest.0 in
     let rest = c.requires.rest.1 in
     let one = ap (λ v. one_if (v == 1)) c.on_day.ensures.count in
-    omega (arith, one, c.days_used.ensures.count, some_used r u rest p.days (λ e. e.day) x c.requires.course rest.gone.day c.requires.in_range.day)
+    omega (
+      arith,
+      one,
+      c.days_used.ensures.count,
+      some_used r u rest p.days (λ e. e.day) x c.requires.course rest.gone.day c.requires.in_range.day,
+    )
 
 pub used_anew-requires-clause-counted : goal.used_anew-requires-clause-counted
 used_anew-requires-clause-counted c =
@@ -21,7 +26,11 @@ used_anew-requires-clause-counted c =
     let x = c.args.entry in
     let u = c.requires.rest.0 in
     let rest = c.requires.rest.1 in
-    omega (arith, c.on_day-2.ensures.count, some_taken r u rest p.days (λ e. e.day) x c.requires.course rest.gone.day c.requires.in_range.day)
+    omega (
+      arith,
+      c.on_day-2.ensures.count,
+      some_taken r u rest p.days (λ e. e.day) x c.requires.course rest.gone.day c.requires.in_range.day,
+    )
 
 pub returns-clause-value : goal.returns-clause-value
 returns-clause-value c = λ u rest.
@@ -30,4 +39,11 @@ returns-clause-value c = λ u rest.
     let x = c.args.entry in
     let one = ap (λ v. one_if (v == 1)) c.on_day.ensures.count in
     let none = ap (λ v. one_if ((v - one_if (r.gone.day == x.day)) == 0)) c.on_day-2.ensures.count in
-    omega (arith, one, none, c.used_anew.ensures.value, c.days_used.ensures.count, used_anew_is r u rest p.days (λ e. e.day) x c.requires.course rest.gone.day c.requires.in_range.day)
+    omega (
+      arith,
+      one,
+      none,
+      c.used_anew.ensures.value,
+      c.days_used.ensures.count,
+      used_anew_is r u rest p.days (λ e. e.day) x c.requires.course rest.gone.day c.requires.in_range.day,
+    )

@@ -12,5 +12,10 @@ returns c = λ u rest.
     let to = ap one_if c.is_in_place_of.ensures in
     let from = ap one_if c.is_in_place_of-2.ensures in
     let gone = ap one_if c.is_in_place_of-3.ensures in
-    let is : c.adjusted.result ≡ count_by test u = omega (arith, c.adjusted.ensures.value, c.in_room-count.ensures.count, rest.counts test) in
+    let is : c.adjusted.result ≡ count_by test u = omega (
+      arith,
+      c.adjusted.ensures.value,
+      c.in_room-count.ensures.count,
+      rest.counts test,
+    ) in
     ap (nat_lt 0) is ∙ any_counted test u

@@ -12,7 +12,8 @@ returns-then-has_bit-clause-value c = λ u rest.
     let s = a.period in
     let e = ap (λ z. z.periods) c.instance.ensures in
     let short : p.periods ≤ 64 = omega (arith, c.periods.ensures.value, c.periods.ensures.within) in
-    let test : (nat_lt 0 s && has_bit a.isolated (s - 1)) ≡ true = sym (c.next.ensures s (omega arith)) ∙ sym c.has_bit.ensures ∙ c.if-has_bit.true in
+    let test : (nat_lt 0 s && has_bit a.isolated (s - 1)) ≡ true = sym (c.next.ensures s (omega arith)) ∙ sym c.has_bit.ensures
+    ∙ c.if-has_bit.true in
     c.entries_at.ensures.value u rest
     ∙ sym (ap (λ b. cond b (entries_at p u a.curriculum a.day (s - 1)) 0) test)
     ∙ before_joined p u a.curriculum a.day rest.in_range short (has_bit a.isolated) (c.requires.isolated u rest) s c.requires.period
@@ -24,6 +25,7 @@ returns-else-has_bit-clause-value c = λ u rest.
     let s = a.period in
     let e = ap (λ z. z.periods) c.instance.ensures in
     let short : p.periods ≤ 64 = omega (arith, c.periods.ensures.value, c.periods.ensures.within) in
-    let test : (nat_lt 0 s && has_bit a.isolated (s - 1)) ≡ false = sym (c.next.ensures s (omega arith)) ∙ sym c.has_bit.ensures ∙ c.if-has_bit.false in
+    let test : (nat_lt 0 s && has_bit a.isolated (s - 1)) ≡ false = sym (c.next.ensures s (omega arith)) ∙ sym c.has_bit.ensures
+    ∙ c.if-has_bit.false in
     sym (ap (λ b. cond b (entries_at p u a.curriculum a.day (s - 1)) 0) test)
     ∙ before_joined p u a.curriculum a.day rest.in_range short (has_bit a.isolated) (c.requires.isolated u rest) s c.requires.period

@@ -12,7 +12,13 @@ used_anew-requires-clause-enough c =
     let u = c.requires.rest.0 in
     let rest = c.requires.rest.1 in
     let one = ap (λ v. one_if (v == 1)) c.course_in_room.ensures.count in
-    omega (arith, one, c.rooms_used.ensures.count, some_used r u rest (length p.rooms) (λ e. e.room) x c.requires.course rest.gone.room c.requires.in_range.room)
+    omega (
+      arith,
+      one,
+      c.rooms_used.ensures.count,
+      some_used r u rest (length p.rooms)
+          (λ e. e.room) x c.requires.course rest.gone.room c.requires.in_range.room,
+    )
 
 pub used_anew-requires-clause-counted : goal.used_anew-requires-clause-counted
 used_anew-requires-clause-counted c =
@@ -21,7 +27,12 @@ used_anew-requires-clause-counted c =
     let x = c.args.entry in
     let u = c.requires.rest.0 in
     let rest = c.requires.rest.1 in
-    omega (arith, c.course_in_room-2.ensures.count, some_taken r u rest (length p.rooms) (λ e. e.room) x c.requires.course rest.gone.room c.requires.in_range.room)
+    omega (
+      arith,
+      c.course_in_room-2.ensures.count,
+      some_taken r u rest (length p.rooms)
+          (λ e. e.room) x c.requires.course rest.gone.room c.requires.in_range.room,
+    )
 
 pub returns-clause-value : goal.returns-clause-value
 returns-clause-value c = λ u rest.
@@ -30,4 +41,12 @@ returns-clause-value c = λ u rest.
     let x = c.args.entry in
     let one = ap (λ v. one_if (v == 1)) c.course_in_room.ensures.count in
     let none = ap (λ v. one_if ((v - one_if (r.gone.room == x.room)) == 0)) c.course_in_room-2.ensures.count in
-    omega (arith, one, none, c.used_anew.ensures.value, c.rooms_used.ensures.count, used_anew_is r u rest (length p.rooms) (λ e. e.room) x c.requires.course rest.gone.room c.requires.in_range.room)
+    omega (
+      arith,
+      one,
+      none,
+      c.used_anew.ensures.value,
+      c.rooms_used.ensures.count,
+      used_anew_is r u rest (length p.rooms)
+          (λ e. e.room) x c.requires.course rest.gone.room c.requires.in_range.room,
+    )

@@ -14,8 +14,10 @@ returns-then-not-other c = λ u rest s h.
     let none = c.if-not-other.true in
     c.recounted-set.ensures u rest s h
     ∙ ap (cond (is_at at r.gone) (nat_lt 0 (entries_at p u a.curriculum a.day s))) (c.curriculum_on-all.ensures s h)
-    ∙ one_anew (is_at at r.gone) (nat_lt 0 (entries_at p r.occupied.now.entries a.curriculum a.day s)) (nat_lt 0 (entries_at p u a.curriculum a.day s))
-    (standing_same r a.curriculum a.day c.requires.gone a.other c.requires.other u rest s (ap (λ b. b && is_at at r.to) none) (ap (λ b. b && is_at at r.from) none))
+    ∙ one_anew (is_at at r.gone) (nat_lt 0 (entries_at p r.occupied.now.entries a.curriculum a.day s))
+    (nat_lt 0 (entries_at p u a.curriculum a.day s))
+    (standing_same r a.curriculum a.day c.requires.gone a.other c.requires.other u rest s (ap (λ b. b && is_at at r.to) none)
+    (ap (λ b. b && is_at at r.from) none))
 
 pub returns : goal.returns
 returns c = λ u rest s h.
@@ -30,4 +32,5 @@ returns c = λ u rest s h.
     ∙ ap (cond (is_at at r.from) n) (c.recounted-set.ensures u rest s h
     ∙ ap (cond (is_at at r.gone) n) (c.curriculum_on-all.ensures s h)))
     ∙ three_anew (is_at at r.to) (is_at at r.from) (is_at at r.gone) (nat_lt 0 (entries_at p r.occupied.now.entries a.curriculum a.day s)) n
-    (λ t f g. standing_same r a.curriculum a.day c.requires.gone a.other c.requires.other u rest s (ap (λ b. b && is_at at r.to) some ∙ t) (ap (λ b. b && is_at at r.from) some ∙ f) g)
+    (λ t f g. standing_same r a.curriculum a.day c.requires.gone a.other c.requires.other u rest s (ap (λ b. b && is_at at r.to) some
+    ∙ t) (ap (λ b. b && is_at at r.from) some ∙ f) g)

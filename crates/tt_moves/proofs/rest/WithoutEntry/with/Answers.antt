@@ -40,5 +40,11 @@ returns-clause-isolation_change c = λ u rows rest are.
     ∙ beside_stands p u q d rest.in_range short (has_bit c.taken_on-set.result) (c.taken_on-set.ensures u rest) s low) in
     record {
       alone = omega (arith, are.alone, sum_by_push (λ k. one_if (not (has_neighbour p u k d s))) rows q, alone, c.one_if.ensures);
-      joined = omega (arith, are.joined, sum_by_push (λ k. joined_before p u k d s + joined_after p u k d s) rows q, c.joined_before-before.ensures.value u rest, c.joined_after-after.ensures.value u rest);
+      joined = omega (
+        arith,
+        are.joined,
+        sum_by_push (λ k. joined_before p u k d s + joined_after p u k d s) rows q,
+        c.joined_before-before.ensures.value u rest,
+        c.joined_after-after.ensures.value u rest,
+      );
     }

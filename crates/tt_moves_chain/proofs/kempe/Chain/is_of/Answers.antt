@@ -29,10 +29,13 @@ returns c =
     let all = c.loop-member-test.false in
     let each : EachMayTurn o.problem o.entries x.from x.to x.members = λ k h.
     let l = subst (λ (z : List ℕ). k < length z) (sym is) h in
-    subst (λ (z : List ℕ). MayTurn o.problem o.entries x.from x.to x.members (get_or z k 0)) is (c.loop-member.invariant k (omega arith)) in (
+    subst (λ (z : List ℕ). MayTurn o.problem o.entries x.from x.to x.members (get_or z k 0)) is
+    (c.loop-member.invariant k (omega arith)) in (
       λ _. record {
-        from = subst (λ (z : Kempe). IsPeriod o.problem z.from) c.self.view_is (subst (λ z. IsPeriod z c.self.inside.from) c.instance-instance.ensures (c.if-not-is_period.ensures.0 refl));
-        to = subst (λ (z : Kempe). IsPeriod o.problem z.to) c.self.view_is (subst (λ z. IsPeriod z c.self.inside.to) c.instance-instance.ensures (c.if-not-is_period-2.ensures.0 refl));
+        from = subst (λ (z : Kempe). IsPeriod o.problem z.from) c.self.view_is
+            (subst (λ z. IsPeriod z c.self.inside.from) c.instance-instance.ensures (c.if-not-is_period.ensures.0 refl));
+        to = subst (λ (z : Kempe). IsPeriod o.problem z.to) c.self.view_is
+            (subst (λ z. IsPeriod z c.self.inside.to) c.instance-instance.ensures (c.if-not-is_period-2.ensures.0 refl));
         apart = subst (λ (z : Kempe). same_slot z.from z.to ≡ false) c.self.view_is c.self.invariant.apart;
         inside = inside_from o.problem o.entries x.from x.to x.members each;
         closed = closed_from o.problem o.entries x.from x.to x.members each;

@@ -4,4 +4,5 @@ use Rattle.tt_moves_chain.proofs.kempe.Chain.is_of.Given as goal
 
 abbrev pub invariant-loop-member : goal.invariant-loop-member
 invariant-loop-member l =
-    (k : ℕ) → k < l.member-index → MayTurn l.occupied.problem l.occupied.entries l.self.from l.self.to l.self.members (get_or l.member-items k 0)
+    (k : ℕ) → k < l.member-index → MayTurn l.occupied.problem l.occupied.entries l.self.from l.self.to l.self.members
+    (get_or l.member-items k 0)

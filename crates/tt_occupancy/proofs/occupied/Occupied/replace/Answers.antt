@@ -26,5 +26,6 @@ invariant_of-self c =
     let i = c.args.index in
     let inside = subst (λ (z : Filled). i < length z.entries) (sym c.self.view_is) c.requires.inside in
     let front = counted_front p t i inside c.get-from.result s.tables s.score c.get-from.ensures c.self.invariant in
-    counted_set p t i inside c.args.entry c.recount-self-inside.new.tables c.recount-self-inside.result c.set.new.self c.set.ensures c.self.invariant.in_range
+    counted_set p t i inside c.args.entry c.recount-self-inside.new.tables c.recount-self-inside.result c.set.new.self c.set.ensures
+    c.self.invariant.in_range
     (c.recount-self-inside.ensures (remove t i) front)

@@ -15,5 +15,6 @@ returns-clause-at_most c =
     let s = c.self.inside in
     let p = s.instance.now in
     let course = subst (λ (z : Filled). c.args.course < length z.problem.courses) (sym c.self.view_is) c.requires in
-    let free = spread_free (length p.rooms) (λ z. z.room) p s.table s.tables.course_rooms c.self.invariant.tables.course_rooms c.args.course course in
+    let free = spread_free (length p.rooms) (λ z. z.room) p s.table s.tables.course_rooms c.self.invariant.tables.course_rooms
+    c.args.course course in
     omega (arith, free, c.from.ensures, c.used.ensures, c.self.invariant.instance.within.rooms)

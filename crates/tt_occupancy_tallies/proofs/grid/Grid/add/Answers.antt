@@ -7,4 +7,5 @@ pub returns-clause-counts : goal.returns-clause-counts
 returns-clause-counts c =
     let g = c.args.self.now in
     let inside = mul-add-lt c.args.row g.columns c.args.column g.rows c.requires.row c.requires.column in
-    added_at g.counts.items c.args.row c.args.column g.columns c.index_mut.result.now (omega (arith, g.covers)) c.requires.column c.index_mut.ensures.value
+    added_at g.counts.items c.args.row c.args.column g.columns c.index_mut.result.now
+    (omega (arith, g.covers)) c.requires.column c.index_mut.ensures.value

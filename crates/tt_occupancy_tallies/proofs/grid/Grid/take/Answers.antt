@@ -8,6 +8,8 @@ returns-clause-counts c =
     let g = c.args.self.now in
     let inside = mul-add-lt c.args.row g.columns c.args.column g.rows c.requires.row c.requires.column in
     let value = c.index_mut.ensures.value in
-    let stands = there g.counts.items c.args.row c.args.column g.columns c.index_mut.result.now (omega (arith, g.covers)) c.requires.column value in
+    let stands = there g.counts.items c.args.row c.args.column g.columns c.index_mut.result.now
+    (omega (arith, g.covers)) c.requires.column value in
     let some = c.requires.positive in
-    taken_at g.counts.items c.args.row c.args.column g.columns c.index_mut.result.now (omega (arith, g.covers)) c.requires.column value (omega (arith, some, stands))
+    taken_at g.counts.items c.args.row c.args.column g.columns c.index_mut.result.now (omega (arith, g.covers)) c.requires.column value
+    (omega (arith, some, stands))

@@ -17,7 +17,8 @@ invariant_of-self-clause-marks c =
     let new = c.mark.new.words.items in
     let place = c.place-place.ensures.value in
     let row = ap (λ b. one_if (b && ((a.day == a.day) && (a.period == a.period)))) (eq-eqb a.row a.row refl) in
-    let some = lt-ltb 0 (in_period v a.row a.day a.period) (omega (arith, c.add.ensures.counts a.row a.day a.period c.requires.day c.requires.period, row, at_period a.day a.period 1)) in
+    let some = lt-ltb 0 (in_period v a.row a.day a.period)
+    (omega (arith, c.add.ensures.counts a.row a.day a.period c.requires.day c.requires.period, row, at_period a.day a.period 1)) in
     marks_kept w v old new a.row a.day a.period c.requires.day c.requires.period c.add.ensures.rows c.add.ensures.days c.add.ensures.periods
     (λ i d s hd hs e. omega (arith, c.add.ensures.counts i d s hd hs, ap one_if e))
     (λ r h.

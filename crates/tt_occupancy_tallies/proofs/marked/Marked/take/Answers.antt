@@ -14,8 +14,14 @@ invariant_of-self-clause-marks c =
     let old = a.self.now.words.items in
     let new = c.mark.new.words.items in
     let place = c.place-place.ensures.value in
-    marks_kept w v old new a.row a.day a.period c.requires.day c.requires.period (sym c.take.ensures.rows) (sym c.take.ensures.days) (sym c.take.ensures.periods)
-    (λ i d s hd hs e. omega (arith, c.take.ensures.counts i d s (subst (λ z. d < z) c.take.ensures.days hd) (subst (λ z. s < z) c.take.ensures.periods hs), ap one_if e))
+    marks_kept w v old new a.row a.day a.period c.requires.day c.requires.period (sym c.take.ensures.rows) (sym c.take.ensures.days)
+    (sym c.take.ensures.periods)
+    (λ i d s hd hs e. omega (
+      arith,
+      c.take.ensures.counts i d s (subst (λ z. d < z) c.take.ensures.days hd)
+          (subst (λ z. s < z) c.take.ensures.periods hs),
+      ap one_if e,
+    ))
     (λ r h.
     sym (ap (λ n. has_bit (slice_index new n) r) place) ∙ c.mark.ensures.here r h
     ∙ ap (λ n. cond (r == a.period) (nat_lt 0 n) (has_bit (slice_index old c.place-place.result) r)) c.get-is_in.ensures

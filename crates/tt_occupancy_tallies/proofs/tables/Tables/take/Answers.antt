@@ -15,7 +15,8 @@ take_rows-requires-clause-rows c =
     let r = c.requires.in_range in
     let ok = c.requires.counted.1 in
     let rows = c.curricula_of-curricula in
-    rows_below p (length p.curricula) (of_curriculum p) e rows.result.now (rows.ensures ∙ ok.links.curricula e.course r.course) r (e ∷ c.requires.counted.0) c.args.self.now.curricula.week ok.curricula
+    rows_below p (length p.curricula) (of_curriculum p) e rows.result.now (rows.ensures ∙ ok.links.curricula e.course r.course) r
+    (e ∷ c.requires.counted.0) c.args.self.now.curricula.week ok.curricula
 
 pub take_rows-requires-clause-enough : goal.take_rows-requires-clause-enough
 take_rows-requires-clause-enough c =
@@ -24,7 +25,8 @@ take_rows-requires-clause-enough c =
     let r = c.requires.in_range in
     let ok = c.requires.counted.1 in
     let rows = c.curricula_of-curricula in
-    rows_some p (length p.curricula) (of_curriculum p) e rows.result.now (rows.ensures ∙ ok.links.curricula e.course r.course) r c.requires.counted.0 c.args.self.now.curricula.week ok.curricula
+    rows_some p (length p.curricula) (of_curriculum p) e rows.result.now (rows.ensures ∙ ok.links.curricula e.course r.course) r
+    c.requires.counted.0 c.args.self.now.curricula.week ok.curricula
 
 pub take_rows-requires-2-clause-rows : goal.take_rows-requires-2-clause-rows
 take_rows-requires-2-clause-rows c =
@@ -33,7 +35,8 @@ take_rows-requires-2-clause-rows c =
     let r = c.requires.in_range in
     let ok = c.requires.counted.1 in
     let rows = c.opponents_of-opponents in
-    rows_below p (length p.courses) (opposes p) e rows.result.now (rows.ensures ∙ ok.links.opponents e.course r.course) r (e ∷ c.requires.counted.0) c.args.self.now.opponents ok.opponents
+    rows_below p (length p.courses) (opposes p) e rows.result.now (rows.ensures ∙ ok.links.opponents e.course r.course) r
+    (e ∷ c.requires.counted.0) c.args.self.now.opponents ok.opponents
 
 pub take_rows-requires-2-clause-enough : goal.take_rows-requires-2-clause-enough
 take_rows-requires-2-clause-enough c =
@@ -42,7 +45,8 @@ take_rows-requires-2-clause-enough c =
     let r = c.requires.in_range in
     let ok = c.requires.counted.1 in
     let rows = c.opponents_of-opponents in
-    rows_some p (length p.courses) (opposes p) e rows.result.now (rows.ensures ∙ ok.links.opponents e.course r.course) r c.requires.counted.0 c.args.self.now.opponents ok.opponents
+    rows_some p (length p.courses) (opposes p) e rows.result.now (rows.ensures ∙ ok.links.opponents e.course r.course) r
+    c.requires.counted.0 c.args.self.now.opponents ok.opponents
 
 pub take-requires-4-clause-used : goal.take-requires-4-clause-used
 take-requires-4-clause-used c =
@@ -74,9 +78,12 @@ returns c = λ t ok.
           (λ i d s h. sym (ap (λ o. one_if (is_number o i && is_at (slot d s) e)) teacher.ensures.value)) c.take-2.ensures ok.teachers;
       courses = tally_taken p (length p.courses) is_of t x.courses e c.take-3.new.self _ (λ i d s h. refl) c.take-3.ensures ok.courses;
       curricula = tally_taken p (length p.curricula) (of_curriculum p) t x.curricula.week e c.take_rows.new.self.week _
-          (rows_same p (length p.curricula) (of_curriculum p) e curricula.result.now (curricula.ensures ∙ ok.links.curricula e.course r.course)) c.take_rows.ensures ok.curricula;
+          (rows_same p (length p.curricula) (of_curriculum p) e curricula.result.now
+          (curricula.ensures ∙ ok.links.curricula e.course r.course)) c.take_rows.ensures ok.curricula;
       opponents = tally_taken p (length p.courses) (opposes p) t x.opponents e c.take_rows-2.new.self _
-          (rows_same p (length p.courses) (opposes p) e opponents.result.now (opponents.ensures ∙ ok.links.opponents e.course r.course)) c.take_rows-2.ensures ok.opponents;
+          (rows_same p (length p.courses) (opposes p) e opponents.result.now (opponents.ensures ∙ ok.links.opponents e.course r.course))
+          c.take_rows-2.ensures ok.opponents;
       days = spread_taken p.days (λ z. z.day) p t x.days e r r.day c.take-4.new.self c.take-4.ensures ok.days;
-      course_rooms = spread_taken (length p.rooms) (λ z. z.room) p t x.course_rooms e r r.room c.take-5.new.self c.take-5.ensures ok.course_rooms;
+      course_rooms = spread_taken (length p.rooms) (λ z. z.room) p t x.course_rooms e r r.room c.take-5.new.self c.take-5.ensures
+          ok.course_rooms;
     }

@@ -15,6 +15,7 @@ returns c = record {
       let column : d * w.periods + s < w.grid.columns = omega arith in
       let counted = c.take.ensures.counts i (d * w.periods + s) column in
       let number = ap (λ n. one_if ((c.args.row == i) && (n == d * w.periods + s))) c.number-column.ensures.value in
-      let same = ap (λ b. one_if ((c.args.row == i) && b)) (same_number c.args.day c.args.period d s w.periods c.requires.period in_periods) in
+      let same = ap (λ b. one_if ((c.args.row == i) && b))
+      (same_number c.args.day c.args.period d s w.periods c.requires.period in_periods) in
       omega arith;
 }

@@ -10,14 +10,16 @@ use Rattle.tt_page_plan.proofs.plan.Plan.first_curriculum.Goals as goal
 pub curricula_of-requires : goal.curricula_of-requires
 curricula_of-requires c =
     let s = c.self.inside in
-    let within : c.args.course < length s.instance.now.courses = subst (λ (v : Planned). c.args.course < length v.problem.courses) (sym c.self.view_is) c.requires in
+    let within : c.args.course < length s.instance.now.courses = subst (λ (v : Planned). c.args.course < length v.problem.courses)
+    (sym c.self.view_is) c.requires in
     subst (λ n. c.args.course < n) (sym c.self.invariant.curricula.size) within
 
 pub returns : goal.returns
 returns c =
     let s = c.self.inside in
     let p = s.instance.now in
-    let within : c.args.course < length p.courses = subst (λ (v : Planned). c.args.course < length v.problem.courses) (sym c.self.view_is) c.requires in
+    let within : c.args.course < length p.courses = subst (λ (v : Planned). c.args.course < length v.problem.courses)
+    (sym c.self.view_is) c.requires in
     let first : c.copied.result ≡ first_curriculum p c.args.course =
     c.copied.ensures ∙ c.first.ensures.value
     ∙ ap (λ (qs : List ℕ). slice_get qs 0) (c.curricula_of.ensures ∙ c.self.invariant.curricula.curricula c.args.course within)

@@ -9,4 +9,5 @@ returns-clause-below c =
     let p = c.self.inside.instance.now in
     let kind = c.args.kind in
     subst (λ (v : Planned). All (λ n. n < count_of v.problem kind) c.of.result.now) c.self.view_is
-    (subst (All (λ n. n < count_of p kind)) (sym (c.of.ensures ∙ c.self.invariant.orders kind)) (in_order-below (name_of p kind) (count_of p kind)))
+    (subst (All (λ n. n < count_of p kind)) (sym (c.of.ensures ∙ c.self.invariant.orders kind))
+    (in_order-below (name_of p kind) (count_of p kind)))

@@ -9,5 +9,8 @@ use Rattle.tt_page_plan.proofs.plan.Plan.in_period.Goals as goal
 pub returns-clause-in_range : goal.returns-clause-in_range
 returns-clause-in_range c =
     subst (λ (s : Planned). All (InRange s.problem) c.in_period.result) c.self.view_is
-    (subst (All (InRange c.self.inside.instance.now)) (sym (c.in_period.ensures.group ∙ ap (λ (g : Grouped). filter (is_at (slot c.args.day c.args.period)) g.entries) c.self.invariant.by_period))
-    (All-filter (is_at (slot c.args.day c.args.period)) (InRange c.self.inside.instance.now) c.self.inside.entries.now c.self.invariant.in_range))
+    (subst (All (InRange c.self.inside.instance.now))
+    (sym (c.in_period.ensures.group
+    ∙ ap (λ (g : Grouped). filter (is_at (slot c.args.day c.args.period)) g.entries) c.self.invariant.by_period))
+    (All-filter (is_at (slot c.args.day c.args.period)) (InRange c.self.inside.instance.now) c.self.inside.entries.now
+    c.self.invariant.in_range))

@@ -9,14 +9,16 @@ pub of-requires : goal.of-requires
 of-requires c =
     let s = c.self.inside in
     let kind = c.args.kind in
-    let within : c.args.number < count_of s.instance.now kind = subst (λ (v : Planned). c.args.number < count_of v.problem kind) (sym c.self.view_is) c.requires in
+    let within : c.args.number < count_of s.instance.now kind = subst (λ (v : Planned). c.args.number < count_of v.problem kind)
+    (sym c.self.view_is) c.requires in
     subst (λ n. c.args.number < n) (sym (c.self.invariant.members kind).size) within
 
 pub returns-clause-value : goal.returns-clause-value
 returns-clause-value c =
     let s = c.self.inside in
     let kind = c.args.kind in
-    let within : c.args.number < count_of s.instance.now kind = subst (λ (v : Planned). c.args.number < count_of v.problem kind) (sym c.self.view_is) c.requires in
+    let within : c.args.number < count_of s.instance.now kind = subst (λ (v : Planned). c.args.number < count_of v.problem kind)
+    (sym c.self.view_is) c.requires in
     subst (λ (v : Planned). c.of.result.now ≡ own_courses v.problem kind c.args.number) c.self.view_is
     (c.of.ensures ∙ (c.self.invariant.members kind).courses c.args.number within)
 
@@ -25,7 +27,8 @@ returns-clause-there c =
     let s = c.self.inside in
     let p = s.instance.now in
     let kind = c.args.kind in
-    let within : c.args.number < count_of p kind = subst (λ (v : Planned). c.args.number < count_of v.problem kind) (sym c.self.view_is) c.requires in
+    let within : c.args.number < count_of p kind = subst (λ (v : Planned). c.args.number < count_of v.problem kind)
+    (sym c.self.view_is) c.requires in
     let own = c.of.ensures ∙ (c.self.invariant.members kind).courses c.args.number within in
     subst (λ (v : Planned). All (λ k. k < length v.problem.courses) c.of.result.now) c.self.view_is
     (subst (All (λ k. k < length p.courses)) (sym own) (own_courses_there p kind c.args.number))

@@ -7,7 +7,9 @@ pub returns-in_err-bound-clause-only : goal.returns-in_err-bound-clause-only
 returns-in_err-bound-clause-only g c =
     let e = err_from_is_err_and c.from_residual.result c.from_residual.ensures.1 in
     λ parts bytes part of known is apart within.
-    rw (e.1, e.2) (tells_silent c.args.instance.now c.days.ensures.instance parts bytes part is apart within c.in_err-bound.field-0.0 c.in_err-bound.ensures.memory (c.in_err-bound.ensures.fault parts bytes of.table known))
+    rw (e.1, e.2)
+    (tells_silent c.args.instance.now c.days.ensures.instance parts bytes part is apart within c.in_err-bound.field-0.0
+    c.in_err-bound.ensures.memory (c.in_err-bound.ensures.fault parts bytes of.table known))
 
 pub returns-in_err-bound-clause-fault : goal.returns-in_err-bound-clause-fault
 returns-in_err-bound-clause-fault g c =
@@ -17,15 +19,18 @@ returns-in_err-bound-clause-fault g c =
 pub returns-in-Some-clause-added : goal.returns-in-Some-clause-added
 returns-in-Some-clause-added g c =
     λ parts of.
-    adds c.args.instance.now (g.R.Source.remaining c.args.source.now) c.args.self parts c.take_file.new.table c.in_ok-bound.bound c.in-Some.total of (c.in_ok-bound.ensures.joins parts of.table) c.in-Some.ensures
+    adds c.args.instance.now (g.R.Source.remaining c.args.source.now) c.args.self parts c.take_file.new.table c.in_ok-bound.bound
+    c.in-Some.total of (c.in_ok-bound.ensures.joins parts of.table) c.in-Some.ensures
 
 pub returns-in-None-clause-only : goal.returns-in-None-clause-only
 returns-in-None-clause-only g c =
     λ parts bytes part of known is apart within.
-    let large = too_large c.args.instance.now (g.R.Source.remaining c.args.source.now) c.args.self parts c.take_file.new.table c.in_ok-bound.bound of (c.in_ok-bound.ensures.joins parts of.table) c.in-None.ensures bytes known in
+    let large = too_large c.args.instance.now (g.R.Source.remaining c.args.source.now) c.args.self parts c.take_file.new.table
+    c.in_ok-bound.bound of (c.in_ok-bound.ensures.joins parts of.table) c.in-None.ensures bytes known in
     tells_silent c.args.instance.now c.days.ensures.instance parts bytes part is apart within (TooLarge 0) tt large
 
 pub returns-in-None-clause-fault : goal.returns-in-None-clause-fault
 returns-in-None-clause-fault g c =
     λ parts bytes of known.
-    too_large c.args.instance.now (g.R.Source.remaining c.args.source.now) c.args.self parts c.take_file.new.table c.in_ok-bound.bound of (c.in_ok-bound.ensures.joins parts of.table) c.in-None.ensures bytes known
+    too_large c.args.instance.now (g.R.Source.remaining c.args.source.now) c.args.self parts c.take_file.new.table c.in_ok-bound.bound
+    of (c.in_ok-bound.ensures.joins parts of.table) c.in-None.ensures bytes known

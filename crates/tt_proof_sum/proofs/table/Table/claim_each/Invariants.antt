@@ -6,4 +6,8 @@ use Rattle.tt_proof_sum.specs.Tables.{Claims, at_node}
 use Rattle.tt_proof_sum.proofs.table.Table.claim_each.Given as goal
 
 abbrev pub invariant-loop-claim : goal.invariant-loop-claim
-invariant-loop-claim l = record { claims : Claims l.fn.self (flat_map (λ (k : Claim). at_node l.node (places_of k)) (take l.claim-index l.claims)) l.self; proof : 0 < l.self.proof }
+invariant-loop-claim l =
+    record {
+      claims : Claims l.fn.self (flat_map (λ (k : Claim). at_node l.node (places_of k)) (take l.claim-index l.claims)) l.self;
+      proof : 0 < l.self.proof;
+    }

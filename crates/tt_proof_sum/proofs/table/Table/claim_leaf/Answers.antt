@@ -14,4 +14,5 @@ returns-in-Cost c =
     let b = c.claim_each.new.self in
     let n = c.args.node in
     subst (λ (x : Leaf). Claims a (at_node n (map place (claimed_in x))) b) (sym c.in-Cost.is)
-    (subst (λ (xs : List (ℕ × ℕ)). Claims a xs b) (ap (flat_map (λ (k : Claim). at_node n (places_of k))) c.as_slice.ensures ∙ claimed_places n c.in-Cost.claims) c.claim_each.ensures)
+    (subst (λ (xs : List (ℕ × ℕ)). Claims a xs b) (ap (flat_map (λ (k : Claim). at_node n (places_of k))) c.as_slice.ensures
+    ∙ claimed_places n c.in-Cost.claims) c.claim_each.ensures)

@@ -12,4 +12,5 @@ returns-in-Prices c =
     let b = c.claim_capacities.new.self in
     let n = c.args.node in
     subst (λ (x : Claim). Claims a (at_node n (places_of x)) b) (sym c.in-Prices.is)
-    (subst (λ (xs : List (ℕ × ℕ)). Claims a xs b) (ap (flat_map (λ (k : ℕ × ℕ). (n, 4 * k.0) ∷ [])) c.as_slice.ensures ∙ priced_places n c.in-Prices.courses) c.claim_capacities.ensures)
+    (subst (λ (xs : List (ℕ × ℕ)). Claims a xs b) (ap (flat_map (λ (k : ℕ × ℕ). (n, 4 * k.0) ∷ [])) c.as_slice.ensures
+    ∙ priced_places n c.in-Prices.courses) c.claim_capacities.ensures)

@@ -12,6 +12,7 @@ returns-clause-group c =
     let i = c.args.index in
     let rest = led_group by (drop (get_or c.self.inside.links.next i 0) t) in
     let within : i < length t = subst (λ (s : Grouped). i < length s.entries) (sym c.self.view_is) c.requires in
-    subst (λ (s : Grouped). IfSome (slice_get s.entries i) (λ e. rest ≡ filter (in_group s.by (group_of s.by e)) (drop (i + 1) s.entries))) c.self.view_is
+    subst (λ (s : Grouped). IfSome (slice_get s.entries i)
+    (λ e. rest ≡ filter (in_group s.by (group_of s.by e)) (drop (i + 1) s.entries))) c.self.view_is
     (subst (λ o. IfSome o (λ e. rest ≡ filter (in_group by (group_of by e)) (drop (i + 1) t))) (sym (slice_get-get_or t i nobody within))
     (led_after by t c.self.inside.links.next i c.self.invariant.chained within))

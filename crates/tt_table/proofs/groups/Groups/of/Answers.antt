@@ -8,5 +8,6 @@ pub returns-clause-group : goal.returns-clause-group
 returns-clause-group c =
     let by = c.self.inside.by in
     let t = c.self.inside.entries.now in
-    subst (λ (s : Grouped). led_group by (drop (get_or c.self.inside.links.first c.args.group 0) t) ≡ filter (in_group s.by c.args.group) s.entries) c.self.view_is
+    subst (λ (s : Grouped). led_group by (drop (get_or c.self.inside.links.first c.args.group 0) t) ≡ filter
+    (in_group s.by c.args.group) s.entries) c.self.view_is
     (ap (λ k. led_group by (drop k t)) (c.self.invariant.begins c.args.group c.requires) ∙ led_from by t c.args.group 0)

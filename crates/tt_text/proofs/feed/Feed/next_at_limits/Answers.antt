@@ -8,8 +8,12 @@ use Rattle.tt_text.proofs.feed.Feed.next_at_limits.Goals as goal
 
 pub returns-in-Token-clause-gives : goal.returns-in-Token-clause-gives
 returns-in-Token-clause-gives g c =
-    gives_as (stream_of c.args.self.now (g.R.Source.remaining c.args.source.now)) (stream_of c.loop-gap.self (g.R.Source.remaining c.loop-gap.source)) (stream_of c.take-at.new.self (g.R.Source.remaining c.loop-gap.source)) (Ok (Some c.take-at.result)) c.take-at.new.self c.loop-gap.invariant.same
-    (fed_token c.loop-gap.self c.take-at.new.self c.in-Token.gap c.in-Token.len c.take-at.result (g.R.Source.remaining c.loop-gap.source) c.loop-gap.invariant.sound c.in-Token.ensures c.take-at.ensures.at c.take-at.ensures.now)
+    gives_as (stream_of c.args.self.now (g.R.Source.remaining c.args.source.now))
+    (stream_of c.loop-gap.self (g.R.Source.remaining c.loop-gap.source))
+    (stream_of c.take-at.new.self (g.R.Source.remaining c.loop-gap.source))
+    (Ok (Some c.take-at.result)) c.take-at.new.self c.loop-gap.invariant.same
+    (fed_token c.loop-gap.self c.take-at.new.self c.in-Token.gap c.in-Token.len c.take-at.result
+    (g.R.Source.remaining c.loop-gap.source) c.loop-gap.invariant.sound c.in-Token.ensures c.take-at.ensures.at c.take-at.ensures.now)
 
 pub returns-in-Token-clause-forward : goal.returns-in-Token-clause-forward
 returns-in-Token-clause-forward g c =
@@ -18,8 +22,12 @@ returns-in-Token-clause-forward g c =
 
 pub returns-in-Fault-clause-gives : goal.returns-in-Fault-clause-gives
 returns-in-Fault-clause-gives g c =
-    gives_as (stream_of c.args.self.now (g.R.Source.remaining c.args.source.now)) (stream_of c.loop-gap.self (g.R.Source.remaining c.loop-gap.source)) (stream_of c.fail.new.self (g.R.Source.remaining c.loop-gap.source)) (Err c.in-Fault.fault) c.fail.new.self c.loop-gap.invariant.same
-    (fed_fault c.loop-gap.self c.fail.new.self c.in-Fault.fault (g.R.Source.remaining c.loop-gap.source) (g.R.Source.remaining c.loop-gap.source) c.loop-gap.invariant.sound (ap (λ (v : Fed). v.fault) c.fail.ensures) c.in-Fault.ensures)
+    gives_as (stream_of c.args.self.now (g.R.Source.remaining c.args.source.now))
+    (stream_of c.loop-gap.self (g.R.Source.remaining c.loop-gap.source))
+    (stream_of c.fail.new.self (g.R.Source.remaining c.loop-gap.source))
+    (Err c.in-Fault.fault) c.fail.new.self c.loop-gap.invariant.same
+    (fed_fault c.loop-gap.self c.fail.new.self c.in-Fault.fault (g.R.Source.remaining c.loop-gap.source)
+    (g.R.Source.remaining c.loop-gap.source) c.loop-gap.invariant.sound (ap (λ (v : Fed). v.fault) c.fail.ensures) c.in-Fault.ensures)
 
 pub returns-in-Fault-clause-failed : goal.returns-in-Fault-clause-failed
 returns-in-Fault-clause-failed g c =
@@ -27,15 +35,19 @@ returns-in-Fault-clause-failed g c =
 
 pub returns-in-Over-clause-gives : goal.returns-in-Over-clause-gives
 returns-in-Over-clause-gives g c =
-    gives_as (stream_of c.args.self.now (g.R.Source.remaining c.args.source.now)) (stream_of c.loop-gap.self (g.R.Source.remaining c.loop-gap.source)) (stream_of c.finish.new.self (g.R.Source.remaining c.loop-gap.source)) (Ok None) c.finish.new.self c.loop-gap.invariant.same
-    (fed_over c.loop-gap.self c.finish.new.self (g.R.Source.remaining c.loop-gap.source) c.loop-gap.invariant.sound c.in-Over.ensures c.finish.ensures)
+    gives_as (stream_of c.args.self.now (g.R.Source.remaining c.args.source.now))
+    (stream_of c.loop-gap.self (g.R.Source.remaining c.loop-gap.source))
+    (stream_of c.finish.new.self (g.R.Source.remaining c.loop-gap.source)) (Ok None) c.finish.new.self c.loop-gap.invariant.same
+    (fed_over c.loop-gap.self c.finish.new.self (g.R.Source.remaining c.loop-gap.source) c.loop-gap.invariant.sound c.in-Over.ensures
+    c.finish.ensures)
 
 pub returns-in-Token-clause-cut_short : goal.returns-in-Token-clause-cut_short
 returns-in-Token-clause-cut_short g c =
     λ k rest m.
     let inv = c.loop-gap.invariant in
     let known = g.R.Source.remaining c.loop-gap.source in
-    let here = fed_token_cut c.loop-gap.self c.take-at.new.self c.in-Token.gap c.in-Token.len c.take-at.result known inv.sound c.in-Token.ensures c.take-at.ensures.at c.take-at.ensures.now rest m in
+    let here = fed_token_cut c.loop-gap.self c.take-at.new.self c.in-Token.gap c.in-Token.len c.take-at.result known inv.sound
+    c.in-Token.ensures c.take-at.ensures.at c.take-at.ensures.now rest m in
     let before = inv.failing k rest here.0 in
     (before.0, before.1 ∙ here.1)
 
@@ -45,7 +57,8 @@ returns-then-is_err-clause-cut_short g c =
     let inv = c.loop-gap.invariant in
     let after = g.R.Source.remaining c.fill.new.source in
     let keeps = was_err c.fill.result _ (sym c.is_err.ensures.value ∙ c.if-is_err.true) c.fill.ensures.unread in
-    let here = fed_cut_off c.loop-gap.self c.in-More.gap (g.R.Source.remaining c.loop-gap.source) after (inv.known k) inv.sound c.in-More.ensures keeps in
+    let here = fed_cut_off c.loop-gap.self c.in-More.gap (g.R.Source.remaining c.loop-gap.source) after
+    (inv.known k) inv.sound c.in-More.ensures keeps in
     let before = inv.failing k (rest_of after) here.0 in
     (before.0, before.1 ∙ here.1)
 
@@ -56,15 +69,19 @@ loop-gap-preserved g c =
     let after = g.R.Source.remaining c.fill.new.source in
     let filled = was_ok c.fill.result _ (sym c.is_err.ensures.value ∙ c.if-is_err.false) c.fill.ensures.ok in
     record {
-      same = same_then _ _ _ inv.same (fed_more c.loop-gap.self c.skip.new.self c.fill.new.self c.in-More.gap before after inv.sound c.in-More.ensures c.skip.ensures filled);
+      same = same_then _ _ _ inv.same
+          (fed_more c.loop-gap.self c.skip.new.self c.fill.new.self c.in-More.gap before after inv.sound c.in-More.ensures
+          c.skip.ensures filled);
       known = λ k. c.fill.ensures.known (inv.known k);
       sound = ap (λ (v : Fed). v.fault) filled.now ∙ ap (λ (v : Fed). v.fault) c.skip.ensures ∙ inv.sound;
       failed = search rules;
       failing = λ k rest m.
-          let here = fed_more_cut c.loop-gap.self c.skip.new.self c.fill.new.self c.in-More.gap before after (inv.known k) inv.sound c.in-More.ensures c.skip.ensures filled rest m in
+          let here = fed_more_cut c.loop-gap.self c.skip.new.self c.fill.new.self c.in-More.gap before after
+          (inv.known k) inv.sound c.in-More.ensures c.skip.ensures filled rest m in
           let first = inv.failing k rest here.0 in
           (first.0, first.1 ∙ here.1);
-      forward = let passed = ap (λ (v : Fed). v.at) filled.now ∙ ap (λ (v : Fed). v.at) c.skip.ensures in omega (arith, passed, inv.forward);
+      forward = let passed = ap (λ (v : Fed). v.at) filled.now ∙ ap (λ (v : Fed). v.at) c.skip.ensures in
+          omega (arith, passed, inv.forward);
       ready = λ r. absurd (more_wanted c.loop-gap.self c.in-More.gap inv.sound c.in-More.ensures (ap is_ready (inv.ready r).0 ∙ r));
     }
 

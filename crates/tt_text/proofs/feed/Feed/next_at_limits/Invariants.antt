@@ -12,7 +12,8 @@ invariant-loop-gap g l = record {
   sound : l.self.fault ≡ None;
   failed : g.R.Source.has_failed l.source ≡ g.R.Source.has_failed l.fn.source;
   failing : is_some (g.R.Source.remaining l.fn.source) ≡ true → (rest : List ℕ) → MayFail rest l.self (g.R.Source.remaining l.source)
-      → MayFail rest l.fn.self (g.R.Source.remaining l.fn.source) × (cut_at rest l.fn.self (g.R.Source.remaining l.fn.source) ≡ cut_at rest l.self (g.R.Source.remaining l.source));
+      → MayFail rest l.fn.self (g.R.Source.remaining l.fn.source)
+      × (cut_at rest l.fn.self (g.R.Source.remaining l.fn.source) ≡ cut_at rest l.self (g.R.Source.remaining l.source));
   forward : l.fn.self.at ≤ l.self.at;
   ready : is_ready l.fn.self ≡ true → (l.self ≡ l.fn.self) × (l.source ≡ l.fn.source);
 }

@@ -4,4 +4,5 @@ use Rattle.tt_text_output.proofs.output.Output.put_next_token.Goals as goal
 
 pub returns : goal.returns
 returns g c =
-    puts_both g.W.Sink.contents g.W.Sink.has_failed c.args.self.now c.put.new.self c.put-2.new.self (32 ∷ []) c.args.token.now c.put.ensures c.put-2.ensures
+    puts_both g.W.Sink.contents g.W.Sink.has_failed c.args.self.now c.put.new.self c.put-2.new.self
+    (32 ∷ []) c.args.token.now c.put.ensures c.put-2.ensures

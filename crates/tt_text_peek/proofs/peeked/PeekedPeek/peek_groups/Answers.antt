@@ -8,5 +8,6 @@ returns-clause-groups g c =
     λ bytes known.
     let front = c.read_front.new.front.items in
     let end : c.min-end.result ≡ min 4096 (length front) = omega (arith, c.min-end.ensures, c.len.ensures) in
-    c.has_groups_word.ensures ∙ ap (λ (l : List ℕ). has_groups_word (take c.min-end.result l)) c.deref.ensures.value ∙ ap (λ (n : ℕ). has_groups_word (take n front)) end
+    c.has_groups_word.ensures ∙ ap (λ (l : List ℕ). has_groups_word (take c.min-end.result l)) c.deref.ensures.value
+    ∙ ap (λ (n : ℕ). has_groups_word (take n front)) end
     ∙ ap has_groups_word (take_min 4096 front) ∙ c.in_default.ensures.groups bytes known
