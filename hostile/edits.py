@@ -5,8 +5,8 @@
     python3 hostile/edits.py --look
 
 A crate with must-fail edits is proved a second time before the first of them, so the gate has a part of them, in few crates
-(crates/*/must-fail). The others are files of the same form in hostile/edits/CRATE. This script copies the repository without what was
-built, puts the edits of the named crates, or of all, in their places, and runs `rt must-fail`. The last line is `N edits of M crates were
+(crates/*/must-fail). The others are files of the same form in crates/*/edits. This script copies the repository without what was built,
+makes them the must-fail edits of the named crates, or of all, and runs `rt must-fail`. The last line is `N edits of M crates were
 refused`, or the status is 1.
 
 With --look nothing is proved: it looks, in a second, whether each old text of each edit, also of those in the gate, stands once in its file.
@@ -19,7 +19,7 @@ import tempfile
 from pathlib import Path
 
 TOP = Path(__file__).resolve().parent.parent
-EDITS = TOP / "hostile" / "edits"
+CRATES = TOP / "crates"
 
 
 def copy_crates(to):
@@ -27,7 +27,7 @@ def copy_crates(to):
     (to / ".git").mkdir()
     for name in ("HANDLES", "crates.txt"):
         shutil.copy(TOP / name, to / name)
-    shutil.copytree(TOP / "crates", to / "crates", ignore=shutil.ignore_patterns("out", "must-fail"))
+    shutil.copytree(CRATES, to / "crates", ignore=shutil.ignore_patterns("out", "must-fail", "edits"))
 
 
 def missing_texts(edit, crate):
@@ -48,8 +48,7 @@ def missing_texts(edit, crate):
 
 def look():
     """Prints the texts that are missing, and returns the status."""
-    edits = [(it, it.parent.parent.name) for it in sorted(TOP.glob("crates/*/must-fail/*.edit"))]
-    edits += [(it, it.parent.name) for it in sorted(EDITS.glob("*/*.edit"))]
+    edits = [(it, it.parent.parent.name) for folder in ("must-fail", "edits") for it in sorted(CRATES.glob(f"*/{folder}/*.edit"))]
     missing = [text for edit, crate in edits for text in missing_texts(edit, crate)]
     print("".join(f"{it}\n" for it in missing) + f"{len(edits)} edits, {len(missing)} texts that don't stand once")
     return 1 if missing else 0
@@ -58,18 +57,18 @@ def look():
 def main(names):
     if names == ["--look"]:
         return look()
-    known = sorted(it.name for it in EDITS.iterdir())
+    known = sorted(it.parent.name for it in CRATES.glob("*/edits"))
     for name in names:
         if name not in known:
-            sys.exit(f"{name} has no edits in {EDITS.relative_to(TOP)}: {', '.join(known)} have")
+            sys.exit(f"{name} has no folder edits: {', '.join(known)} have")
     names = names or known
     with tempfile.TemporaryDirectory() as folder:
         to = Path(folder)
         copy_crates(to)
         for name in names:
-            shutil.copytree(EDITS / name, to / "crates" / name / "must-fail")
+            shutil.copytree(CRATES / name / "edits", to / "crates" / name / "must-fail")
         status = subprocess.run(["rt", "must-fail", *names], cwd=to, stdin=subprocess.DEVNULL).returncode
-    count = sum(1 for name in names for _ in (EDITS / name).glob("*.edit"))
+    count = sum(1 for name in names for _ in (CRATES / name / "edits").glob("*.edit"))
     if status:
         sys.exit("some of the edits were not refused, or not tried")
     print(f"{count} edits of {len(names)} crates were refused")
