@@ -1,5 +1,5 @@
 #!/usr/bin/env python3
-"""Prints how long `tt_leaf::best_claims` takes on a path of at most sixteen drawn facts of some examples, and beside it what paths.rs, plain
+"""Prints how long `tt_leaf_find::best_claims` takes on a path of at most sixteen drawn facts of some examples, and beside it what paths.rs, plain
 Rust over words of the same kind, takes.
 
 Run by hand:  python3 bench/claims.py
@@ -26,7 +26,7 @@ def repository(folder):
     """A repository with the program of claims/ and the crates below it."""
     lines = [line.split(":") for line in (PROJECT / "crates.txt").read_text().splitlines() if line and line[0] != "#"]
     below = {name.strip(): words.split() for name, words in lines}
-    wanted = dict.fromkeys([*below["tt_facts"], "tt_facts", *below["tt_leaf"], "tt_leaf"])
+    wanted = dict.fromkeys([*below["tt_path_trail"], "tt_path_trail", *below["tt_leaf_find"], "tt_leaf_find"])
     crates = [name for name in wanted if name in below]
     (folder / "crates").mkdir(parents=True)
     for name in crates:

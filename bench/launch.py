@@ -37,7 +37,7 @@ FILES = {
     "crates/tt_text/must-fail/wrong.edit": "",
     "crates/tt_bits/src/lib.rt": "",
     "crates/tt/src/main.rt": "",
-    "crates/tt_tests_app/src/lib.rt": "",
+    "crates/tt_tests_commands/src/lib.rt": "",
 }
 
 
@@ -128,7 +128,7 @@ def has_other_files(copy):
     """A file that is added, renamed or removed counts; tests, edits, documents and comments of crates.txt don't."""
     copy.uses("first", 1)
     copy.write("README.md", "none")
-    copy.write("crates/tt_tests_app/src/lib.rt", "none")
+    copy.write("crates/tt_tests_commands/src/lib.rt", "none")
     copy.write("crates/tt_text/must-fail/none.edit", "none")
     copy.write("crates/tt_text/out/none", "none")
     copy.write("crates.txt", "# none\n" + (copy.folder / "crates.txt").read_text() + "tt_tests_none:\n")

@@ -106,7 +106,7 @@ def versions():
     line = r"rattle-kit-\S+ logic [0-9a-f]+"
     found = {
         "README.md": re.search(line, read(os.path.join(ROOT, "README.md"))),
-        "crates/tt_app_arguments/src/arguments.rt": re.search(line, read(os.path.join(ROOT, "crates", "tt_app_arguments", "src", "arguments.rt"))),
+        "crates/tt_cli_arguments/src/arguments.rt": re.search(line, read(os.path.join(ROOT, "crates", "tt_cli_arguments", "src", "arguments.rt"))),
     }
     found = {place: match and match[0] for place, match in found.items()}
     if shutil.which("rt"):

@@ -1,11 +1,11 @@
-//! The program `tt`: passes the words of its command line to `tt_app_run::run`.
+//! The program `tt`: passes the words of its command line to `tt_cli::run`.
 #![tactic(auto)]
 
 use std::io::{ErrorKind, Write};
 use std::process::ExitCode;
 use std::rt::{Env, Files};
 use std::{env, fs, io};
-use tt_app_answers::AppFault;
+use tt_call_answers::AppFault;
 
 /// A folder that every system has.
 const ROOT: &str = "/";
@@ -38,7 +38,7 @@ fn refused<E: Write>(fault: io::Error, err: &mut E) -> u8 {
 fn main(rt: HostRuntime) -> ExitCode {
     let held = hold_numbers(&rt);
     let status = match words(&rt) {
-        Ok(words) => tt_app_run::run(&rt, &words, &mut rt.stdout(), &mut rt.stderr()),
+        Ok(words) => tt_cli::run(&rt, &words, &mut rt.stdout(), &mut rt.stderr()),
         Err(fault) => refused(fault, &mut rt.stderr()),
     };
     drop(held);

@@ -1,7 +1,7 @@
 -- Comparisons of timetables by their hard counts and costs.
 use Rattle.std.proofs.Common.{List, Option, Some, None, arith}
-use Rattle.tt_instance_data.specs.Problem.{Problem}
-use Rattle.tt_instance_data.specs.declared.cell.Cell.{Cell}
+use Rattle.tt_instance.specs.Problem.{Problem}
+use Rattle.tt_instance.specs.declared.cell.Cell.{Cell}
 use Rattle.tt_best.specs.Weeks.{IsNoHigher, IsNoWorseThan}
 
 -- a comparison after another

@@ -1,7 +1,7 @@
 -- The result of a search for a best timetable.
 use Rattle.std.specs.Prelude.{List, Option, IfSome}
-use Rattle.tt_instance_data.specs.Problem.{Problem}
-use Rattle.tt_instance_data.specs.declared.cell.Cell.{Cell}
+use Rattle.tt_instance.specs.Problem.{Problem}
+use Rattle.tt_instance.specs.declared.cell.Cell.{Cell}
 use Rattle.tt_table.specs.Table.{IsTimetable}
 use Rattle.tt_moves.specs.Changes.{IsBelow}
 use Rattle.tt_parts.specs.Found.{AreFound}

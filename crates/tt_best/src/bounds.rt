@@ -7,11 +7,11 @@ ghost use Rattle.tt_best.specs.Weeks.{IsWeek};
 
 use crate::week::Week;
 use std::alloc::{AllocError, Global};
-use tt_instance_data::Instance;
-use tt_leaf_data::Bound;
+use tt_instance::Instance;
+use tt_leaf::Bound;
 use tt_parts::{Effort, Parts, add_up, copy_texts, find_parts};
 use tt_rules::score;
-use tt_search_watch::Watch;
+use tt_watch::Watch;
 use tt_table::Entry;
 
 /// Checks whether a bound says more than another one: that no timetable exists that breaks no hard rule says more than any number of points.

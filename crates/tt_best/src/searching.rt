@@ -9,10 +9,10 @@ use crate::start::{Start, first_week};
 use crate::watch::WatchRounds;
 use crate::week::Week;
 use std::alloc::{AllocError, Global};
-use tt_instance_data::Instance;
+use tt_instance::Instance;
 use tt_parts::Effort;
 use tt_search::improve;
-use tt_search_watch::Watch;
+use tt_watch::Watch;
 
 /// The number of steps that each round makes for a better timetable.
 const STEPS: u64 = 200_000;

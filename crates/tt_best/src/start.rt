@@ -10,14 +10,14 @@ use crate::bounds::sum_of_given;
 use crate::week::Week;
 use std::alloc::{AllocError, Global};
 use tt_branch::{Outcome, solve};
-use tt_instance_data::Instance;
-use tt_leaf_data::Bound;
+use tt_instance::Instance;
+use tt_leaf::Bound;
 use tt_parts::{Parts, add_up};
 use tt_proof_read::Node;
-use tt_proof_text::{WriteFault, write_proof};
+use tt_proof_write::{WriteFault, write_proof};
 use tt_rules::score;
 use tt_search::construct;
-use tt_search_watch::Watch;
+use tt_watch::Watch;
 use tt_table::Timetable;
 
 /// The number of nodes of a tree that are opened.

@@ -1,8 +1,8 @@
 //! Watches of a search in rounds.
 
 use crate::week::Week;
-use tt_instance_data::Instance;
-use tt_search_watch::{Unwatched, Watch};
+use tt_instance::Instance;
+use tt_watch::{Unwatched, Watch};
 
 /// Watches a search in rounds, and may take its results on the way. Nothing is promised about when it is asked.
 pub trait WatchRounds: Watch {

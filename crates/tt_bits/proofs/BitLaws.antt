@@ -7,10 +7,10 @@ use Rattle.std.proofs.lemmas.Nat.Bits.{bit_at_and, bit_at_not, bit_at-lt, bit_at
 use Rattle.std.proofs.lemmas.Bool.{and_from, and_parts, cases_eq, false_from_ne_true, both_ways, cases_lt, lt-ltb, le-ltb}
 use Rattle.std.proofs.Math.Pow.{pow-lt}
 use Rattle.std.proofs.Math.Nat.{mod-eq_of_lt}
-use Rattle.tt_lists.proofs.Numbers.{any_below}
-use Rattle.tt_lists.proofs.Members.{member_from_any}
-use Rattle.tt_lists.proofs.Range.{below_member, all_below, none_below, at_below, all_same_below, any_same_below}
-use Rattle.tt_lists.proofs.Truth.{same_truth, wanted, not_wanted}
+use Rattle.tt_list_laws.proofs.Numbers.{any_below}
+use Rattle.tt_list_laws.proofs.Members.{member_from_any}
+use Rattle.tt_list_laws.proofs.Range.{below_member, all_below, none_below, at_below, all_same_below, any_same_below}
+use Rattle.tt_list_laws.proofs.Truth.{same_truth, wanted, not_wanted}
 use Rattle.tt_bits.specs.Inner.Bits.{has_bit, bits, each_bit}
 
 test_of : (a b : ℕ) → a < 2 → b < 2 → (min a b == 1) ≡ ((a == 1) && (b == 1))

@@ -6,12 +6,12 @@ use Rattle.std.proofs.lemmas.Bool.{and_parts, and_from, lt-ltb, ltb-true, le-ltb
 use Rattle.std.specs.Int.Count.{ones}
 use Rattle.std.proofs.lemmas.Nat.{ones_cat}
 use Rattle.std.proofs.lemmas.Nat.Bits.{bit_at-suc, bit_at_lowest}
-use Rattle.tt_lists.specs.Words.{range_below}
-use Rattle.tt_lists.proofs.Numbers.{any_below, count_more}
-use Rattle.tt_lists.proofs.Members.{member_from_any}
-use Rattle.tt_lists.proofs.Sums.{one_if, count_by-cons}
-use Rattle.tt_lists.proofs.Range.{below_member}
-use Rattle.tt_lists.proofs.Truth.{same_truth}
+use Rattle.tt_list_laws.specs.Words.{range_below}
+use Rattle.tt_list_laws.proofs.Numbers.{any_below, count_more}
+use Rattle.tt_list_laws.proofs.Members.{member_from_any}
+use Rattle.tt_list_laws.proofs.Sums.{one_if, count_by-cons}
+use Rattle.tt_list_laws.proofs.Range.{below_member}
+use Rattle.tt_list_laws.proofs.Truth.{same_truth}
 use Rattle.tt_bits.specs.Inner.Bits.{has_bit, bits}
 use Rattle.tt_bits.proofs.BitLaws.{bit_from_any, any_bits_at}
 

@@ -5,8 +5,8 @@ use Rattle.std.specs.List.{AllByRecursion}
 use Rattle.std.proofs.lemmas.List.{drop-append-le, set-get_or}
 use Rattle.tt_bits.specs.Inner.Undone.{undone, table_at, tables_at, IsClimb, AreWithin}
 use Rattle.tt_bits.specs.declared.trail.Old.{Old}
-use Rattle.tt_lists.proofs.Members.{each_of_append}
-use Rattle.tt_lists.proofs.Tested.{each_append}
+use Rattle.tt_list_laws.proofs.Members.{each_of_append}
+use Rattle.tt_list_laws.proofs.Tested.{each_append}
 
 -- ---- lists of numbers
 

@@ -3,23 +3,23 @@ use Rattle.std.proofs.Common.{◌≡◌, ℕ, zero, suc, ◌+◌, ◌*◌, ◌�
 use Rattle.std.proofs.Common.{not, get_or}
 use Rattle.std.specs.Prelude.{slice_get, slice_set, IfSome, IsNone}
 use Rattle.std.specs.Option.{is_some}
-use Rattle.tt_facts_path.specs.declared.facts.Fact.{Fact}
+use Rattle.tt_path.specs.declared.facts.Fact.{Fact}
 use Rattle.std.specs.List.{AllByRecursion, list_any}
 use Rattle.std.proofs.lemmas.List.Sums.{sum_by-append, count_by-le-length}
 use Rattle.std.proofs.lemmas.Bool.{or_parts, or_left, or_right}
 use Rattle.std.proofs.lemmas.Option.{get_or_from_slice_get}
-use Rattle.tt_lists.proofs.Sums.{one_if, count_by-cons}
-use Rattle.tt_lists.proofs.Zipped.{zip_and, zip_cut, zip_other}
-use Rattle.tt_lists.proofs.Cuts.{cut_at, set_cut, get_next, get_after}
-use Rattle.tt_instance_data.specs.Problem.{Problem}
-use Rattle.tt_instance_data.specs.declared.cell.Cell.{Cell}
+use Rattle.tt_list_laws.proofs.Sums.{one_if, count_by-cons}
+use Rattle.tt_list_laws.proofs.Zipped.{zip_and, zip_cut, zip_other}
+use Rattle.tt_list_laws.proofs.Cuts.{cut_at, set_cut, get_next, get_after}
+use Rattle.tt_instance.specs.Problem.{Problem}
+use Rattle.tt_instance.specs.declared.cell.Cell.{Cell}
 use Rattle.tt_rules.specs.Score.{IsFeasible, cost}
-use Rattle.tt_facts_path.specs.declared.facts.Pattern.{Pattern}
-use Rattle.tt_leaf.specs.Found.{ArePatterns}
-use Rattle.tt_leaf_data.specs.declared.leaf.Leaf.{Leaf}
+use Rattle.tt_path.specs.declared.facts.Pattern.{Pattern}
+use Rattle.tt_leaf_find.specs.Found.{ArePatterns}
+use Rattle.tt_leaf.specs.declared.leaf.Leaf.{Leaf}
 use Rattle.tt_proof_read.specs.Trees.{on_paths}
 use Rattle.tt_proof_read.specs.declared.node.Node.TheVariants as node
-use Rattle.tt_leaf.specs.Best.{best_leaf}
+use Rattle.tt_leaf_find.specs.Best.{best_leaf}
 use Rattle.tt_branch.specs.declared.best.Best.{Best}
 use Rattle.tt_branch.specs.declared.tree_node.NodeState.{NodeState}
 use Rattle.tt_branch.specs.declared.tree_node.NodeState.TheVariants.{Split, Closed, Opened, Unopened}

@@ -4,38 +4,38 @@ use Rattle.std.specs.Prelude.{All, IfSome}
 use Rattle.std.specs.List.{AllZip, AllByRecursion, list_any, cons_option}
 use Rattle.std.proofs.lemmas.List.Elements.{All-from_recursion}
 use Rattle.std.proofs.lemmas.List.{length-map}
-use Rattle.tt_lists.proofs.Sums.{each_both, each_weaker}
-use Rattle.tt_lists.proofs.Tested.{each_map}
-use Rattle.tt_lists.proofs.Zipped.{zip_other}
-use Rattle.tt_instance_data.specs.Problem.{Problem}
-use Rattle.tt_instance_data.specs.Limits.{IsInstance}
-use Rattle.tt_instance_data.specs.declared.cell.Cell.{Cell}
+use Rattle.tt_list_laws.proofs.Sums.{each_both, each_weaker}
+use Rattle.tt_list_laws.proofs.Tested.{each_map}
+use Rattle.tt_list_laws.proofs.Zipped.{zip_other}
+use Rattle.tt_instance.specs.Problem.{Problem}
+use Rattle.tt_instance.specs.Limits.{IsInstance}
+use Rattle.tt_instance.specs.declared.cell.Cell.{Cell}
 use Rattle.tt_rules.specs.Score.{IsFeasible}
-use Rattle.tt_facts_path.specs.Live.{least, least_with}
-use Rattle.tt_facts_path.specs.declared.facts.Fact.{Fact}
-use Rattle.tt_facts_path.proofs.Least.{least_with-le}
+use Rattle.tt_path.specs.Live.{least, least_with}
+use Rattle.tt_path.specs.declared.facts.Fact.{Fact}
+use Rattle.tt_path.proofs.Least.{least_with-le}
 use Rattle.tt_leaf_rules.specs.Claims.{total_of}
 use Rattle.tt_leaf_rules.specs.Leaves.{IsRight}
 use Rattle.tt_leaf_rules.specs.Outcomes.{IsClaimedOnce}
 use Rattle.tt_leaf_rules.proofs.Rightness.{targets_once}
-use Rattle.tt_leaf_data.specs.declared.leaf.Bound.{Bound}
-use Rattle.tt_leaf_data.specs.declared.leaf.Bound.TheVariants.{AtLeast, Nothing}
-use Rattle.tt_leaf_data.specs.declared.leaf.Claim.TheVariants.{Days}
-use Rattle.tt_leaf_data.specs.declared.leaf.Leaf.{Leaf}
-use Rattle.tt_leaf_data.specs.declared.leaf.Leaf.TheVariants.{Empty, Many, Clique, Slots, Cost}
+use Rattle.tt_leaf.specs.declared.leaf.Bound.{Bound}
+use Rattle.tt_leaf.specs.declared.leaf.Bound.TheVariants.{AtLeast, Nothing}
+use Rattle.tt_leaf.specs.declared.leaf.Claim.TheVariants.{Days}
+use Rattle.tt_leaf.specs.declared.leaf.Leaf.{Leaf}
+use Rattle.tt_leaf.specs.declared.leaf.Leaf.TheVariants.{Empty, Many, Clique, Slots, Cost}
 use Rattle.tt_proof_read.specs.Spelling.{IsBound}
 use Rattle.tt_proof_read.specs.Trees.{preorder, OnPath, on_paths}
 use Rattle.tt_proof_read.specs.declared.node.Node.{Node}
 use Rattle.tt_proof_read.specs.declared.node.Node.TheVariants as node
 use Rattle.tt_proof_read.proofs.Depth.{leaves_low}
-use Rattle.tt_proof_text.specs.Within.{HasShortPrices}
+use Rattle.tt_proof_write.specs.Within.{HasShortPrices}
 use Rattle.tt_proof_check.specs.Derives.{Derives}
 use Rattle.tt_proof_check.specs.Nodes.{IsNodeOf}
 use Rattle.tt_proof_check.proofs.Reading.{whole_places}
 use Rattle.tt_proof_check.proofs.Soundness.{root_sound}
-use Rattle.tt_leaf.specs.Best.{best_claims}
-use Rattle.tt_leaf.proofs.Answering.{best_answer}
-use Rattle.tt_leaf.proofs.Claims.{once}
+use Rattle.tt_leaf_find.specs.Best.{best_claims}
+use Rattle.tt_leaf_find.proofs.Answering.{best_answer}
+use Rattle.tt_leaf_find.proofs.Claims.{once}
 use Rattle.tt_branch.specs.declared.best.Best.{Best}
 use Rattle.tt_branch.specs.declared.tree_node.NodeState.{NodeState}
 use Rattle.tt_branch.specs.declared.tree_node.NodeState.TheVariants.{Split, Closed, Opened, Unopened}

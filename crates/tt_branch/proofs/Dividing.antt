@@ -3,8 +3,8 @@ use Rattle.std.proofs.Common.{◌≡◌, ℕ, suc, ◌+◌, List, [], ◌∷◌,
 use Rattle.std.specs.Prelude.{slice_set, true, false}
 use Rattle.std.specs.List.{insert}
 use Rattle.std.proofs.lemmas.Option.{get_or_from_slice_get}
-use Rattle.tt_lists.proofs.Cuts.{IsCut, cut_at, set_cut, insert_cut}
-use Rattle.tt_facts_path.specs.declared.facts.Pattern.{Pattern}
+use Rattle.tt_list_laws.proofs.Cuts.{IsCut, cut_at, set_cut, insert_cut}
+use Rattle.tt_path.specs.declared.facts.Pattern.{Pattern}
 use Rattle.tt_branch.specs.declared.tree_node.NodeState.TheVariants.{Split, Opened, Unopened}
 use Rattle.tt_branch.specs.declared.tree_node.TreeNode.{TreeNode}
 use Rattle.tt_branch.specs.declared.links.Link.{Link}

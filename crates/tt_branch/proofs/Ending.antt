@@ -5,27 +5,27 @@ use Rattle.std.specs.List.{AllZip, list_any, AllByRecursion}
 use Rattle.std.proofs.lemmas.Bool.{or_parts}
 use Rattle.std.proofs.lemmas.List.{map-append}
 use Rattle.std.proofs.lemmas.List.Elements.{All-from_recursion}
-use Rattle.tt_lists.proofs.Sums.{each_weaker, each_both}
-use Rattle.tt_lists.proofs.Members.{each_member, at_member}
-use Rattle.tt_lists.proofs.Tested.{each_append}
-use Rattle.tt_lists.proofs.Given.{given_member}
-use Rattle.tt_lists.proofs.Zipped.{zip_each, zip_length}
-use Rattle.tt_instance_data.specs.Problem.{Problem}
-use Rattle.tt_instance_data.specs.declared.cell.Cell.{Cell}
+use Rattle.tt_list_laws.proofs.Sums.{each_weaker, each_both}
+use Rattle.tt_list_laws.proofs.Members.{each_member, at_member}
+use Rattle.tt_list_laws.proofs.Tested.{each_append}
+use Rattle.tt_list_laws.proofs.Given.{given_member}
+use Rattle.tt_list_laws.proofs.Zipped.{zip_each, zip_length}
+use Rattle.tt_instance.specs.Problem.{Problem}
+use Rattle.tt_instance.specs.declared.cell.Cell.{Cell}
 use Rattle.tt_rules.specs.Score.{cost}
-use Rattle.tt_facts_path.specs.declared.facts.Fact.{Fact}
-use Rattle.tt_facts_path.specs.Live.{least}
-use Rattle.tt_facts_path.proofs.Least.{least-le}
+use Rattle.tt_path.specs.declared.facts.Fact.{Fact}
+use Rattle.tt_path.specs.Live.{least}
+use Rattle.tt_path.proofs.Least.{least-le}
 use Rattle.tt_leaf_rules.specs.Claims.{total_of}
-use Rattle.tt_leaf_data.specs.declared.leaf.Bound.{Bound}
-use Rattle.tt_leaf_data.specs.declared.leaf.Bound.TheVariants.{AtLeast}
-use Rattle.tt_leaf_data.specs.declared.leaf.Leaf.{Leaf}
+use Rattle.tt_leaf.specs.declared.leaf.Bound.{Bound}
+use Rattle.tt_leaf.specs.declared.leaf.Bound.TheVariants.{AtLeast}
+use Rattle.tt_leaf.specs.declared.leaf.Leaf.{Leaf}
 use Rattle.tt_proof_read.specs.Trees.{Tree, Tip, Fork, OnPath, on_paths, preorder, with_fact, IsShallow}
 use Rattle.tt_proof_read.specs.declared.node.Node.TheVariants as node
 use Rattle.tt_proof_check.specs.Derives.{Derives}
 use Rattle.tt_proof_check.specs.Explains.{IsRightOn, Passes}
 use Rattle.tt_proof_check.proofs.Walking.{passed_tree}
-use Rattle.tt_leaf.specs.Best.{best_claims, best_leaf}
+use Rattle.tt_leaf_find.specs.Best.{best_claims, best_leaf}
 use Rattle.tt_branch.specs.declared.tree_node.NodeState.{NodeState}
 use Rattle.tt_branch.specs.declared.tree_node.NodeState.TheVariants.{Split, Closed, Opened, Unopened}
 use Rattle.tt_branch.specs.declared.tree_node.TreeNode.{TreeNode}

@@ -1,9 +1,9 @@
 -- A tree grows at a leaf, and the properties of its other nodes are preserved.
 use Rattle.std.proofs.Common.{◌≡◌, true, false, List, [], ◌∷◌, ◌++◌, sym, ap, ◌∙◌, inl, inr, append_assoc}
 use Rattle.std.proofs.lemmas.List.{append-nil}
-use Rattle.tt_lists.proofs.Cuts.{cut_cases}
-use Rattle.tt_facts_path.specs.declared.facts.Fact.{Fact}
-use Rattle.tt_leaf_data.specs.declared.leaf.Leaf.{Leaf}
+use Rattle.tt_list_laws.proofs.Cuts.{cut_cases}
+use Rattle.tt_path.specs.declared.facts.Fact.{Fact}
+use Rattle.tt_leaf.specs.declared.leaf.Leaf.{Leaf}
 use Rattle.tt_proof_read.specs.Trees.{Tree, Tip, Fork, OnPath, on_paths, with_fact}
 use Rattle.tt_proof_read.specs.declared.node.Node.{Node}
 use Rattle.tt_proof_read.specs.declared.node.Node.TheVariants as node

@@ -6,29 +6,29 @@ use Rattle.std.specs.List.{AllByRecursion, list_any}
 use Rattle.std.proofs.lemmas.List.Sums.{sum_by-cons, count_by-le-length}
 use Rattle.std.proofs.lemmas.List.FromFn.{length-range_with_len}
 use Rattle.std.proofs.Math.Nat.{mul-le-mul_left}
-use Rattle.tt_lists.proofs.Members.{each_member}
-use Rattle.tt_lists.proofs.Sums.{sum_by-le, sum_by-times, each}
-use Rattle.tt_lists.proofs.Range.{each_below}
-use Rattle.tt_lists.proofs.Counting.{sum_by-ones}
-use Rattle.tt_instance_data.specs.Problem.{Problem}
-use Rattle.tt_instance_data.specs.Limits.{IsInstance}
-use Rattle.tt_instance_data.specs.Cells.{all_courses, all_curricula, all_rooms, all_slots, is_of, is_in}
-use Rattle.tt_instance_data.specs.Courses.{lectures, min_days, excess, no_course, in_curriculum}
-use Rattle.tt_instance_data.specs.declared.cell.Cell.{Cell}
-use Rattle.tt_instance_data.proofs.Slots.{length-all_slots}
-use Rattle.tt_instance_data.proofs.CourseLimits.{few_students, few_lectures}
+use Rattle.tt_list_laws.proofs.Members.{each_member}
+use Rattle.tt_list_laws.proofs.Sums.{sum_by-le, sum_by-times, each}
+use Rattle.tt_list_laws.proofs.Range.{each_below}
+use Rattle.tt_list_laws.proofs.Counting.{sum_by-ones}
+use Rattle.tt_instance.specs.Problem.{Problem}
+use Rattle.tt_instance.specs.Limits.{IsInstance}
+use Rattle.tt_instance.specs.Cells.{all_courses, all_curricula, all_rooms, all_slots, is_of, is_in}
+use Rattle.tt_instance.specs.Courses.{lectures, min_days, excess, no_course, in_curriculum}
+use Rattle.tt_instance.specs.declared.cell.Cell.{Cell}
+use Rattle.tt_instance.proofs.Slots.{length-all_slots}
+use Rattle.tt_instance.proofs.CourseLimits.{few_students, few_lectures}
 use Rattle.tt_rules.specs.Hard.{entries_of}
 use Rattle.tt_rules.specs.Soft.{days_cost, is_isolated, compactness_cost, stability_cost}
 use Rattle.tt_rules.specs.Score.{IsFeasible, cost}
 use Rattle.tt_rules.proofs.Feasible.{lectures_met, in_range}
-use Rattle.tt_facts_path.specs.Live.{pinned, pinned_room}
-use Rattle.tt_facts_path.specs.declared.facts.Who.TheVariants.{Curriculum}
-use Rattle.tt_facts_path.specs.declared.facts.Fact.{Fact}
+use Rattle.tt_path.specs.Live.{pinned, pinned_room}
+use Rattle.tt_path.specs.declared.facts.Who.TheVariants.{Curriculum}
+use Rattle.tt_path.specs.declared.facts.Fact.{Fact}
 use Rattle.tt_leaf_rules.specs.Claims.{is_alone, value_of, total_of}
-use Rattle.tt_leaf_data.specs.declared.leaf.Claim.TheVariants.{Capacity, Days, Compact, Stable}
-use Rattle.tt_leaf.specs.Best.{price_of, at_price, best_claims}
-use Rattle.tt_leaf.proofs.Answering.{price_short}
-use Rattle.tt_leaf.proofs.Claims.{total-claims}
+use Rattle.tt_leaf.specs.declared.leaf.Claim.TheVariants.{Capacity, Days, Compact, Stable}
+use Rattle.tt_leaf_find.specs.Best.{price_of, at_price, best_claims}
+use Rattle.tt_leaf_find.proofs.Answering.{price_short}
+use Rattle.tt_leaf_find.proofs.Claims.{total-claims}
 use Rattle.tt_branch.proofs.LiveTables.{entries_up}
 
 -- terms that are at most a number

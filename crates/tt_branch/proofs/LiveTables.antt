@@ -3,25 +3,25 @@ use Rattle.std.proofs.Common.{◌≡◌, ℕ, ◌≤◌, List, map, length, refl
 use Rattle.std.specs.Prelude.{sum_by, flat_map, Contains}
 use Rattle.std.proofs.Common.{true, eq-eqb}
 use Rattle.std.proofs.lemmas.Simd.{map-map}
-use Rattle.tt_lists.specs.Words.{range_below}
-use Rattle.tt_lists.proofs.Sums.{spread_up, once_at_least, one_if}
-use Rattle.tt_lists.proofs.Members.{each_member}
-use Rattle.tt_lists.proofs.Numbers.{any_below}
-use Rattle.tt_lists.proofs.Tests.{sum_by-same_below}
-use Rattle.tt_lists.proofs.Growing.{map-of_flat_map}
-use Rattle.tt_lists.proofs.Counting.{sum_by-ones}
-use Rattle.tt_instance_data.specs.Problem.{Problem}
-use Rattle.tt_instance_data.specs.Limits.{IsInstance}
-use Rattle.tt_instance_data.specs.Cells.{slot, cell, is_of, all_days, all_rooms, all_courses, all_slots, all_cells, InRange}
-use Rattle.tt_instance_data.specs.Courses.{lectures}
-use Rattle.tt_instance_data.specs.declared.cell.Cell.{Cell}
-use Rattle.tt_instance_data.proofs.CourseLimits.{few_lectures}
+use Rattle.tt_list_laws.specs.Words.{range_below}
+use Rattle.tt_list_laws.proofs.Sums.{spread_up, once_at_least, one_if}
+use Rattle.tt_list_laws.proofs.Members.{each_member}
+use Rattle.tt_list_laws.proofs.Numbers.{any_below}
+use Rattle.tt_list_laws.proofs.Tests.{sum_by-same_below}
+use Rattle.tt_list_laws.proofs.Growing.{map-of_flat_map}
+use Rattle.tt_list_laws.proofs.Counting.{sum_by-ones}
+use Rattle.tt_instance.specs.Problem.{Problem}
+use Rattle.tt_instance.specs.Limits.{IsInstance}
+use Rattle.tt_instance.specs.Cells.{slot, cell, is_of, all_days, all_rooms, all_courses, all_slots, all_cells, InRange}
+use Rattle.tt_instance.specs.Courses.{lectures}
+use Rattle.tt_instance.specs.declared.cell.Cell.{Cell}
+use Rattle.tt_instance.proofs.CourseLimits.{few_lectures}
 use Rattle.tt_rules.specs.Hard.{entries_of}
-use Rattle.tt_facts_path.specs.declared.facts.Fact.{Fact}
-use Rattle.tt_facts_path.proofs.LiveCells.{live_cells, range_of}
-use Rattle.tt_leaf_data.specs.declared.leaf.Bound.{Bound}
-use Rattle.tt_leaf.specs.Pinned.{IsPinnedDown, IsOpen}
-use Rattle.tt_leaf.proofs.Fitting.{lectures_placed}
+use Rattle.tt_path.specs.declared.facts.Fact.{Fact}
+use Rattle.tt_path.proofs.LiveCells.{live_cells, range_of}
+use Rattle.tt_leaf.specs.declared.leaf.Bound.{Bound}
+use Rattle.tt_leaf_find.specs.Pinned.{IsPinnedDown, IsOpen}
+use Rattle.tt_leaf_find.proofs.Fitting.{lectures_placed}
 use Rattle.tt_branch.specs.Inner.Steps.{cells_in, cells_of}
 
 in_room : (p : Problem) (c r : ℕ) → map (cell c r) (all_slots p) ≡ cells_in p c r

@@ -2,9 +2,9 @@
 -- reveal a changed number.
 use Rattle.std.proofs.Common.{◌≡◌, ◌-◌, ◌*◌, refl}
 use Rattle.tt_text.specs.declared.feed.TheConstants.{MAX_BYTES, MAX_TOKEN_BYTES}
-use Rattle.tt_instance_data.specs.declared.limit.TheConstants.{MAX_COURSES, MAX_ROOMS, MAX_DAYS, MAX_PERIODS, MAX_SLOTS, MAX_CELLS, MAX_CURRICULA, MAX_MEMBERS, MAX_UNAVAILABILITIES, MAX_LECTURES, MAX_MIN_DAYS, MAX_SEATS, ISOLATED_COST, MISSING_DAY_COST}
+use Rattle.tt_instance.specs.declared.limit.TheConstants.{MAX_COURSES, MAX_ROOMS, MAX_DAYS, MAX_PERIODS, MAX_SLOTS, MAX_CELLS, MAX_CURRICULA, MAX_MEMBERS, MAX_UNAVAILABILITIES, MAX_LECTURES, MAX_MIN_DAYS, MAX_SEATS, ISOLATED_COST, MISSING_DAY_COST}
 use Rattle.tt_table.specs.declared.table.TheConstants.{MAX_ENTRIES}
-use Rattle.tt_facts_path.specs.declared.path.TheConstants.{MAX_FACTS}
+use Rattle.tt_path.specs.declared.path.TheConstants.{MAX_FACTS}
 use Rattle.tt_proof_read.specs.declared.format.TheConstants.{MAX_PRICE, MAX_POINTS, MAX_PROOF_NODES, COURSE_LETTER, CURRICULUM_LETTER, ROOM_LETTER, DAY_LETTER, PERIOD_LETTER}
 use Rattle.tt_branch.specs.declared.limit.TheConstants.{MAX_OPENED, MAX_TREE, FIRST_STEPS}
 

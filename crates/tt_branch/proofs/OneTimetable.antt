@@ -6,30 +6,30 @@ use Rattle.std.specs.List.{remove}
 use Rattle.std.specs.List.Sorted.{IsPermutation}
 use Rattle.std.proofs.lemmas.Bool.{and_parts, and_from, cases_lt}
 use Rattle.std.proofs.lemmas.List.Sorted.{IsPermutation-refl, IsPermutation-sym, IsPermutation-trans, IsPermutation-cons, IsPermutation-remove, sum_by-IsPermutation}
-use Rattle.tt_lists.proofs.Sums.{one_if, one_if_true, count_by-cons, count_if_any, any_if_count, sum_by-le, cond-le, each}
-use Rattle.tt_lists.proofs.Members.{any_member, member_from_any}
-use Rattle.tt_instance_data.specs.Problem.{Problem}
-use Rattle.tt_instance_data.specs.Limits.{IsInstance}
-use Rattle.tt_instance_data.specs.Cells.{slot_of, is_at, is_in, InRange}
-use Rattle.tt_instance_data.specs.declared.cell.Cell.{Cell}
-use Rattle.tt_instance_data.proofs.Cells.{is_cell, at_itself}
+use Rattle.tt_list_laws.proofs.Sums.{one_if, one_if_true, count_by-cons, count_if_any, any_if_count, sum_by-le, cond-le, each}
+use Rattle.tt_list_laws.proofs.Members.{any_member, member_from_any}
+use Rattle.tt_instance.specs.Problem.{Problem}
+use Rattle.tt_instance.specs.Limits.{IsInstance}
+use Rattle.tt_instance.specs.Cells.{slot_of, is_at, is_in, InRange}
+use Rattle.tt_instance.specs.declared.cell.Cell.{Cell}
+use Rattle.tt_instance.proofs.Cells.{is_cell, at_itself}
 use Rattle.tt_rules.specs.Score.{IsFeasible, cost}
 use Rattle.tt_rules.proofs.Feasible.{in_range, one_in}
-use Rattle.tt_facts_path.specs.Facts.{matches, Fits}
-use Rattle.tt_facts_path.specs.Live.{is_live}
-use Rattle.tt_facts_path.specs.declared.facts.Pattern.{Pattern}
-use Rattle.tt_facts_path.specs.declared.facts.Fact.{Fact}
-use Rattle.tt_facts_path.proofs.LiveCells.{live_cells, range_of, is_live_of, any_live, once_live}
-use Rattle.tt_facts_path.proofs.Matching.{Matches-from}
+use Rattle.tt_path.specs.Facts.{matches, Fits}
+use Rattle.tt_path.specs.Live.{is_live}
+use Rattle.tt_path.specs.declared.facts.Pattern.{Pattern}
+use Rattle.tt_path.specs.declared.facts.Fact.{Fact}
+use Rattle.tt_path.proofs.LiveCells.{live_cells, range_of, is_live_of, any_live, once_live}
+use Rattle.tt_path.proofs.Matching.{Matches-from}
 use Rattle.tt_leaf_rules.specs.Claims.{total_of}
-use Rattle.tt_leaf_data.specs.declared.leaf.Bound.TheVariants.{AtLeast, Nothing}
+use Rattle.tt_leaf.specs.declared.leaf.Bound.TheVariants.{AtLeast, Nothing}
 use Rattle.tt_leaf_rules.proofs.Live.{matched, live_entry}
 use Rattle.tt_leaf_rules.proofs.Soundness.{leaf_sound}
-use Rattle.tt_leaf.specs.Best.{best_claims, best_leaf}
-use Rattle.tt_leaf.specs.Pinned.{own_pattern, IsPinnedDown, IsOpen}
-use Rattle.tt_leaf.proofs.LiveCells.{own_fact}
-use Rattle.tt_leaf.proofs.Fitting.{is_feasible, fits}
-use Rattle.tt_leaf.proofs.Closing.{cost-le_total}
+use Rattle.tt_leaf_find.specs.Best.{best_claims, best_leaf}
+use Rattle.tt_leaf_find.specs.Pinned.{own_pattern, IsPinnedDown, IsOpen}
+use Rattle.tt_leaf_find.proofs.LiveCells.{own_fact}
+use Rattle.tt_leaf_find.proofs.Fitting.{is_feasible, fits}
+use Rattle.tt_leaf_find.proofs.Closing.{cost-le_total}
 use Rattle.tt_branch.specs.Alone.{LeavesOne}
 use Rattle.tt_branch.specs.Proofs.{IsUnclosed}
 use Rattle.tt_branch.proofs.Searching.{best_right}

@@ -3,26 +3,26 @@ use Rattle.std.proofs.Common.{◌≡◌, true, false, not, ◌&&◌, List, Optio
 use Rattle.std.specs.List.{list_any}
 use Rattle.std.proofs.Common.{inl, inr}
 use Rattle.std.proofs.lemmas.Bool.{and_from, or_right, not_from_false, false_from_ne_true, cases_lt}
-use Rattle.tt_lists.proofs.Members.{any_member}
-use Rattle.tt_instance_data.specs.Problem.{Problem}
-use Rattle.tt_instance_data.specs.Limits.{IsInstance}
-use Rattle.tt_instance_data.specs.Courses.{unavailable}
-use Rattle.tt_instance_data.specs.declared.cell.Cell.{Cell}
+use Rattle.tt_list_laws.proofs.Members.{any_member}
+use Rattle.tt_instance.specs.Problem.{Problem}
+use Rattle.tt_instance.specs.Limits.{IsInstance}
+use Rattle.tt_instance.specs.Courses.{unavailable}
+use Rattle.tt_instance.specs.declared.cell.Cell.{Cell}
 use Rattle.tt_rules.specs.Score.{IsFeasible, cost}
-use Rattle.tt_facts_path.specs.Facts.{matches, has_fact}
-use Rattle.tt_facts_path.specs.Live.{is_live}
-use Rattle.tt_facts_path.specs.declared.facts.Pattern.{Pattern}
-use Rattle.tt_facts_path.specs.declared.facts.Fact.{Fact}
-use Rattle.tt_facts_path.proofs.LiveCells.{live_cells, live_not_barred}
-use Rattle.tt_facts_path.proofs.Same.{fact_there}
-use Rattle.tt_leaf_data.specs.declared.leaf.Bound.{Bound}
-use Rattle.tt_leaf_data.specs.declared.leaf.Bound.TheVariants.{AtLeast}
-use Rattle.tt_leaf.specs.Best.{best_leaf}
-use Rattle.tt_leaf.specs.Found.{Closes}
-use Rattle.tt_leaf.specs.Pinned.{IsPinnedDown, IsOpen}
-use Rattle.tt_leaf.proofs.Fitting.{is_feasible}
-use Rattle.tt_leaf.proofs.Closing.{cost-le_total}
-use Rattle.tt_leaf.proofs.Answering.{best_answer}
+use Rattle.tt_path.specs.Facts.{matches, has_fact}
+use Rattle.tt_path.specs.Live.{is_live}
+use Rattle.tt_path.specs.declared.facts.Pattern.{Pattern}
+use Rattle.tt_path.specs.declared.facts.Fact.{Fact}
+use Rattle.tt_path.proofs.LiveCells.{live_cells, live_not_barred}
+use Rattle.tt_path.proofs.Same.{fact_there}
+use Rattle.tt_leaf.specs.declared.leaf.Bound.{Bound}
+use Rattle.tt_leaf.specs.declared.leaf.Bound.TheVariants.{AtLeast}
+use Rattle.tt_leaf_find.specs.Best.{best_leaf}
+use Rattle.tt_leaf_find.specs.Found.{Closes}
+use Rattle.tt_leaf_find.specs.Pinned.{IsPinnedDown, IsOpen}
+use Rattle.tt_leaf_find.proofs.Fitting.{is_feasible}
+use Rattle.tt_leaf_find.proofs.Closing.{cost-le_total}
+use Rattle.tt_leaf_find.proofs.Answering.{best_answer}
 use Rattle.tt_branch.specs.Outcomes.{final_bound}
 use Rattle.tt_branch_split.specs.Choice.{IsNewSplit}
 use Rattle.tt_branch.specs.Proofs.{IsSplitOn}

@@ -4,8 +4,8 @@ use Rattle.std.specs.Prelude.{All}
 use Rattle.std.specs.List.{cons_option}
 use Rattle.std.proofs.lemmas.List.{take_more, reverse-append}
 use Rattle.std.proofs.lemmas.List.Elements.{All-get_or}
-use Rattle.tt_instance_data.specs.Problem.{Problem}
-use Rattle.tt_facts_path.specs.Live.{least}
+use Rattle.tt_instance.specs.Problem.{Problem}
+use Rattle.tt_path.specs.Live.{least}
 use Rattle.tt_proof_read.specs.declared.node.Node.{Node}
 use Rattle.tt_branch.specs.declared.tree_node.TreeNode.{TreeNode}
 use Rattle.tt_branch.specs.declared.links.Link.{Link}

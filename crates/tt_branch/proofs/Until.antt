@@ -1,8 +1,8 @@
 -- The result of a search that nothing ends.
 use Rattle.std.proofs.Common.{ℕ, Bool, List, Option, inl, inr, subst}
-use Rattle.tt_instance_data.specs.Problem.{Problem}
-use Rattle.tt_instance_data.specs.declared.cell.Cell.{Cell}
-use Rattle.tt_leaf_data.specs.declared.leaf.Bound.{Bound}
+use Rattle.tt_instance.specs.Problem.{Problem}
+use Rattle.tt_instance.specs.declared.cell.Cell.{Cell}
+use Rattle.tt_leaf.specs.declared.leaf.Bound.{Bound}
 use Rattle.tt_proof_read.specs.declared.node.Node.{Node}
 use Rattle.tt_branch.specs.Outcomes.{IsOutcome, IsOutcomeUntil}
 

@@ -1,15 +1,15 @@
 -- Paths that leave exactly one timetable.
 use Rattle.std.specs.Prelude.{◌≡◌, List, filter}
 use Rattle.std.specs.List.Sorted.{IsPermutation}
-use Rattle.tt_instance_data.specs.Problem.{Problem}
-use Rattle.tt_instance_data.specs.Cells.{all_cells}
-use Rattle.tt_instance_data.specs.declared.cell.Cell.{Cell}
+use Rattle.tt_instance.specs.Problem.{Problem}
+use Rattle.tt_instance.specs.Cells.{all_cells}
+use Rattle.tt_instance.specs.declared.cell.Cell.{Cell}
 use Rattle.tt_rules.specs.Score.{IsFeasible, cost}
-use Rattle.tt_facts_path.specs.Facts.{Fits}
-use Rattle.tt_facts_path.specs.Live.{is_live}
-use Rattle.tt_facts_path.specs.declared.facts.Fact.{Fact}
+use Rattle.tt_path.specs.Facts.{Fits}
+use Rattle.tt_path.specs.Live.{is_live}
+use Rattle.tt_path.specs.declared.facts.Fact.{Fact}
 use Rattle.tt_leaf_rules.specs.Claims.{total_of}
-use Rattle.tt_leaf.specs.Best.{best_claims}
+use Rattle.tt_leaf_find.specs.Best.{best_claims}
 
 -- The timetable is feasible and fits the path, each other timetable that does has the same entries, and the value of the best claims is its cost.
 pub record IsAlone (p : Problem) (path : List Fact) (t : List Cell) : Type 0 where

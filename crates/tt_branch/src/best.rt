@@ -1,8 +1,8 @@
 //! The best timetable that a search has found.
 
 ghost use Rattle.std.specs.Prelude.{◌≡◌, IfOk, IfSome, OnOk, IsNone, List};
-ghost use Rattle.tt_instance_data.specs.Problem.{Problem};
-ghost use Rattle.tt_instance_data.specs.declared.cell.Cell.{Cell};
+ghost use Rattle.tt_instance.specs.Problem.{Problem};
+ghost use Rattle.tt_instance.specs.declared.cell.Cell.{Cell};
 ghost use Rattle.tt_table.specs.Table.{IsTimetable};
 ghost use Rattle.tt_rules.specs.Score.{IsFeasible};
 ghost use Rattle.tt_search.specs.Improved.{IsNoWorse};
@@ -11,11 +11,11 @@ ghost use Rattle.tt_branch.specs.Inner.BestSoFar.{IsBestSoFar, table_of, IsCoste
 
 use crate::limit::FIRST_STEPS;
 use std::alloc::{AllocError, Global};
-use tt_instance_data::Instance;
-use tt_leaf_data::Bound;
+use tt_instance::Instance;
+use tt_leaf::Bound;
 use tt_rules::score;
 use tt_search::{construct, descend, improve};
-use tt_search_watch::Watch;
+use tt_watch::Watch;
 use tt_table::Timetable;
 
 /// The steps of a turn of the improvement after the descent: the minimum, the maximum, and the steps for each entry in each cell of a room. A turn

@@ -3,7 +3,7 @@
 ghost use Rattle.std.specs.Prelude.{◌≡◌, IfOk};
 
 use std::alloc::{AllocError, Global};
-use tt_leaf_data::{Claim, ClaimList, CourseList, Leaf, PriceList};
+use tt_leaf::{Claim, ClaimList, CourseList, Leaf, PriceList};
 
 fn copy_courses(alloc: Global, courses: &CourseList) -> Result<CourseList, AllocError>
     ensures { IfOk result (λ copy. copy ≡ courses.now) }

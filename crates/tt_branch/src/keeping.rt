@@ -7,11 +7,11 @@ ghost use Rattle.tt_branch.specs.declared.limit.TheConstants.{MAX_TREE};
 use crate::nodes::{Written, write_nodes};
 use crate::search::Search;
 use std::alloc::{AllocError, Global};
-use tt_facts_path::Path;
-use tt_leaf_data::Bound;
+use tt_path::Path;
+use tt_leaf::Bound;
 use tt_proof_read::Node;
-use tt_proof_text::{WriteFault, write_proof};
-use tt_search_watch::Watch;
+use tt_proof_write::{WriteFault, write_proof};
+use tt_watch::Watch;
 
 /// The version of the proofs, which has all claims.
 const VERSION: u8 = 2;

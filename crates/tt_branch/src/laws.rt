@@ -1,10 +1,10 @@
 //! The meaning of a path on which no cell is free.
 
 ghost use Rattle.std.specs.Prelude.{List};
-ghost use Rattle.tt_instance_data.specs.Problem.{Problem};
-ghost use Rattle.tt_instance_data.specs.Limits.{IsInstance};
-ghost use Rattle.tt_facts_path.specs.declared.facts.Fact.{Fact};
-ghost use Rattle.tt_leaf.specs.Pinned.{IsPinnedDown};
+ghost use Rattle.tt_instance.specs.Problem.{Problem};
+ghost use Rattle.tt_instance.specs.Limits.{IsInstance};
+ghost use Rattle.tt_path.specs.declared.facts.Fact.{Fact};
+ghost use Rattle.tt_leaf_find.specs.Pinned.{IsPinnedDown};
 ghost use Rattle.tt_branch.specs.Alone.{LeavesOne};
 ghost use Rattle.tt_branch.specs.Proofs.{IsUnclosed};
 

@@ -1,13 +1,13 @@
 //! The live cells of a path, as a timetable.
 
 ghost use Rattle.std.specs.Prelude.{◌≡◌, ◌<◌, ◌≤◌, [], ◌∷◌, ◌++◌, length, flat_map, filter, IfOk, OnOk};
-ghost use Rattle.tt_instance_data.specs.Cells.{InRange, all_courses, all_cells};
+ghost use Rattle.tt_instance.specs.Cells.{InRange, all_courses, all_cells};
 ghost use Rattle.tt_table.specs.declared.table.TheConstants.{MAX_ENTRIES};
-ghost use Rattle.tt_facts_path.specs.Live.{is_live};
+ghost use Rattle.tt_path.specs.Live.{is_live};
 ghost use Rattle.tt_branch.specs.Inner.Steps.{cells_on, cells_in, cells_of};
 
 use std::alloc::{AllocError, Global};
-use tt_facts_path::{Cell, Path};
+use tt_path::{Cell, Path};
 use tt_table::Timetable;
 
 /// Adds a cell if it is live.

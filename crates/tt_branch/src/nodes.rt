@@ -1,7 +1,7 @@
 //! The proof made of a tree.
 
 ghost use Rattle.std.specs.Prelude.{◌≡◌, ◌≤◌, length, true, IfOk, All, IsTrue};
-ghost use Rattle.tt_facts_path.specs.Live.{least};
+ghost use Rattle.tt_path.specs.Live.{least};
 ghost use Rattle.tt_proof_check.specs.Nodes.{IsNodeOf};
 ghost use Rattle.tt_branch.specs.Inner.Growing.{node_at, worth_at, nodes_of, worths_of};
 ghost use Rattle.tt_branch.specs.Inner.Links.{path_at, AreLinks};
@@ -14,9 +14,9 @@ use crate::links::Link;
 use crate::tree_node::{NodeState, TreeNode};
 use crate::visit::go_to;
 use std::alloc::{AllocError, Global};
-use tt_facts_path::Path;
-use tt_leaf::best_claims;
-use tt_leaf_data::Leaf;
+use tt_path::Path;
+use tt_leaf_find::best_claims;
+use tt_leaf::Leaf;
 use tt_leaf_rules::leaf_value;
 use tt_proof_read::Node;
 

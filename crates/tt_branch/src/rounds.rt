@@ -12,8 +12,8 @@ use crate::tree_node::NodeState;
 use crate::visit::open_at;
 use crate::watching::show;
 use std::alloc::{AllocError, Global};
-use tt_facts_path::{Path, Pattern};
-use tt_search_watch::Watch;
+use tt_path::{Path, Pattern};
+use tt_watch::Watch;
 
 /// Splits a node if it was opened; returns the place of the node to open next: of two children, the one expected to have the lower value.
 fn make_wait(search: &mut Search, place: usize) -> Result<usize, AllocError>

@@ -2,7 +2,7 @@
 
 ghost use Rattle.std.specs.Prelude.{◌≡◌, ◌<◌, ◌+◌, [], ◌∷◌, ◌++◌, length, IfOk, OnOk, IfSome, IsNone, true, false, slice_set, vec_len};
 ghost use Rattle.std.specs.List.{list_any};
-ghost use Rattle.tt_instance_data.specs.Problem.{Problem};
+ghost use Rattle.tt_instance.specs.Problem.{Problem};
 ghost use Rattle.tt_branch.specs.Inner.Growing.{IsOpenAt, HasMark, is_open, opened_in};
 ghost use Rattle.tt_branch.specs.Inner.BestSoFar.{IsBestSoFar};
 ghost use Rattle.tt_branch.specs.Inner.Links.{link_of};
@@ -12,7 +12,7 @@ use crate::best::Best;
 use crate::links::Link;
 use crate::tree_node::{ChildGains, NodeState, TreeNode};
 use std::alloc::{AllocError, Global};
-use tt_facts_path::{Fact, Pattern};
+use tt_path::{Fact, Pattern};
 
 /// A tree that grows, in preorder, the links to the facts of its nodes, and the best timetable so far.
 #[derive(Drop)]

@@ -1,7 +1,7 @@
 //! The search for a best timetable and a proof of a lower bound.
 
 ghost use Rattle.std.specs.Prelude.{◌≡◌, ◌≤◌, IfOk};
-ghost use Rattle.tt_instance_data.specs.Problem.{Problem};
+ghost use Rattle.tt_instance.specs.Problem.{Problem};
 ghost use Rattle.tt_branch.specs.Inner.BestSoFar.{IsBestSoFar, table_of};
 ghost use Rattle.tt_branch.specs.Outcomes.{IsOutcome, IsOutcomeUntil, BeginsWell, final_bound};
 ghost use Rattle.tt_branch.specs.Proofs.{shown_bound};
@@ -14,12 +14,12 @@ use crate::rounds::{Ending, grow};
 use crate::search::Search;
 use crate::visit::{best_worth, open_at};
 use std::alloc::{AllocError, Global};
-use tt_facts::TrailPath;
-use tt_facts_path::Path;
-use tt_instance_data::Instance;
-use tt_leaf_data::Bound;
+use tt_path_trail::TrailPath;
+use tt_path::Path;
+use tt_instance::Instance;
+use tt_leaf::Bound;
 use tt_proof_read::Node;
-use tt_search_watch::Watch;
+use tt_watch::Watch;
 use tt_table::Timetable;
 
 /// The result of a search.

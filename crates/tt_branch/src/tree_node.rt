@@ -3,8 +3,8 @@
 ghost use Rattle.std.specs.Prelude.{◌≡◌, true, IfSome, IsNone};
 ghost use Rattle.tt_branch.specs.Inner.Growing.{is_open};
 
-use tt_facts_path::Pattern;
-use tt_leaf_data::Leaf;
+use tt_path::Pattern;
+use tt_leaf::Leaf;
 
 /// How far a node has been searched.
 #[derive(Drop)]

@@ -1,10 +1,10 @@
 //! Opening nodes.
 
 ghost use Rattle.std.specs.Prelude.{◌≡◌, ◌<◌, ◌≤◌, ◌+◌, length, true, IfOk, OnOk};
-ghost use Rattle.tt_instance_data.specs.Problem.{Problem};
-ghost use Rattle.tt_facts_path.specs.declared.path.TheConstants.{MAX_FACTS};
-ghost use Rattle.tt_leaf.specs.Found.{ArePatterns};
-ghost use Rattle.tt_leaf.specs.Pinned.{IsPinnedDown, IsOpen};
+ghost use Rattle.tt_instance.specs.Problem.{Problem};
+ghost use Rattle.tt_path.specs.declared.path.TheConstants.{MAX_FACTS};
+ghost use Rattle.tt_leaf_find.specs.Found.{ArePatterns};
+ghost use Rattle.tt_leaf_find.specs.Pinned.{IsPinnedDown, IsOpen};
 ghost use Rattle.tt_branch.specs.Inner.Growing.{IsKnown, IsSingle, HasMark, was_opened, opened_in};
 ghost use Rattle.tt_branch.specs.Inner.BestSoFar.{IsBestSoFar, table_of, Advances};
 ghost use Rattle.tt_branch.specs.Inner.Links.{path_at, AreLinks};
@@ -20,9 +20,9 @@ use crate::search::{Search, put};
 use crate::tree_node::{ChildGains, NodeState, TreeNode};
 use std::alloc::{AllocError, Global};
 use tt_branch_split::choose_split;
-use tt_facts_path::{Fact, Path, PathFault, Pattern};
-use tt_leaf::{best_claims, find_leaf};
-use tt_leaf_data::Leaf;
+use tt_path::{Fact, Path, PathFault, Pattern};
+use tt_leaf_find::{best_claims, find_leaf};
+use tt_leaf::Leaf;
 use tt_leaf_rules::leaf_value;
 use tt_rules::score;
 

@@ -1,7 +1,7 @@
 //! Reporting a search to a watch.
 
 use crate::search::Search;
-use tt_search_watch::{Pair, Progress, Unit, Watch};
+use tt_watch::{Pair, Progress, Unit, Watch};
 use tt_table::Entry;
 
 /// Reports a search that has opened this many nodes, with the place of the open node of the least value: that value is a lower bound for every

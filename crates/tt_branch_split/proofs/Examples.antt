@@ -1,8 +1,8 @@
 -- A split on a small instance, checked by the definitions.
 use Rattle.std.proofs.Common.{[], refl, lit≤}
-use Rattle.tt_instance_data.proofs.Examples.{at, gap}
-use Rattle.tt_facts_path.specs.declared.facts.Who.TheVariants.{Course}
-use Rattle.tt_facts_path.proofs.Examples.{first_day}
+use Rattle.tt_instance.proofs.Examples.{at, gap}
+use Rattle.tt_path.specs.declared.facts.Who.TheVariants.{Course}
+use Rattle.tt_path.proofs.Examples.{first_day}
 use Rattle.tt_branch_split.specs.Choice.{Aims}
 
 -- a in the first period aims at its cell in this period

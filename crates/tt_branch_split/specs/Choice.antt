@@ -1,13 +1,13 @@
 -- Patterns that may split a node.
 use Rattle.std.specs.Prelude.{◌≡◌, true, false, List}
-use Rattle.tt_instance_data.specs.Problem.{Problem}
-use Rattle.tt_instance_data.specs.Cells.{InRange}
-use Rattle.tt_instance_data.specs.declared.cell.Cell.{Cell}
-use Rattle.tt_facts_path.specs.Facts.{IsPattern, matches, has_fact}
-use Rattle.tt_facts_path.specs.Live.{is_live}
-use Rattle.tt_facts_path.specs.declared.facts.Pattern.{Pattern}
-use Rattle.tt_facts_path.specs.declared.facts.Fact.{Fact}
-use Rattle.tt_leaf.specs.Pinned.{own_pattern}
+use Rattle.tt_instance.specs.Problem.{Problem}
+use Rattle.tt_instance.specs.Cells.{InRange}
+use Rattle.tt_instance.specs.declared.cell.Cell.{Cell}
+use Rattle.tt_path.specs.Facts.{IsPattern, matches, has_fact}
+use Rattle.tt_path.specs.Live.{is_live}
+use Rattle.tt_path.specs.declared.facts.Pattern.{Pattern}
+use Rattle.tt_path.specs.declared.facts.Fact.{Fact}
+use Rattle.tt_leaf_find.specs.Pinned.{own_pattern}
 
 -- whether the cell is live, and its own pattern is not on the path as yes
 pub record IsFree (p : Problem) (path : List Fact) (x : Cell) : Type 0 where

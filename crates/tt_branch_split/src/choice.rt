@@ -1,8 +1,8 @@
 //! The choice of a pattern to split a node by. Nothing is proved about the choice except that it aims at a free cell.
 
 ghost use Rattle.std.specs.Prelude.{◌≡◌, ◌<◌, length, IfOk, IfSome, IsNone};
-ghost use Rattle.tt_instance_data.specs.Cells.{InRange};
-ghost use Rattle.tt_leaf.specs.Pinned.{IsPinnedDown};
+ghost use Rattle.tt_instance.specs.Cells.{InRange};
+ghost use Rattle.tt_leaf_find.specs.Pinned.{IsPinnedDown};
 ghost use Rattle.tt_branch_split.specs.Choice.{IsFree, IsNewSplit};
 
 use crate::free::{find_free, is_free, own_pattern};
@@ -10,8 +10,8 @@ use crate::leeway::Freedom;
 use crate::prospects::Prospects;
 use crate::strong::best_candidate;
 use std::alloc::{AllocError, Global};
-use tt_facts_path::{Cell, Path, Pattern, Who};
-use tt_instance_data::Instance;
+use tt_path::{Cell, Path, Pattern, Who};
+use tt_instance::Instance;
 
 /// The maximum number of ways to choose the periods of all courses, as a logarithm in sixteenths, for fixing one curriculum
 /// after another: then a search below is likely to end.

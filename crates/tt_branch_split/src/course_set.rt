@@ -1,7 +1,7 @@
 //! Sets of courses as bits. Nothing is proved about them.
 
 use std::alloc::{AllocError, Global};
-use tt_instance_data::Instance;
+use tt_instance::Instance;
 
 /// The number of courses in one word.
 const WORD: u32 = 64;

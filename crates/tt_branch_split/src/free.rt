@@ -1,11 +1,11 @@
 //! Cells that are free: live, and without their own yes-fact on the path.
 
 ghost use Rattle.std.specs.Prelude.{◌≡◌, ℕ, ◌<◌, length, true, false, IsTrue, ◌↔◌, IfSome, IsNone};
-ghost use Rattle.tt_instance_data.specs.Cells.{InRange, cell, slot};
-ghost use Rattle.tt_leaf.specs.Pinned.{own_pattern, IsPinnedDown};
+ghost use Rattle.tt_instance.specs.Cells.{InRange, cell, slot};
+ghost use Rattle.tt_leaf_find.specs.Pinned.{own_pattern, IsPinnedDown};
 ghost use Rattle.tt_branch_split.specs.Choice.{IsFree};
 
-use tt_facts_path::{Cell, Path, Pattern, Who};
+use tt_path::{Cell, Path, Pattern, Who};
 
 /// Returns the pattern that matches only a cell.
 pub fn own_pattern(cell: Cell) -> Pattern

@@ -4,7 +4,7 @@ ghost use Rattle.std.specs.Prelude.{◌<◌, length};
 
 use crate::prospects::{DayPeriods, Prospects, bit_of};
 use std::alloc::{AllocError, Global};
-use tt_instance_data::Instance;
+use tt_instance::Instance;
 
 /// The curricula of a path, period by period.
 #[derive(Drop)]

@@ -6,7 +6,7 @@ use crate::course_set::{CourseSet, bit_in, first_course, rivals_in, words_for};
 use crate::neighbours::Neighbours;
 use crate::prospects::{Prospects, bit_of};
 use std::alloc::{AllocError, Global};
-use tt_instance_data::{ISOLATED_COST, Instance, Slot};
+use tt_instance::{ISOLATED_COST, Instance, Slot};
 
 /// The number of parts of a cost point in which a gain is counted: a sixteenth of a bit of the ways to choose counts 16 parts.
 const POINT: u64 = 12_288;

@@ -4,20 +4,20 @@ use Rattle.std.proofs.Common.{◌≡◌, ℕ, ◌+◌, ◌-◌, ◌*◌, ◌<◌
 use Rattle.std.specs.Prelude.{Contains, ◌==◌, nat_lt, sum_by, count_by, flat_map}
 use Rattle.std.specs.List.{list_any, AllByRecursion}
 use Rattle.std.proofs.lemmas.Bool.{and_parts, and_from, both_ways, ltb-true}
-use Rattle.tt_lists.specs.Words.{range_below}
-use Rattle.tt_lists.proofs.Sums.{one_if, cond-le, sum_by-le, sum_by-same, sum_by-of_flat_map, list_any-of_flat_map, each, each_weaker, once_at_most}
-use Rattle.tt_lists.proofs.Members.{at_member, any_member, member_from_any, none_counted}
-use Rattle.tt_lists.proofs.Numbers.{any_below, count_below}
-use Rattle.tt_lists.proofs.Tested.{each_flat}
-use Rattle.tt_lists.proofs.Tests.{sum_by-same_below}
-use Rattle.tt_lists.proofs.Truth.{same_truth}
-use Rattle.tt_instance_data.specs.Problem.{Problem}
-use Rattle.tt_instance_data.specs.Cells.{slot, slot_of, cell, all_slots, all_courses, is_of, is_at}
-use Rattle.tt_instance_data.specs.Courses.{lectures, members, conflict, unavailable}
-use Rattle.tt_instance_data.specs.declared.cell.Cell.{Cell}
-use Rattle.tt_instance_data.specs.declared.cell.Slot.{Slot}
-use Rattle.tt_instance_data.proofs.Cells.{IsSlot, each_slot, at_itself}
-use Rattle.tt_instance_data.proofs.Places.{any_slot, slots_summed}
+use Rattle.tt_list_laws.specs.Words.{range_below}
+use Rattle.tt_list_laws.proofs.Sums.{one_if, cond-le, sum_by-le, sum_by-same, sum_by-of_flat_map, list_any-of_flat_map, each, each_weaker, once_at_most}
+use Rattle.tt_list_laws.proofs.Members.{at_member, any_member, member_from_any, none_counted}
+use Rattle.tt_list_laws.proofs.Numbers.{any_below, count_below}
+use Rattle.tt_list_laws.proofs.Tested.{each_flat}
+use Rattle.tt_list_laws.proofs.Tests.{sum_by-same_below}
+use Rattle.tt_list_laws.proofs.Truth.{same_truth}
+use Rattle.tt_instance.specs.Problem.{Problem}
+use Rattle.tt_instance.specs.Cells.{slot, slot_of, cell, all_slots, all_courses, is_of, is_at}
+use Rattle.tt_instance.specs.Courses.{lectures, members, conflict, unavailable}
+use Rattle.tt_instance.specs.declared.cell.Cell.{Cell}
+use Rattle.tt_instance.specs.declared.cell.Slot.{Slot}
+use Rattle.tt_instance.proofs.Cells.{IsSlot, each_slot, at_itself}
+use Rattle.tt_instance.proofs.Places.{any_slot, slots_summed}
 use Rattle.tt_rules.specs.Hard.{entries_of, periods_of, lectures_off, collide, conflicts_count, availability_count}
 use Rattle.tt_rules.proofs.Feasible.{periods-le_entries}
 use Rattle.tt_groups.specs.Group.{Group, group_cost, concerns, entries_for, IsRelaxedTimetable}
@@ -25,7 +25,7 @@ use Rattle.tt_groups.specs.Plans.{Day, Week, week_of, lectures_on, is_taught, is
 use Rattle.tt_groups.proofs.Exact.{plan-is_cost}
 use Rattle.tt_groups.proofs.Lists.{sum_by-same_member, member_before}
 use Rattle.tt_groups.proofs.Projection.{course_own, member_own, standing}
-use Rattle.tt_lists.proofs.Counting.{pairs_none}
+use Rattle.tt_list_laws.proofs.Counting.{pairs_none}
 
 -- ---- lists
 

@@ -4,18 +4,18 @@ use Rattle.std.proofs.Common.{◌≡◌, ℕ, ◌+◌, ◌-◌, ◌*◌, ◌≤�
 use Rattle.std.specs.Prelude.{Contains, ◌==◌, nat_lt, sum_by, count_by}
 use Rattle.std.specs.List.{list_any, AllByRecursion}
 use Rattle.std.proofs.lemmas.Bool.{and_parts, and_from, both_ways, cases_Bool, cases_lt, not-true, not_from_false, false_from_ne_true, or_cases, or_left, or_right, ltb-true}
-use Rattle.tt_lists.specs.Words.{range_below}
-use Rattle.tt_lists.proofs.Sums.{one_if, one_if_false, one_if-le, cond-le, sum_by-le, sum_by-same, sum_by-swap, sum_by-times, sum_by-tight, one_if_any, any_if_count, each, each_weaker, spread_up, once_at_least}
-use Rattle.tt_lists.proofs.Members.{each_member, member_from_any, any_member, at_member}
-use Rattle.tt_lists.proofs.Counting.{counted_once}
-use Rattle.tt_instance_data.specs.Problem.{Problem}
-use Rattle.tt_instance_data.specs.Cells.{slot, slot_of, next_to, all_slots, all_days, is_of, is_at}
-use Rattle.tt_instance_data.specs.Courses.{in_curriculum, conflict}
-use Rattle.tt_instance_data.specs.declared.cell.Cell.{Cell}
-use Rattle.tt_instance_data.specs.declared.cell.Slot.{Slot}
-use Rattle.tt_instance_data.proofs.Cells.{is_at-slot}
-use Rattle.tt_instance_data.proofs.Fellows.{fellows}
-use Rattle.tt_instance_data.proofs.Places.{any_slot, slots_summed}
+use Rattle.tt_list_laws.specs.Words.{range_below}
+use Rattle.tt_list_laws.proofs.Sums.{one_if, one_if_false, one_if-le, cond-le, sum_by-le, sum_by-same, sum_by-swap, sum_by-times, sum_by-tight, one_if_any, any_if_count, each, each_weaker, spread_up, once_at_least}
+use Rattle.tt_list_laws.proofs.Members.{each_member, member_from_any, any_member, at_member}
+use Rattle.tt_list_laws.proofs.Counting.{counted_once}
+use Rattle.tt_instance.specs.Problem.{Problem}
+use Rattle.tt_instance.specs.Cells.{slot, slot_of, next_to, all_slots, all_days, is_of, is_at}
+use Rattle.tt_instance.specs.Courses.{in_curriculum, conflict}
+use Rattle.tt_instance.specs.declared.cell.Cell.{Cell}
+use Rattle.tt_instance.specs.declared.cell.Slot.{Slot}
+use Rattle.tt_instance.proofs.Cells.{is_at-slot}
+use Rattle.tt_instance.proofs.Fellows.{fellows}
+use Rattle.tt_instance.proofs.Places.{any_slot, slots_summed}
 use Rattle.tt_rules.specs.Soft.{is_isolated, compactness_cost}
 use Rattle.tt_rules.proofs.Feasible.{in_periods}
 use Rattle.tt_groups.specs.Group.{Group, group_cost, concerns, IsRelaxedTimetable}

@@ -1,7 +1,7 @@
 -- Groups of a small instance, with values computed by the definitions.
 use Rattle.std.proofs.Common.{◌≡◌, ℕ, ◌+◌, true, false, List, [], ◌∷◌, codes, refl}
-use Rattle.tt_instance_data.specs.Problem.{Course, Problem}
-use Rattle.tt_instance_data.specs.declared.cell.Cell.{Cell}
+use Rattle.tt_instance.specs.Problem.{Course, Problem}
+use Rattle.tt_instance.specs.declared.cell.Cell.{Cell}
 use Rattle.tt_rules.specs.Hard.{lectures_off, conflicts_count, availability_count}
 use Rattle.tt_groups.specs.Group.{Group, group_cost, concerns, entries_for}
 use Rattle.tt_groups.specs.Plans.{week_of, is_single, further, base_cost, spent}

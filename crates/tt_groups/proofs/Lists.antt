@@ -4,10 +4,10 @@ use Rattle.std.specs.Prelude.{◌⊎◌, Contains, filter, sum_by, slice_index}
 use Rattle.std.proofs.lemmas.Bool.{both_ways}
 use Rattle.std.proofs.lemmas.List.Elements.{Contains-append_right}
 use Rattle.std.proofs.lemmas.List.Sums.{sum_by-cons}
-use Rattle.tt_lists.specs.Words.{range_below}
-use Rattle.tt_lists.proofs.Members.{each_member, member_cases}
-use Rattle.tt_lists.proofs.Sums.{sum_by-le, sum_by-same}
-use Rattle.tt_lists.proofs.Tests.{sum_further}
+use Rattle.tt_list_laws.specs.Words.{range_below}
+use Rattle.tt_list_laws.proofs.Members.{each_member, member_cases}
+use Rattle.tt_list_laws.proofs.Sums.{sum_by-le, sum_by-same}
+use Rattle.tt_list_laws.proofs.Tests.{sum_further}
 
 -- ---- sums
 

@@ -2,9 +2,9 @@
 use Rattle.std.proofs.Common.{◌≡◌, ℕ, zero, suc, ◌+◌, ◌-◌, ◌*◌, ◌≤◌, ◌<◌, refl, subst, arith, inl, inr}
 use Rattle.std.specs.Prelude.{min}
 use Rattle.std.proofs.lemmas.Bool.{cases_lt}
-use Rattle.tt_lists.proofs.Sums.{sum_by-plus, sum_by-same}
-use Rattle.tt_lists.proofs.Numbers.{sum_more}
-use Rattle.tt_instance_data.specs.Problem.{Problem}
+use Rattle.tt_list_laws.proofs.Sums.{sum_by-plus, sum_by-same}
+use Rattle.tt_list_laws.proofs.Numbers.{sum_more}
+use Rattle.tt_instance.specs.Problem.{Problem}
 use Rattle.tt_groups.specs.Group.{Group, IsGroupBound}
 use Rattle.tt_groups.specs.Plans.{Week, week_of, lectures_on, day_cost, IsPlan, used, further, slack, capped, base_cost, spent}
 use Rattle.tt_groups.specs.Tables.{Vector, Fits, IsDayTable, IsWeekTable, overrun, Extends, Starts, Reaches}

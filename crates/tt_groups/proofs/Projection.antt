@@ -3,19 +3,19 @@ use Rattle.std.proofs.Common.{◌≡◌, ℕ, ◌+◌, ◌-◌, ◌*◌, ◌≤�
 use Rattle.std.specs.Prelude.{Contains, ◌==◌, nat_lt, sum_by, count_by}
 use Rattle.std.specs.List.{list_any}
 use Rattle.std.proofs.lemmas.Bool.{and_parts, and_from, both_ways, not-true, not_from_false, false_from_ne_true, or_cases, or_left, or_right}
-use Rattle.tt_lists.specs.Words.{has_number, range_below}
-use Rattle.tt_lists.proofs.Sums.{one_if, cond-le, sum_by-le, sum_by-plus, sum_by-same, sum_by-swap, sum_by-times, one_if_any, each, spread_down, once_at_most}
-use Rattle.tt_lists.proofs.Members.{each_member, member_from_any, any_member}
-use Rattle.tt_lists.proofs.Numbers.{any_below}
-use Rattle.tt_lists.proofs.Tests.{first_and_others}
-use Rattle.tt_lists.proofs.Truth.{same_truth}
-use Rattle.tt_instance_data.specs.Problem.{Problem}
-use Rattle.tt_instance_data.specs.Cells.{slot, slot_of, next_to, all_slots, all_days, is_of, is_at, is_on}
-use Rattle.tt_instance_data.specs.Courses.{lectures, min_days, members, in_curriculum, conflict, unavailable}
-use Rattle.tt_instance_data.specs.declared.cell.Cell.{Cell}
-use Rattle.tt_instance_data.specs.declared.cell.Slot.{Slot}
-use Rattle.tt_instance_data.proofs.Cells.{is_at-slot, at_itself}
-use Rattle.tt_instance_data.proofs.Places.{count_slots, slots_summed}
+use Rattle.tt_list_laws.specs.Words.{has_number, range_below}
+use Rattle.tt_list_laws.proofs.Sums.{one_if, cond-le, sum_by-le, sum_by-plus, sum_by-same, sum_by-swap, sum_by-times, one_if_any, each, spread_down, once_at_most}
+use Rattle.tt_list_laws.proofs.Members.{each_member, member_from_any, any_member}
+use Rattle.tt_list_laws.proofs.Numbers.{any_below}
+use Rattle.tt_list_laws.proofs.Tests.{first_and_others}
+use Rattle.tt_list_laws.proofs.Truth.{same_truth}
+use Rattle.tt_instance.specs.Problem.{Problem}
+use Rattle.tt_instance.specs.Cells.{slot, slot_of, next_to, all_slots, all_days, is_of, is_at, is_on}
+use Rattle.tt_instance.specs.Courses.{lectures, min_days, members, in_curriculum, conflict, unavailable}
+use Rattle.tt_instance.specs.declared.cell.Cell.{Cell}
+use Rattle.tt_instance.specs.declared.cell.Slot.{Slot}
+use Rattle.tt_instance.proofs.Cells.{is_at-slot, at_itself}
+use Rattle.tt_instance.proofs.Places.{count_slots, slots_summed}
 use Rattle.tt_rules.specs.Soft.{days_of, days_cost, is_isolated, compactness_cost}
 use Rattle.tt_groups.specs.Group.{Group, group_cost, concerns, IsRelaxedTimetable}
 use Rattle.tt_groups.specs.Plans.{week_of, lectures_on, is_taught, is_single, day_cost, IsPlan, further, slack, base_cost, spent}

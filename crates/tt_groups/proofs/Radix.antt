@@ -4,7 +4,7 @@ use Rattle.std.specs.Prelude.{slice_index, sum_by}
 use Rattle.std.specs.List.{AllZip}
 use Rattle.std.proofs.lemmas.Nat.{div-mul-add, mod-mul-add}
 use Rattle.std.proofs.lemmas.List.{length-map}
-use Rattle.tt_lists.specs.Words.{range_below}
+use Rattle.tt_list_laws.specs.Words.{range_below}
 use Rattle.tt_groups.specs.Places.{weights_from, places, place_of}
 use Rattle.tt_groups.proofs.Lists.{sum_head}
 

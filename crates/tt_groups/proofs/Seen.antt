@@ -2,11 +2,11 @@
 use Rattle.std.proofs.Common.{ℕ, ◌≤◌, List, arith}
 use Rattle.std.specs.Prelude.{Contains}
 use Rattle.std.proofs.lemmas.Bool.{both_ways}
-use Rattle.tt_lists.proofs.Counting.{pairs_none}
-use Rattle.tt_lists.proofs.Members.{none_counted}
-use Rattle.tt_instance_data.specs.Problem.{Problem}
-use Rattle.tt_instance_data.specs.Courses.{unavailable}
-use Rattle.tt_instance_data.specs.declared.cell.Cell.{Cell}
+use Rattle.tt_list_laws.proofs.Counting.{pairs_none}
+use Rattle.tt_list_laws.proofs.Members.{none_counted}
+use Rattle.tt_instance.specs.Problem.{Problem}
+use Rattle.tt_instance.specs.Courses.{unavailable}
+use Rattle.tt_instance.specs.declared.cell.Cell.{Cell}
 use Rattle.tt_rules.specs.Hard.{collide}
 use Rattle.tt_rules.specs.Score.{IsFeasible}
 use Rattle.tt_rules.proofs.Feasible.{lectures_met, in_distinct_periods, no_collision, available}

@@ -3,15 +3,15 @@ use Rattle.std.proofs.Common.{◌≡◌, ℕ, ◌≤◌, true, false, ◌&&◌, 
 use Rattle.std.specs.Prelude.{Contains, sum_by, count_by}
 use Rattle.std.specs.List.{list_any}
 use Rattle.std.proofs.lemmas.Bool.{and_parts}
-use Rattle.tt_lists.proofs.Sums.{one_if, one_if_true, sum_by-le, sum_by-swap, sum_by-tight, one_if_any, any_if_count, each, once_at_most}
-use Rattle.tt_lists.proofs.Members.{at_member, member_from_any, none_passes, no_two}
-use Rattle.tt_instance_data.specs.Problem.{Problem}
-use Rattle.tt_instance_data.specs.Cells.{slot_of, all_slots, is_of, is_at}
-use Rattle.tt_instance_data.specs.Courses.{lectures, unavailable}
-use Rattle.tt_instance_data.specs.declared.cell.Cell.{Cell}
-use Rattle.tt_instance_data.specs.declared.cell.Slot.{Slot}
-use Rattle.tt_instance_data.proofs.Cells.{IsSlot, each_slot, is_at-slot}
-use Rattle.tt_instance_data.proofs.Places.{count_slots}
+use Rattle.tt_list_laws.proofs.Sums.{one_if, one_if_true, sum_by-le, sum_by-swap, sum_by-tight, one_if_any, any_if_count, each, once_at_most}
+use Rattle.tt_list_laws.proofs.Members.{at_member, member_from_any, none_passes, no_two}
+use Rattle.tt_instance.specs.Problem.{Problem}
+use Rattle.tt_instance.specs.Cells.{slot_of, all_slots, is_of, is_at}
+use Rattle.tt_instance.specs.Courses.{lectures, unavailable}
+use Rattle.tt_instance.specs.declared.cell.Cell.{Cell}
+use Rattle.tt_instance.specs.declared.cell.Slot.{Slot}
+use Rattle.tt_instance.proofs.Cells.{IsSlot, each_slot, is_at-slot}
+use Rattle.tt_instance.proofs.Places.{count_slots}
 use Rattle.tt_rules.specs.Hard.{entries_of, periods_of, collide}
 use Rattle.tt_rules.proofs.Feasible.{periods-le_entries, collide-turn, collide-itself}
 use Rattle.tt_groups.specs.Group.{Group, concerns, entries_for, IsRelaxedTimetable}

@@ -2,10 +2,10 @@
 -- Timetabling Competition (ITC-2007), track 3, as the technical report of Di Gaspero, McCollum and Schaerf defines them.
 use Rattle.std.specs.Prelude.{◌≡◌, ℕ, ◌+◌, ◌≤◌, Bool, true, ◌||◌, List, filter, sum_by}
 use Rattle.std.specs.List.{list_any}
-use Rattle.tt_lists.specs.Words.{has_number}
-use Rattle.tt_instance_data.specs.Problem.{Problem}
-use Rattle.tt_instance_data.specs.Courses.{in_curriculum}
-use Rattle.tt_instance_data.specs.declared.cell.Cell.{Cell}
+use Rattle.tt_list_laws.specs.Words.{has_number}
+use Rattle.tt_instance.specs.Problem.{Problem}
+use Rattle.tt_instance.specs.Courses.{in_curriculum}
+use Rattle.tt_instance.specs.declared.cell.Cell.{Cell}
 use Rattle.tt_rules.specs.Hard.{lectures_off, conflicts_count, availability_count}
 use Rattle.tt_rules.specs.Soft.{days_cost, compactness_cost}
 

@@ -1,6 +1,6 @@
 -- The table of a day as a list of entries; cs are the courses that the group concerns.
 use Rattle.std.specs.Prelude.{◌≡◌, ℕ, ◌+◌, ◌<◌, ◌≤◌, List, length, true, Contains, slice_index}
-use Rattle.tt_instance_data.specs.Problem.{Problem}
+use Rattle.tt_instance.specs.Problem.{Problem}
 use Rattle.tt_groups.specs.Group.{Group, concerns}
 use Rattle.tt_groups.specs.Places.{group_amounts}
 use Rattle.tt_groups.specs.Plans.{Day, lectures_on, day_cost, IsDay}

@@ -1,7 +1,7 @@
 -- Places of a table of the week: numbers written with digits of several sizes, the least significant first.
 use Rattle.std.specs.Prelude.{ℕ, ◌+◌, ◌-◌, ◌*◌, List, [], ◌∷◌, ◌++◌, map}
-use Rattle.tt_instance_data.specs.Problem.{Problem}
-use Rattle.tt_instance_data.specs.Courses.{lectures}
+use Rattle.tt_instance.specs.Problem.{Problem}
+use Rattle.tt_instance.specs.Courses.{lectures}
 use Rattle.tt_groups.specs.Group.{Group}
 use Rattle.tt_groups.specs.Plans.{slack}
 

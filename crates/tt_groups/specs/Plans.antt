@@ -1,12 +1,12 @@
 -- A week as the courses that each period has, and its cost for a group, day by day.
 use Rattle.std.specs.Prelude.{◌≡◌, ℕ, ◌+◌, ◌-◌, ◌*◌, ◌<◌, min, nat_lt, Bool, true, false, not, ◌&&◌, List, sum_by, count_by}
 use Rattle.std.specs.List.{list_any}
-use Rattle.tt_lists.specs.Words.{range_below}
-use Rattle.tt_instance_data.specs.declared.limit.TheConstants.{ISOLATED_COST, MISSING_DAY_COST}
-use Rattle.tt_instance_data.specs.Problem.{Problem}
-use Rattle.tt_instance_data.specs.Cells.{slot, all_days, is_of, is_at}
-use Rattle.tt_instance_data.specs.Courses.{lectures, min_days, members, conflict, unavailable}
-use Rattle.tt_instance_data.specs.declared.cell.Cell.{Cell}
+use Rattle.tt_list_laws.specs.Words.{range_below}
+use Rattle.tt_instance.specs.declared.limit.TheConstants.{ISOLATED_COST, MISSING_DAY_COST}
+use Rattle.tt_instance.specs.Problem.{Problem}
+use Rattle.tt_instance.specs.Cells.{slot, all_days, is_of, is_at}
+use Rattle.tt_instance.specs.Courses.{lectures, min_days, members, conflict, unavailable}
+use Rattle.tt_instance.specs.declared.cell.Cell.{Cell}
 use Rattle.tt_groups.specs.Group.{Group, concerns}
 
 -- A day says whether a period has a course: first the period, then the course.

@@ -1,9 +1,9 @@
 -- Tables of a group: a lower bound of a day's cost by the lectures of each course on it, and a lower bound of the first days' cost by the
 -- lectures and the further lectures on them. No entry is above the truth; an entry below it only makes the bound weaker.
 use Rattle.std.specs.Prelude.{◌≡◌, ℕ, ◌+◌, ◌-◌, ◌*◌, ◌<◌, ◌≤◌, min, true, sum_by}
-use Rattle.tt_instance_data.specs.declared.limit.TheConstants.{MISSING_DAY_COST}
-use Rattle.tt_instance_data.specs.Problem.{Problem}
-use Rattle.tt_instance_data.specs.Courses.{lectures}
+use Rattle.tt_instance.specs.declared.limit.TheConstants.{MISSING_DAY_COST}
+use Rattle.tt_instance.specs.Problem.{Problem}
+use Rattle.tt_instance.specs.Courses.{lectures}
 use Rattle.tt_groups.specs.Group.{Group, concerns}
 use Rattle.tt_groups.specs.Plans.{Day, Week, lectures_on, day_cost, IsDay, IsPlan, used, slack, capped, spent}
 

@@ -1,9 +1,9 @@
 //! The meaning of bounds of groups.
 
 ghost use Rattle.std.specs.Prelude.{◌≡◌, ℕ, ◌+◌, ◌<◌, ◌≤◌, List, length, true};
-ghost use Rattle.tt_instance_data.specs.Courses.{lectures, min_days};
-ghost use Rattle.tt_instance_data.specs.Problem.{Problem};
-ghost use Rattle.tt_instance_data.specs.declared.cell.Cell.{Cell};
+ghost use Rattle.tt_instance.specs.Courses.{lectures, min_days};
+ghost use Rattle.tt_instance.specs.Problem.{Problem};
+ghost use Rattle.tt_instance.specs.declared.cell.Cell.{Cell};
 ghost use Rattle.tt_rules.specs.Score.{IsFeasible};
 ghost use Rattle.tt_groups.specs.Group.{Group, group_cost, concerns, IsRelaxedTimetable, IsGroupBound};
 ghost use Rattle.tt_groups.specs.Plans.{Week, week_of, IsPlan, base_cost, spent};

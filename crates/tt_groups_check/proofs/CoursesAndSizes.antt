@@ -8,16 +8,16 @@ use Rattle.std.proofs.Math.Seq.{get_or-append_seam}
 use Rattle.std.proofs.lemmas.List.{get_or_append_left}
 use Rattle.std.proofs.lemmas.List.Elements.{All-contains, Contains-get_or}
 use Rattle.std.proofs.lemmas.List.Sums.{length-filter}
-use Rattle.tt_lists.specs.Words.{has_number, range_below}
-use Rattle.tt_lists.proofs.Below.{filter_more-passing, filter_more-failing}
-use Rattle.tt_lists.proofs.Filters.{member_passes}
-use Rattle.tt_lists.proofs.Members.{member_from_any, number_below}
-use Rattle.tt_lists.proofs.Numbers.{any_below}
-use Rattle.tt_lists.proofs.Range.{below_member}
-use Rattle.tt_instance_data.specs.Problem.{Problem}
-use Rattle.tt_instance_data.specs.Cells.{all_courses}
-use Rattle.tt_instance_data.specs.Courses.{lectures, members, in_curriculum, no_curriculum}
-use Rattle.tt_instance_data.specs.Limits.{IsInstance}
+use Rattle.tt_list_laws.specs.Words.{has_number, range_below}
+use Rattle.tt_list_laws.proofs.Below.{filter_more-passing, filter_more-failing}
+use Rattle.tt_list_laws.proofs.Filters.{member_passes}
+use Rattle.tt_list_laws.proofs.Members.{member_from_any, number_below}
+use Rattle.tt_list_laws.proofs.Numbers.{any_below}
+use Rattle.tt_list_laws.proofs.Range.{below_member}
+use Rattle.tt_instance.specs.Problem.{Problem}
+use Rattle.tt_instance.specs.Cells.{all_courses}
+use Rattle.tt_instance.specs.Courses.{lectures, members, in_curriculum, no_curriculum}
+use Rattle.tt_instance.specs.Limits.{IsInstance}
 use Rattle.tt_groups.specs.Group.{Group, concerns, IsGroupBound}
 use Rattle.tt_groups.specs.Listed.{AreCourses, IsDayList, IsReachedDay}
 use Rattle.tt_groups.specs.Places.{group_sizes}

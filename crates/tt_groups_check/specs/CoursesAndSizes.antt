@@ -1,7 +1,7 @@
 -- The values that the check of a group has set up.
 use Rattle.std.specs.Prelude.{◌≡◌, ℕ, ◌<◌, ◌≤◌, List, length, All}
-use Rattle.tt_instance_data.specs.Problem.{Problem}
-use Rattle.tt_instance_data.specs.Courses.{lectures}
+use Rattle.tt_instance.specs.Problem.{Problem}
+use Rattle.tt_instance.specs.Courses.{lectures}
 use Rattle.tt_groups.specs.Group.{Group}
 use Rattle.tt_groups.specs.Listed.{AreCourses}
 use Rattle.tt_groups.specs.Places.{group_sizes}

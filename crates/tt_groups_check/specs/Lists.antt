@@ -1,7 +1,7 @@
 -- The moves of the first days of a week.
 use Rattle.std.specs.Prelude.{ℕ, ◌<◌, List, length, All, slice_index, slice_index_or, Vec}
 use Rattle.std.specs.Global.{Global}
-use Rattle.tt_instance_data.specs.Problem.{Problem}
+use Rattle.tt_instance.specs.Problem.{Problem}
 use Rattle.tt_groups.specs.Group.{Group}
 use Rattle.tt_groups_week.specs.Fold.{AreReady}
 use Rattle.tt_groups_week.specs.WeekLists.{AreMovesOn}

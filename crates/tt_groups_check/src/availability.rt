@@ -1,10 +1,10 @@
 //! Days that share their tables.
 
 ghost use Rattle.std.specs.Prelude.{◌≡◌, ℕ, ◌<◌, ◌≤◌, length, IfSome, IsTrue};
-ghost use Rattle.tt_instance_data.specs.Courses.{unavailable};
+ghost use Rattle.tt_instance.specs.Courses.{unavailable};
 ghost use Rattle.tt_groups_check.specs.Availability.{IsSameAvailability};
 
-use tt_instance_data::Instance;
+use tt_instance::Instance;
 
 /// Checks that a course is unavailable in the same periods of both days. The contract doesn't say what `false` means.
 fn is_same_for(instance: &Instance<'_>, course: u32, day: u32, other: u32) -> bool

@@ -3,7 +3,7 @@
 ghost use Rattle.std.specs.Prelude.{◌≡◌, ◌<◌, ◌≤◌, ◌⊎◌, ◌↔◌, List, false, true, Err, IfErr, IsErrAnd, OnOk};
 ghost use Rattle.tt_groups_day.specs.Work.{IsUsedUp};
 ghost use Rattle.tt_groups.specs.Group.{group_cost, IsRelaxedTimetable, IsGroupBound};
-ghost use Rattle.tt_instance_data.specs.declared.cell.Cell.{Cell};
+ghost use Rattle.tt_instance.specs.declared.cell.Cell.{Cell};
 ghost use Rattle.tt_groups_check.specs.Limits.{IsGroupOf, is_too_wide, states_of, sets_of, MakesTables};
 ghost use Rattle.tt_groups_check.specs.declared.fault.GroupFault.TheVariants as fault;
 
@@ -15,7 +15,7 @@ use std::alloc::Global;
 use tt_groups::Group;
 use tt_groups_day::{DayWork, MAX_SETS};
 use tt_groups_week::{Digits, MAX_PLACES, week_holds};
-use tt_instance_data::Instance;
+use tt_instance::Instance;
 
 /// The maximum number of sequences of sets that the days of one group may try.
 pub const MAX_SEQUENCES: u64 = 16_777_216;

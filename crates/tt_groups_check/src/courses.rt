@@ -10,7 +10,7 @@ ghost use Rattle.tt_groups_check.specs.Limits.{IsGroupOf, courses_of};
 use crate::width::is_concerned;
 use std::alloc::{AllocError, Global};
 use tt_groups::Group;
-use tt_instance_data::Instance;
+use tt_instance::Instance;
 
 /// Returns the courses that a group concerns, in order.
 pub fn courses_of(

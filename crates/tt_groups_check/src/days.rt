@@ -16,7 +16,7 @@ use std::alloc::Global;
 use tt_groups::Group;
 use tt_groups_day::{DayWork, MAX_SETS, list_days, list_sets};
 use tt_groups_week::Digits;
-use tt_instance_data::Instance;
+use tt_instance::Instance;
 
 /// Returns the moves of all days. The work that is left goes down with each set that is tried.
 pub fn lists_of(

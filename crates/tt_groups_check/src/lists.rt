@@ -1,7 +1,7 @@
 //! The moves of all days of a week.
 
 ghost use Rattle.std.specs.Prelude.{◌≡◌, ℕ, ◌+◌, ◌<◌, ◌≤◌, List, [], length, Contains, OnOk, slice_index};
-ghost use Rattle.tt_instance_data.specs.Problem.{Problem};
+ghost use Rattle.tt_instance.specs.Problem.{Problem};
 ghost use Rattle.tt_groups.specs.Group as spec;
 ghost use Rattle.tt_groups.specs.Listed.{AreCourses, IsDayList, IsReachedDay};
 ghost use Rattle.tt_groups.specs.declared.entry.DayEntry.{DayEntry};

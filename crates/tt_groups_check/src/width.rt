@@ -2,16 +2,16 @@
 
 ghost use Rattle.std.specs.Prelude.{◌≡◌, ◌<◌, ◌≤◌, ◌*◌, length, count_by, All};
 ghost use Rattle.std.specs.List.{list_any};
-ghost use Rattle.tt_lists.specs.Words.{has_number};
+ghost use Rattle.tt_list_laws.specs.Words.{has_number};
 ghost use Rattle.tt_groups.specs.Group.{concerns};
 ghost use Rattle.tt_groups.specs.Plans.{base_cost};
 ghost use Rattle.tt_groups_check.specs.Limits.{IsGroupOf, has_long_course, is_too_wide};
-ghost use Rattle.tt_instance_data.specs.Cells.{all_courses};
-ghost use Rattle.tt_instance_data.specs.Courses.{in_curriculum};
-ghost use Rattle.tt_instance_data.specs.declared.limit.TheConstants.{MAX_MIN_DAYS};
+ghost use Rattle.tt_instance.specs.Cells.{all_courses};
+ghost use Rattle.tt_instance.specs.Courses.{in_curriculum};
+ghost use Rattle.tt_instance.specs.declared.limit.TheConstants.{MAX_MIN_DAYS};
 
 use tt_groups::Group;
-use tt_instance_data::{Instance, MISSING_DAY_COST};
+use tt_instance::{Instance, MISSING_DAY_COST};
 
 /// The maximum number of curricula of a group.
 pub const GROUP_CURRICULA: usize = 64;

@@ -7,18 +7,18 @@ use Rattle.std.proofs.lemmas.Bool.{and_parts, and_from, both_ways, ltb-true, lt-
 use Rattle.std.proofs.lemmas.List.{get_or_default}
 use Rattle.std.proofs.lemmas.List.Elements.{Contains-get_or}
 use Rattle.std.proofs.lemmas.Nat.{and_le_l}
-use Rattle.tt_lists.specs.Words.{range_below}
-use Rattle.tt_lists.proofs.Cuts.{at_next}
-use Rattle.tt_lists.proofs.Members.{any_member, member_from_any}
-use Rattle.tt_lists.proofs.Numbers.{any_below, sum_more}
-use Rattle.tt_lists.proofs.Range.{below_member}
-use Rattle.tt_lists.proofs.Sums.{one_if, one_if_true, one_if_false, sum_by-plus, sum_by-same, count_by-cons}
-use Rattle.tt_lists.proofs.Truth.{same_truth}
+use Rattle.tt_list_laws.specs.Words.{range_below}
+use Rattle.tt_list_laws.proofs.Cuts.{at_next}
+use Rattle.tt_list_laws.proofs.Members.{any_member, member_from_any}
+use Rattle.tt_list_laws.proofs.Numbers.{any_below, sum_more}
+use Rattle.tt_list_laws.proofs.Range.{below_member}
+use Rattle.tt_list_laws.proofs.Sums.{one_if, one_if_true, one_if_false, sum_by-plus, sum_by-same, count_by-cons}
+use Rattle.tt_list_laws.proofs.Truth.{same_truth}
 use Rattle.tt_bits.specs.Inner.Bits.{has_bit}
 use Rattle.tt_bits.proofs.BitLaws.{has_bit-without}
 use Rattle.tt_bits.proofs.Counts.{count_ones-bits, count-past, count-bits}
-use Rattle.tt_instance_data.specs.Problem.{Problem}
-use Rattle.tt_instance_data.specs.Courses.{members, in_curriculum, unavailable}
+use Rattle.tt_instance.specs.Problem.{Problem}
+use Rattle.tt_instance.specs.Courses.{members, in_curriculum, unavailable}
 use Rattle.tt_groups.specs.Group.{Group}
 use Rattle.tt_groups.specs.Listed.{AreCourses}
 use Rattle.tt_groups.specs.Plans.{Day, is_taught}

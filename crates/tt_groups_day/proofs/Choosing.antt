@@ -7,17 +7,17 @@ use Rattle.std.proofs.lemmas.Nat.Bits.{bit_at-zero}
 use Rattle.std.proofs.lemmas.List.{get_or-set_same, get_or-set_other, length-set}
 use Rattle.std.proofs.lemmas.List.Elements.{All-append, All-from_recursion, All-map, All-contains, filter_passes, Contains-append_left, Contains-append_right, Contains-get_or}
 use Rattle.std.proofs.lemmas.List.Folds.{list_any-append}
-use Rattle.tt_lists.specs.Words.{range_below}
-use Rattle.tt_lists.proofs.Below.{range_below_more}
-use Rattle.tt_lists.proofs.Members.{member_cases, member_from_any}
-use Rattle.tt_lists.proofs.Numbers.{any_below, sum_more}
-use Rattle.tt_lists.proofs.Range.{below_member, any_same_below}
-use Rattle.tt_lists.proofs.Tests.{sum_by-same_below}
-use Rattle.tt_lists.proofs.Truth.{same_truth}
+use Rattle.tt_list_laws.specs.Words.{range_below}
+use Rattle.tt_list_laws.proofs.Below.{range_below_more}
+use Rattle.tt_list_laws.proofs.Members.{member_cases, member_from_any}
+use Rattle.tt_list_laws.proofs.Numbers.{any_below, sum_more}
+use Rattle.tt_list_laws.proofs.Range.{below_member, any_same_below}
+use Rattle.tt_list_laws.proofs.Tests.{sum_by-same_below}
+use Rattle.tt_list_laws.proofs.Truth.{same_truth}
 use Rattle.tt_bits.specs.Inner.Bits.{has_bit}
-use Rattle.tt_instance_data.specs.Problem.{Problem}
-use Rattle.tt_instance_data.specs.Courses.{in_curriculum, conflict}
-use Rattle.tt_instance_data.proofs.Exclusion.{conflict-turn, conflict-itself}
+use Rattle.tt_instance.specs.Problem.{Problem}
+use Rattle.tt_instance.specs.Courses.{in_curriculum, conflict}
+use Rattle.tt_instance.proofs.Exclusion.{conflict-turn, conflict-itself}
 use Rattle.tt_groups.specs.Group.{Group, concerns}
 use Rattle.tt_groups.specs.Listed.{AreCourses}
 use Rattle.tt_groups.proofs.Lists.{passing_member, member_before}

@@ -7,15 +7,15 @@ use Rattle.std.proofs.lemmas.List.{append-nil, get_or_append_left, length-map, m
 use Rattle.std.proofs.lemmas.List.Elements.{filter-append}
 use Rattle.std.proofs.lemmas.List.Folds.{list_any-append}
 use Rattle.std.proofs.lemmas.List.Sums.{length-filter, sum_by-append, sum_by_more_le}
-use Rattle.tt_lists.specs.Words.{range_below}
-use Rattle.tt_lists.proofs.Below.{range_below_more}
-use Rattle.tt_lists.proofs.Counting.{count_by-same_at}
-use Rattle.tt_lists.proofs.Filters.{count_by-of_filter}
-use Rattle.tt_lists.proofs.Sums.{count_by-cons, sum_by-of_map, sum_by-same}
-use Rattle.tt_lists.proofs.Truth.{same_truth}
-use Rattle.tt_instance_data.specs.Problem.{Problem}
-use Rattle.tt_instance_data.specs.Courses.{in_curriculum, conflict}
-use Rattle.tt_instance_data.proofs.Exclusion.{conflict-turn}
+use Rattle.tt_list_laws.specs.Words.{range_below}
+use Rattle.tt_list_laws.proofs.Below.{range_below_more}
+use Rattle.tt_list_laws.proofs.Counting.{count_by-same_at}
+use Rattle.tt_list_laws.proofs.Filters.{count_by-of_filter}
+use Rattle.tt_list_laws.proofs.Sums.{count_by-cons, sum_by-of_map, sum_by-same}
+use Rattle.tt_list_laws.proofs.Truth.{same_truth}
+use Rattle.tt_instance.specs.Problem.{Problem}
+use Rattle.tt_instance.specs.Courses.{in_curriculum, conflict}
+use Rattle.tt_instance.proofs.Exclusion.{conflict-turn}
 use Rattle.tt_groups.specs.Group.{Group}
 use Rattle.tt_groups_day.specs.Choosing.{has_conflict, with_course, with_next, IsChoice}
 use Rattle.tt_groups_day.specs.Counting.{sublists, is_apart, sets_count}

@@ -5,15 +5,15 @@ use Rattle.std.specs.List.{list_any}
 use Rattle.std.proofs.lemmas.Bool.{and_parts, and_from}
 use Rattle.std.proofs.lemmas.List.{get_or_default}
 use Rattle.std.proofs.lemmas.List.Elements.{All-contains}
-use Rattle.tt_lists.specs.Words.{range_below}
-use Rattle.tt_lists.proofs.Cuts.{at_cases}
-use Rattle.tt_lists.proofs.Members.{member_from_any}
-use Rattle.tt_lists.proofs.Numbers.{any_below}
-use Rattle.tt_lists.proofs.Range.{below_member}
-use Rattle.tt_lists.proofs.Tests.{sum_by-same_below}
-use Rattle.tt_lists.proofs.Truth.{same_truth}
-use Rattle.tt_instance_data.specs.Problem.{Problem}
-use Rattle.tt_instance_data.specs.Courses.{lectures, conflict, unavailable}
+use Rattle.tt_list_laws.specs.Words.{range_below}
+use Rattle.tt_list_laws.proofs.Cuts.{at_cases}
+use Rattle.tt_list_laws.proofs.Members.{member_from_any}
+use Rattle.tt_list_laws.proofs.Numbers.{any_below}
+use Rattle.tt_list_laws.proofs.Range.{below_member}
+use Rattle.tt_list_laws.proofs.Tests.{sum_by-same_below}
+use Rattle.tt_list_laws.proofs.Truth.{same_truth}
+use Rattle.tt_instance.specs.Problem.{Problem}
+use Rattle.tt_instance.specs.Courses.{lectures, conflict, unavailable}
 use Rattle.tt_groups.specs.Group.{Group}
 use Rattle.tt_groups.specs.Listed.{AreCourses}
 use Rattle.tt_groups.specs.Plans.{Day, lectures_on, day_cost}

@@ -3,11 +3,11 @@ use Rattle.std.proofs.Common.{◌≡◌, ℕ, suc, ◌+◌, ◌-◌, ◌*◌, �
 use Rattle.std.specs.Prelude.{nat_lt, sum_by, count_by}
 use Rattle.std.specs.List.{list_any}
 use Rattle.std.proofs.lemmas.Bool.{and_left, le-ltb}
-use Rattle.tt_lists.specs.Words.{range_below}
-use Rattle.tt_lists.proofs.Numbers.{sum_more}
-use Rattle.tt_lists.proofs.Sums.{one_if, sum_by-same, sum_by-swap, sum_by-times, sum_by-nothing}
-use Rattle.tt_instance_data.specs.Problem.{Problem}
-use Rattle.tt_instance_data.specs.Courses.{members}
+use Rattle.tt_list_laws.specs.Words.{range_below}
+use Rattle.tt_list_laws.proofs.Numbers.{sum_more}
+use Rattle.tt_list_laws.proofs.Sums.{one_if, sum_by-same, sum_by-swap, sum_by-times, sum_by-nothing}
+use Rattle.tt_instance.specs.Problem.{Problem}
+use Rattle.tt_instance.specs.Courses.{members}
 use Rattle.tt_groups.specs.Group.{Group}
 use Rattle.tt_groups.specs.Plans.{Day, is_taught, is_single, day_cost}
 use Rattle.tt_groups_day.specs.Running.{is_pending, is_settled, settled_cost}

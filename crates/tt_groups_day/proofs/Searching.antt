@@ -2,11 +2,11 @@
 use Rattle.std.proofs.Common.{◌^◌, ◌≡◌, ℕ, zero, suc, ◌+◌, ◌*◌, ◌<◌, ◌≤◌, List, [], ◌∷◌, ◌++◌, length, length-append, take, take_all, get_or, Some, sym, ap, ◌∙◌, subst, arith, inl, inr}
 use Rattle.std.specs.Prelude.{All, sum_by, count_by, count_ones, slice_get, slice_index}
 use Rattle.std.proofs.lemmas.List.Elements.{All-contains, All-more}
-use Rattle.tt_lists.specs.Words.{range_below}
-use Rattle.tt_lists.proofs.Cuts.{at_cases}
-use Rattle.tt_lists.proofs.Tests.{sum_by-same_below}
-use Rattle.tt_instance_data.specs.Problem.{Problem}
-use Rattle.tt_instance_data.specs.Courses.{unavailable}
+use Rattle.tt_list_laws.specs.Words.{range_below}
+use Rattle.tt_list_laws.proofs.Cuts.{at_cases}
+use Rattle.tt_list_laws.proofs.Tests.{sum_by-same_below}
+use Rattle.tt_instance.specs.Problem.{Problem}
+use Rattle.tt_instance.specs.Courses.{unavailable}
 use Rattle.tt_groups.specs.Group.{Group}
 use Rattle.tt_groups.specs.Listed.{AreCourses}
 use Rattle.tt_groups.specs.Plans.{Day, lectures_on, day_cost}

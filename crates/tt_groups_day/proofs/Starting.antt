@@ -4,11 +4,11 @@ use Rattle.std.specs.Prelude.{nat_lt, replicate, slice_index}
 use Rattle.std.proofs.Math.ListN.{get_or-eq_default}
 use Rattle.std.proofs.lemmas.Bool.{cases_lt}
 use Rattle.std.proofs.lemmas.List.{get_or-replicate, length-replicate}
-use Rattle.tt_lists.specs.Words.{range_below}
-use Rattle.tt_lists.proofs.Sums.{sum_by-same, sum_by-nothing}
+use Rattle.tt_list_laws.specs.Words.{range_below}
+use Rattle.tt_list_laws.proofs.Sums.{sum_by-same, sum_by-nothing}
 use Rattle.tt_bits.specs.Inner.Bits.{has_bit}
 use Rattle.tt_bits.proofs.BitLaws.{has_bit-none}
-use Rattle.tt_instance_data.specs.Problem.{Problem}
+use Rattle.tt_instance.specs.Problem.{Problem}
 use Rattle.tt_groups.specs.Group.{Group}
 use Rattle.tt_groups_day.specs.Sets.{IsWordOf, IsMorningOf}
 use Rattle.tt_groups_day.specs.declared.morning.Morning.{Morning}

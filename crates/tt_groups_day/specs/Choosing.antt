@@ -1,9 +1,9 @@
 -- Sets of courses, chosen course by course; cs are the courses that a group concerns.
 use Rattle.std.specs.Prelude.{◌≡◌, ℕ, ◌+◌, ◌<◌, ◌≤◌, Bool, true, false, not, ◌&&◌, List, ◌++◌, map, filter, length, Contains, nat_lt, slice_index, slice_set, bit_or}
 use Rattle.std.specs.List.{list_any}
-use Rattle.tt_lists.specs.Words.{range_below}
-use Rattle.tt_instance_data.specs.Problem.{Problem}
-use Rattle.tt_instance_data.specs.Courses.{in_curriculum, conflict}
+use Rattle.tt_list_laws.specs.Words.{range_below}
+use Rattle.tt_instance.specs.Problem.{Problem}
+use Rattle.tt_instance.specs.Courses.{in_curriculum, conflict}
 use Rattle.tt_groups.specs.Group.{Group}
 use Rattle.tt_groups_day.specs.Sets.{has_course, IsWordOf, index_by}
 use Rattle.tt_groups_day.specs.declared.morning.CourseSet.{CourseSet}

@@ -1,8 +1,8 @@
 -- The number of sets of courses in which no two conflict.
 use Rattle.std.specs.Prelude.{ℕ, Bool, true, not, ◌&&◌, List, [], ◌∷◌, ◌++◌, map, count_by}
 use Rattle.std.specs.List.{list_any}
-use Rattle.tt_instance_data.specs.Problem.{Problem}
-use Rattle.tt_instance_data.specs.Courses.{conflict}
+use Rattle.tt_instance.specs.Problem.{Problem}
+use Rattle.tt_instance.specs.Courses.{conflict}
 
 -- The sublists of a list are those without its first element, and those with it.
 abbrev pub sublists : List ℕ → List (List ℕ)

@@ -1,8 +1,8 @@
 -- Possible days, by the sets of their periods; cs are the courses that a group concerns.
 use Rattle.std.specs.Prelude.{◌≡◌, ℕ, ◌*◌, ◌<◌, ◌≤◌, true, false, List, length, All, Some, sum_by, slice_get, slice_index, slice_index_or}
-use Rattle.tt_lists.specs.Words.{range_below}
-use Rattle.tt_instance_data.specs.Problem.{Problem}
-use Rattle.tt_instance_data.specs.Courses.{unavailable}
+use Rattle.tt_list_laws.specs.Words.{range_below}
+use Rattle.tt_instance.specs.Problem.{Problem}
+use Rattle.tt_instance.specs.Courses.{unavailable}
 use Rattle.tt_groups.specs.Group.{Group}
 use Rattle.tt_groups.specs.Plans.{Day, lectures_on, day_cost, IsDay}
 use Rattle.tt_groups.specs.Tables.{Fits}

@@ -1,10 +1,10 @@
 -- Sets of a group's courses without a conflict, and the days that begin with some sets; cs are the courses that the group concerns.
 use Rattle.std.specs.Prelude.{All, slice_index_or, [], ◌∷◌, ◌++◌, count_by, ◌≡◌, ℕ, ◌-◌, ◌*◌, ◌<◌, ◌≤◌, nat_lt, ◌==◌, Bool, true, false, ◌&&◌, List, length, Some, Contains, sum_by, slice_get, slice_index}
 use Rattle.std.specs.List.{list_any}
-use Rattle.tt_lists.specs.Words.{range_below}
+use Rattle.tt_list_laws.specs.Words.{range_below}
 use Rattle.tt_bits.specs.Inner.Bits.{has_bit}
-use Rattle.tt_instance_data.specs.Problem.{Problem}
-use Rattle.tt_instance_data.specs.Courses.{lectures, in_curriculum, conflict, unavailable}
+use Rattle.tt_instance.specs.Problem.{Problem}
+use Rattle.tt_instance.specs.Courses.{lectures, in_curriculum, conflict, unavailable}
 use Rattle.tt_groups.specs.Group.{Group, concerns}
 use Rattle.tt_groups.specs.Listed.{AreCourses}
 use Rattle.tt_groups.specs.Plans.{Day, lectures_on, day_cost, is_taught, IsDay}

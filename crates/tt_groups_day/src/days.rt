@@ -9,7 +9,7 @@ ghost use Rattle.tt_groups_day.specs.Entries.{AreLectureDigits};
 ghost use Rattle.tt_groups_day.specs.Sets.{IsComplete, IsCourseSet};
 ghost use Rattle.tt_groups_day.specs.Work.{IsUsedUp};
 ghost use Rattle.tt_groups_day.specs.declared.fault.DaysFault.TheVariants as fault;
-ghost use Rattle.tt_instance_data.specs.Courses.{lectures};
+ghost use Rattle.tt_instance.specs.Courses.{lectures};
 ghost use Rattle.tt_groups_day.specs.declared.morning.TheConstants.{LECTURES, MAX_INDEX, PLACES};
 ghost use Rattle.tt_groups_day.specs.declared.sets.TheConstants.{CURRICULA};
 
@@ -20,7 +20,7 @@ use crate::table::day_table;
 use crate::work::DayWork;
 use std::alloc::Global;
 use tt_groups::{DayEntry, Group};
-use tt_instance_data::Instance;
+use tt_instance::Instance;
 
 /// Lists the possible numbers of lectures of the courses on a day at a cost below the bound, each with a lower bound of the cost of such a
 /// day. The sets are those of `list_sets`; the work that is left goes down with each set that is tried.

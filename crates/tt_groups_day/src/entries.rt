@@ -1,7 +1,7 @@
 //! The entries of a day, read off its table.
 
 ghost use Rattle.std.specs.Prelude.{◌≡◌, ℕ, ◌+◌, ◌-◌, ◌/◌, ◌%◌, ◌<◌, ◌≤◌, List, [], Contains, length, slice_index, IfOk};
-ghost use Rattle.tt_instance_data.specs.Problem.{Problem};
+ghost use Rattle.tt_instance.specs.Problem.{Problem};
 ghost use Rattle.tt_groups.specs.Listed.{AreCourses, IsDayList, IsReachedDay};
 ghost use Rattle.tt_groups.specs.declared.entry.DayEntry.{DayEntry};
 ghost use Rattle.tt_groups_day.specs.Found.{IsDayAt};

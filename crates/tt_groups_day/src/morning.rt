@@ -1,13 +1,13 @@
 //! The beginning of a day, set by set.
 
 ghost use Rattle.std.specs.Prelude.{◌≡◌, ℕ, ◌+◌, ◌*◌, ◌<◌, ◌≤◌, ◌++◌, ◌∷◌, [], List, ◌^◌, length, slice_index, IfNone, IfSome, true, false};
-ghost use Rattle.tt_instance_data.specs.Problem.{Problem};
+ghost use Rattle.tt_instance.specs.Problem.{Problem};
 ghost use Rattle.tt_groups.specs.Group as spec;
 ghost use Rattle.tt_groups.specs.Listed.{AreCourses};
 ghost use Rattle.tt_groups_day.specs.Sets.{IsCourseSet, IsMorningOf, IsDayOf, Covers};
 ghost use Rattle.tt_groups_day.specs.declared.sets.TheConstants.{CURRICULA};
 
-use tt_instance_data::ISOLATED_COST;
+use tt_instance::ISOLATED_COST;
 
 /// The maximum number of courses that a group concerns.
 pub const COURSES: usize = 16;

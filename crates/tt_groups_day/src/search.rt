@@ -5,12 +5,12 @@ ghost use Rattle.tt_groups_day.specs.Found.{IsFound};
 ghost use Rattle.tt_groups_day.specs.Sets.{Falls, IsTried};
 ghost use Rattle.tt_groups_day.specs.Work.{IsUsedUp};
 ghost use Rattle.tt_groups_day.specs.declared.morning.TheConstants.{COST_LIMIT, MAX_INDEX};
-ghost use Rattle.tt_instance_data.specs.declared.limit.TheConstants.{MAX_PERIODS};
+ghost use Rattle.tt_instance.specs.declared.limit.TheConstants.{MAX_PERIODS};
 
 use crate::fault::DaysFault;
 use crate::morning::{COURSES, CourseSet, Morning, more};
 use crate::work::DayWork;
-use tt_instance_data::ISOLATED_COST;
+use tt_instance::ISOLATED_COST;
 
 /// The courses that are available in a period, 1 for each.
 #[derive(Clone, Copy, Debug, PartialEq, Eq)]

@@ -1,7 +1,7 @@
 //! The sets of a group's courses in which no two conflict.
 
 ghost use Rattle.std.specs.Prelude.{◌≡◌, ℕ, ◌+◌, ◌*◌, ◌<◌, ◌≤◌, ◌^◌, ◌++◌, ◌∷◌, [], length, slice_index, All, IfOk, OnOk, OnErr, Err};
-ghost use Rattle.tt_instance_data.specs.Courses.{in_curriculum};
+ghost use Rattle.tt_instance.specs.Courses.{in_curriculum};
 ghost use Rattle.tt_groups.specs.Listed.{AreCourses};
 ghost use Rattle.tt_groups_day.specs.Choosing.{has_conflict, with_course, with_next, IsApart};
 ghost use Rattle.tt_groups_day.specs.Counting.{sets_count};
@@ -13,7 +13,7 @@ use crate::morning::{COURSES, CourseSet};
 use std::alloc::{AllocError, Global};
 use tt_bits::with_if;
 use tt_groups::Group;
-use tt_instance_data::Instance;
+use tt_instance::Instance;
 
 /// The maximum number of sets of a group's courses.
 pub const MAX_SETS: usize = 4096;

@@ -8,17 +8,17 @@ ghost use Rattle.tt_groups.specs.Listed.{AreCourses};
 ghost use Rattle.tt_groups_day.specs.Sets.{Covers, IsComplete, IsCourseSet, AreAvailable};
 ghost use Rattle.tt_groups_day.specs.Work.{IsUsedUp};
 ghost use Rattle.tt_groups_day.specs.declared.fault.DaysFault.TheVariants as fault;
-ghost use Rattle.tt_instance_data.specs.Courses.{lectures, unavailable};
+ghost use Rattle.tt_instance.specs.Courses.{lectures, unavailable};
 ghost use Rattle.tt_groups_day.specs.declared.morning.TheConstants.{LECTURES, MAX_INDEX};
 ghost use Rattle.tt_groups_day.specs.declared.sets.TheConstants.{CURRICULA};
-ghost use Rattle.tt_instance_data.specs.declared.limit.TheConstants.{MAX_PERIODS};
+ghost use Rattle.tt_instance.specs.declared.limit.TheConstants.{MAX_PERIODS};
 
 use crate::fault::DaysFault;
 use crate::morning::{COURSES, CourseSet, Morning};
 use crate::search::{Period, try_days};
 use crate::work::DayWork;
 use std::alloc::{AllocError, Global};
-use tt_instance_data::Instance;
+use tt_instance::Instance;
 
 /// Returns the courses that are available in a period.
 fn period_of(instance: &Instance<'_>, courses: &[u32], day: u32, period: u32) -> Period

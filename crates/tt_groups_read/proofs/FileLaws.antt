@@ -7,7 +7,7 @@ use Rattle.tt_text.specs.Pieces.{Begins}
 use Rattle.tt_text.specs.Feeds.{Stream, stopped}
 use Rattle.tt_text.specs.declared.feed.TheConstants.{MAX_BYTES}
 use Rattle.tt_text.proofs.Unlimited.{unlimited, limited}
-use Rattle.tt_instance_data.specs.Problem.{Problem}
+use Rattle.tt_instance.specs.Problem.{Problem}
 use Rattle.tt_proof_read.specs.Reads.{stream_of_bytes}
 use Rattle.tt_proof_read.specs.Sizes.{AreSizes}
 use Rattle.tt_proof_read.specs.Words.{fixed}

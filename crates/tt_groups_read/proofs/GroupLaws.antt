@@ -9,8 +9,8 @@ use Rattle.tt_text.specs.Feeds.{Stream, stopped}
 use Rattle.tt_text.specs.Reading.{◌>>=◌}
 use Rattle.tt_text.proofs.Steps.{ok_is, bind_ok}
 use Rattle.tt_text.proofs.Fields.{text_is, is_text_of, number_spelled, number_read}
-use Rattle.tt_instance_data.specs.Problem.{Problem}
-use Rattle.tt_leaf_data.specs.Ranges.{AreBelow}
+use Rattle.tt_instance.specs.Problem.{Problem}
+use Rattle.tt_leaf.specs.Ranges.{AreBelow}
 use Rattle.tt_proof_read.specs.Reading.{token_at, word_at, priced_as, no_more}
 use Rattle.tt_proof_read.specs.Sizes.{AreSizes}
 use Rattle.tt_proof_read.specs.Words.{fixed}

@@ -1,6 +1,6 @@
 -- The state of a reader of groups, and the results that it returns.
 use Rattle.std.specs.Prelude.{◌≡◌, ℕ, Bool, true, false, is_some, List, Option, Some, None, Result, Ok, Err}
-use Rattle.tt_instance_data.specs.Problem.{Problem}
+use Rattle.tt_instance.specs.Problem.{Problem}
 use Rattle.tt_text.specs.Feeds.{Fed, Stream, fresh, stream_at}
 use Rattle.tt_text.specs.CutShort.{rest_of, cut_at, MayFail}
 use Rattle.tt_text.specs.Reading.{FailsUnless}

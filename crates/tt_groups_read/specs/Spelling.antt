@@ -1,11 +1,11 @@
 -- The claims about groups that the bytes of a CTTG file spell.
 use Rattle.std.specs.Prelude.{◌≡◌, ℕ, ◌≤◌, true, List, [], ◌∷◌, ◌++◌, length, map, flat_map, codes, All}
-use Rattle.tt_lists.specs.Words.{are_distinct}
+use Rattle.tt_list_laws.specs.Words.{are_distinct}
 use Rattle.tt_text.specs.Tokens.{tokens_of}
 use Rattle.tt_text.specs.declared.feed.TheConstants.{MAX_BYTES, MAX_TOKEN_BYTES}
 use Rattle.tt_text.specs.Pieces.{Piece, Text, Number, Index, Begins}
-use Rattle.tt_instance_data.specs.Problem.{Problem}
-use Rattle.tt_leaf_data.specs.Ranges.{AreBelow}
+use Rattle.tt_instance.specs.Problem.{Problem}
+use Rattle.tt_leaf.specs.Ranges.{AreBelow}
 use Rattle.tt_groups.specs.Group.{Group}
 use Rattle.tt_proof_read.specs.Spelling.{listed_pieces, AreCourses}
 use Rattle.tt_proof_read.specs.declared.format.TheConstants.{CURRICULUM_LETTER, MAX_POINTS}

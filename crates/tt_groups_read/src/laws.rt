@@ -1,8 +1,8 @@
 //! The meaning of reading a file group by group.
 
 ghost use Rattle.std.specs.Prelude.{ℕ, List};
-ghost use Rattle.tt_instance_data.specs.Limits.{IsInstance};
-ghost use Rattle.tt_instance_data.specs.Problem.{Problem};
+ghost use Rattle.tt_instance.specs.Limits.{IsInstance};
+ghost use Rattle.tt_instance.specs.Problem.{Problem};
 ghost use Rattle.tt_proof_read.specs.Reads.{stream_of_bytes};
 ghost use Rattle.tt_proof_read.specs.Sizes.{AreSizes};
 ghost use Rattle.tt_proof_read.specs.declared.sizes.Sizes.{Sizes};

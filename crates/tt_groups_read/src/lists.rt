@@ -1,8 +1,8 @@
 //! The curricula and the courses of a group.
 
 ghost use Rattle.std.specs.Prelude.{◌≡◌, ◌<◌, ◌==◌, not, true, false, IfOk, IfSome};
-ghost use Rattle.tt_lists.specs.Words.{each_two, has_number};
-ghost use Rattle.tt_leaf_data.specs.Ranges.{AreBelow};
+ghost use Rattle.tt_list_laws.specs.Words.{each_two, has_number};
+ghost use Rattle.tt_leaf.specs.Ranges.{AreBelow};
 ghost use Rattle.tt_text.specs.Feeds.{room_of};
 ghost use Rattle.tt_proof_read.specs.Inner.Contract.{ReadsAs};
 ghost use Rattle.tt_proof_read.specs.Faults.{ReportsNoFailedRead, Gives};

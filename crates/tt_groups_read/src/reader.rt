@@ -15,7 +15,7 @@ use crate::groups::read_group;
 use crate::header::{Opening, read_opening};
 use std::alloc::Global;
 use std::marker::Model;
-use tt_instance_data::Instance;
+use tt_instance::Instance;
 use tt_proof_read::{Sizes, TextFault};
 use tt_text::{Feed, Source};
 

@@ -3,12 +3,12 @@ use Rattle.std.proofs.Common.{◌≡◌, ℕ, ◌+◌, ◌*◌, ◌<◌, ◌≤�
 use Rattle.std.specs.Prelude.{sum_by, slice_index}
 use Rattle.std.specs.List.{list_all}
 use Rattle.std.proofs.lemmas.Bool.{cases_lt, le-leb, leb-true}
-use Rattle.tt_lists.specs.Words.{range_below}
+use Rattle.tt_list_laws.specs.Words.{range_below}
 use Rattle.std.proofs.lemmas.List.{get_or-set_same, get_or-set_other}
-use Rattle.tt_lists.proofs.Range.{all_below, at_below}
-use Rattle.tt_lists.proofs.Sums.{sum_by-plus, sum_by-nothing}
-use Rattle.tt_lists.proofs.Tests.{sum_by-same_below}
-use Rattle.tt_lists.proofs.Truth.{same_truth}
+use Rattle.tt_list_laws.proofs.Range.{all_below, at_below}
+use Rattle.tt_list_laws.proofs.Sums.{sum_by-plus, sum_by-nothing}
+use Rattle.tt_list_laws.proofs.Tests.{sum_by-same_below}
+use Rattle.tt_list_laws.proofs.Truth.{same_truth}
 use Rattle.tt_groups_week.specs.Fold.{index_of, floor_at, is_under, IsState}
 use Rattle.tt_groups_week.specs.Digits.{digit}
 use Rattle.tt_groups_week.specs.Steps.{raised, has_room, moved, paid_at}

@@ -3,9 +3,9 @@ use Rattle.std.proofs.Common.{◌≡◌, ℕ, zero, suc, ◌+◌, ◌-◌, ◌*�
 use Rattle.std.specs.Prelude.{◌⊎◌, min, sum_by, slice_index}
 use Rattle.std.specs.List.{list_all}
 use Rattle.std.proofs.lemmas.Bool.{cases_Bool}
-use Rattle.tt_lists.specs.Words.{range_below}
-use Rattle.tt_lists.proofs.Numbers.{sum_more}
-use Rattle.tt_lists.proofs.Sums.{each, sum_by-le}
+use Rattle.tt_list_laws.specs.Words.{range_below}
+use Rattle.tt_list_laws.proofs.Numbers.{sum_more}
+use Rattle.tt_list_laws.proofs.Sums.{each, sum_by-le}
 use Rattle.tt_groups_week.specs.Digits.{digit}
 use Rattle.tt_groups_week.specs.Fold.{floor_at, floor_of}
 use Rattle.tt_groups_week.specs.Steps.{raised, has_room, moved, paid_at, step_of}

@@ -3,12 +3,12 @@ use Rattle.std.proofs.Common.{◌≡◌, ℕ, ◌+◌, ◌-◌, ◌*◌, ◌/◌
 use Rattle.std.specs.Prelude.{◌⊎◌, min, sum_by, slice_index}
 use Rattle.std.specs.List.{list_all}
 use Rattle.std.proofs.lemmas.Bool.{cases_lt}
-use Rattle.tt_lists.specs.Words.{range_below}
-use Rattle.tt_lists.proofs.Range.{all_below}
-use Rattle.tt_lists.proofs.Sums.{sum_by-nothing}
-use Rattle.tt_lists.proofs.Tests.{sum_by-same_below, sum_further}
-use Rattle.tt_instance_data.specs.Problem.{Problem}
-use Rattle.tt_instance_data.specs.Courses.{lectures}
+use Rattle.tt_list_laws.specs.Words.{range_below}
+use Rattle.tt_list_laws.proofs.Range.{all_below}
+use Rattle.tt_list_laws.proofs.Sums.{sum_by-nothing}
+use Rattle.tt_list_laws.proofs.Tests.{sum_by-same_below, sum_further}
+use Rattle.tt_instance.specs.Problem.{Problem}
+use Rattle.tt_instance.specs.Courses.{lectures}
 use Rattle.tt_groups.specs.Group.{Group}
 use Rattle.tt_groups.specs.Places.{weights_from, place_of, group_sizes, group_digits, group_amounts}
 use Rattle.tt_groups.specs.Plans.{slack}

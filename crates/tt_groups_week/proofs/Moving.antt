@@ -4,7 +4,7 @@ use Rattle.std.specs.List.{list_all}
 use Rattle.tt_groups_week.specs.declared.state.Step.{Step}
 use Rattle.std.specs.Prelude.{nat_lt, nat_le, sum_by, slice_index}
 use Rattle.std.proofs.lemmas.Bool.{and_from, and_left, and_right, both_ways, cases_lt, not-true, le-leb, lt-leb, le-ltb}
-use Rattle.tt_lists.specs.Words.{range_below}
+use Rattle.tt_list_laws.specs.Words.{range_below}
 use Rattle.tt_groups_week.specs.Steps.{raised, has_room, moved, paid_at, step_of}
 
 module _ (sizes weights : List ℕ) (courses : ℕ) (amounts : List ℕ) (state j : ℕ) where

@@ -6,7 +6,7 @@ use Rattle.std.proofs.lemmas.Bool.{cases_lt}
 use Rattle.std.proofs.lemmas.List.{get_or-take, get_or_default, length-take-le}
 use Rattle.std.proofs.lemmas.List.Elements.{All-more, Contains-append_right}
 use Rattle.std.proofs.lemmas.List.Sorted.{Contains-permutation, IsPermutation-sym}
-use Rattle.tt_lists.proofs.Members.{member_cases}
+use Rattle.tt_list_laws.proofs.Members.{member_cases}
 use Rattle.tt_groups_week.specs.Fold.{floor_of}
 use Rattle.tt_groups_week.proofs.Floors.{floor-le_pay}
 use Rattle.tt_groups_week.specs.Steps.{step_of, Falls, IsRelaxed}

@@ -1,8 +1,8 @@
 -- The values that the fold computes once, for each entry of a day and for each place.
 use Rattle.std.specs.Prelude.{◌≡◌, ℕ, ◌+◌, ◌-◌, ◌*◌, ◌<◌, ◌≤◌, nat_le, Bool, List, length, sum_by, slice_index, All, Contains}
 use Rattle.std.specs.List.Sorted.{IsNonDecreasingBy}
-use Rattle.tt_lists.specs.Words.{range_below}
-use Rattle.tt_instance_data.specs.declared.limit.TheConstants.{MISSING_DAY_COST}
+use Rattle.tt_list_laws.specs.Words.{range_below}
+use Rattle.tt_instance.specs.declared.limit.TheConstants.{MISSING_DAY_COST}
 use Rattle.tt_groups.specs.declared.entry.DayEntry.{DayEntry}
 use Rattle.tt_groups_week.specs.Digits.{digit}
 use Rattle.tt_groups_week.specs.declared.moves.Move.{Move}

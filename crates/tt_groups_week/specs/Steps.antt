@@ -2,8 +2,8 @@
 -- raise the other digits, but not above the slack.
 use Rattle.std.specs.Prelude.{◌≡◌, ℕ, ◌+◌, ◌-◌, ◌*◌, ◌<◌, ◌≤◌, min, nat_lt, nat_le, Bool, not, ◌&&◌, List, length, Contains, sum_by, slice_index, Option, Some, None, if◌then◌else◌}
 use Rattle.std.specs.List.{list_all}
-use Rattle.tt_lists.specs.Words.{range_below}
-use Rattle.tt_instance_data.specs.declared.limit.TheConstants.{MISSING_DAY_COST}
+use Rattle.tt_list_laws.specs.Words.{range_below}
+use Rattle.tt_instance.specs.declared.limit.TheConstants.{MISSING_DAY_COST}
 use Rattle.tt_groups.specs.declared.entry.DayEntry.{DayEntry}
 use Rattle.tt_groups_week.specs.Digits.{digit}
 use Rattle.tt_groups_week.specs.declared.moves.Move.{Move}

@@ -9,7 +9,7 @@ ghost use Rattle.tt_groups_week.specs.declared.digits.TheConstants.{MAX_AMOUNT};
 use crate::digits::Digits;
 use std::alloc::{AllocError, Global};
 use tt_groups::DayEntry;
-use tt_instance_data::MISSING_DAY_COST;
+use tt_instance::MISSING_DAY_COST;
 
 /// An entry of a day, the amount that its lectures add to a place, and a lower bound of the cost of its further lectures.
 #[derive(Clone, Copy, Debug, PartialEq, Eq)]

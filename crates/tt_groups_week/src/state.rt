@@ -2,7 +2,7 @@
 
 ghost use Rattle.std.specs.Prelude.{◌≡◌, ℕ, ◌+◌, ◌*◌, ◌<◌, ◌≤◌, nat_le, length, slice_index, IfSome, sum_by};
 ghost use Rattle.std.specs.List.{list_all};
-ghost use Rattle.tt_lists.specs.Words.{range_below};
+ghost use Rattle.tt_list_laws.specs.Words.{range_below};
 ghost use Rattle.tt_groups_week.specs.Fold.{index_of, floor_of, is_under, IsState};
 ghost use Rattle.tt_groups_week.specs.Digits.{digit};
 ghost use Rattle.tt_groups_week.specs.Steps.{step_of};
@@ -11,7 +11,7 @@ ghost use Rattle.tt_groups_week.specs.declared.digits.TheConstants.{MAX_AMOUNT};
 use crate::digits::Digits;
 use crate::moves::Move;
 use tt_groups::DIGITS;
-use tt_instance_data::MISSING_DAY_COST;
+use tt_instance::MISSING_DAY_COST;
 
 /// A place, the lectures that each course has left at it (no other digit has a limit), its digits, and their weighted sum.
 #[derive(Clone, Copy, Debug, PartialEq, Eq)]

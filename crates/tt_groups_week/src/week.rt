@@ -7,7 +7,7 @@ ghost use Rattle.tt_groups.specs.Plans.{Week, IsPlan, base_cost, spent};
 ghost use Rattle.tt_groups_week.specs.Fold.{AreReady};
 ghost use Rattle.tt_groups_week.specs.declared.fault.WeekFault.TheVariants as fault;
 ghost use Rattle.tt_groups_week.specs.WeekLists.{is_full, IsHighList, Suits, AreReached};
-ghost use Rattle.tt_instance_data.specs.Problem.{Problem};
+ghost use Rattle.tt_instance.specs.Problem.{Problem};
 ghost use Rattle.tt_groups_week.specs.declared.digits.TheConstants.{MAX_PLACES};
 
 use crate::digits::Digits;

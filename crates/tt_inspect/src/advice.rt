@@ -8,7 +8,7 @@ use crate::shown::{Counted, Name, Noun};
 use crate::summary::{most_seats, periods_of_week, places};
 use std::alloc::AllocError;
 use std::fmt;
-use tt_instance_data::{Instance, MISSING_DAY_COST};
+use tt_instance::{Instance, MISSING_DAY_COST};
 
 /// Courses no two of which can have lectures at the same time, and why.
 #[derive(Clone, Copy)]

@@ -1,7 +1,7 @@
 //! Numbers that are counted once for an instance and used by all texts about it.
 
 use std::alloc::{AllocError, Global};
-use tt_instance_data::Instance;
+use tt_instance::Instance;
 
 /// Counts of a course.
 #[derive(Clone, Copy)]

@@ -5,7 +5,7 @@ use crate::counts::Counts;
 use crate::scored::put_score;
 use crate::summary::put_summary;
 use std::alloc::{AllocError, Global};
-use tt_instance_data::Instance;
+use tt_instance::Instance;
 use tt_rules::Score;
 use tt_table::Timetable;
 

@@ -6,7 +6,7 @@ use crate::reason::Reason;
 use crate::rows::line_named;
 use crate::survey::{Survey, look_at, missing_word};
 use std::alloc::{AllocError, Global};
-use tt_instance::InstanceFault;
+use tt_instance_read::InstanceFault;
 
 /// Returns the offset of a fault; `None` for being out of memory.
 fn offset_of(fault: InstanceFault) -> Option<usize> {

@@ -4,7 +4,7 @@ use crate::counts::Counts;
 use crate::shown::{Counted, Name, Noun};
 use std::alloc::AllocError;
 use std::fmt;
-use tt_instance_data::Instance;
+use tt_instance::Instance;
 
 /// The maximum number of names of a line.
 const MAX_NAMES: u64 = 8;

@@ -2,7 +2,7 @@
 
 use crate::shown::{Counted, Noun};
 use std::fmt;
-use tt_instance::Word;
+use tt_instance_read::Word;
 
 /// A likely reason for a fault.
 #[derive(Clone, Copy)]

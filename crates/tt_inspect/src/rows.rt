@@ -1,7 +1,7 @@
 //! The lines of an instance's file as a person reads them: a course, a room, a curriculum or an unavailability a line.
 
 use crate::place::is_line_feed;
-use tt_instance::Word;
+use tt_instance_read::Word;
 use tt_text::{NumberFault, Token, Tokens, number};
 
 /// A part of an instance's file.

@@ -3,7 +3,7 @@
 use crate::shown::{Counted, Name, Noun};
 use std::alloc::AllocError;
 use std::fmt;
-use tt_instance_data::Instance;
+use tt_instance::Instance;
 use tt_rules::Score;
 use tt_table::Timetable;
 

@@ -5,7 +5,7 @@ use crate::place::{is_line_feed, place_of};
 use crate::reason::Reason;
 use crate::rows::Row;
 use std::alloc::{AllocError, Global};
-use tt_instance::Word;
+use tt_instance_read::Word;
 use tt_table::SolutionFault;
 
 /// Returns the offset of a fault; `None` for being out of memory.

@@ -4,7 +4,7 @@ use crate::counts::Counts;
 use crate::shown::{Counted, Noun};
 use std::alloc::AllocError;
 use std::fmt;
-use tt_instance_data::Instance;
+use tt_instance::Instance;
 
 /// Returns a part of a whole in percent, rounded down.
 fn percent(part: u64, whole: u64) -> u64 {

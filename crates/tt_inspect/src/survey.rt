@@ -2,7 +2,7 @@
 
 use crate::place::is_line_feed;
 use crate::rows::{Row, SECTIONS, Section};
-use tt_instance::Word;
+use tt_instance_read::Word;
 use tt_text::Tokens;
 
 /// How many lines a part should have, and how many it has.

@@ -1,15 +1,17 @@
--- The token of the first fault of a file (`BeginsAs` of `tt_instance_data` defines which other files begin the same way).
-use Rattle.std.specs.Prelude.{ℕ, Option, Some, None}
-use Rattle.tt_instance.specs.declared.fault.InstanceFault.{InstanceFault}
-use Rattle.tt_instance.specs.declared.fault.InstanceFault.TheVariants as fault
+-- Files with the same beginning.
+use Rattle.std.specs.Prelude.{◌≡◌, ℕ, nat_le, List, ◌++◌, map}
+use Rattle.std.specs.List.{take_while}
+use Rattle.tt_text.specs.Tokens.{Placed, tokens_of}
 
--- The offset of the token at which a fault is reported; none if the bytes end too early, or if memory runs out.
-abbrev pub token_offset : InstanceFault → Option ℕ
-token_offset (fault.Ended end) = None
-token_offset (fault.Expected w at) = Some at
-token_offset (fault.NotANumber at) = Some at
-token_offset (fault.OverLimit at) = Some at
-token_offset (fault.Repeated at) = Some at
-token_offset (fault.UnknownCourse at) = Some at
-token_offset (fault.OutOfRange at) = Some at
-token_offset fault.OutOfMemory = None
+-- The tokens of the bytes up to the one at this offset, including that one.
+abbrev pub tokens_up_to : ℕ → List ℕ → List Placed
+tokens_up_to at bytes = take_while (λ t. nat_le t.at at) (tokens_of bytes)
+
+-- The texts of tokens, regardless of their offsets.
+abbrev pub texts_of : List Placed → List (List ℕ)
+texts_of ts = map (λ t. t.text) ts
+
+-- The other bytes begin like these up to and including the token at this offset: so far their tokens have the same texts. Any bytes may follow.
+pub record BeginsAs (at : ℕ) (bytes other : List ℕ) : Type 0 where
+  pub more : List (List ℕ)
+  pub same : texts_of (tokens_of other) ≡ texts_of (tokens_up_to at bytes) ++ more

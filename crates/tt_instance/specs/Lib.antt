@@ -1,9 +1,9 @@
 pub mod Beginnings
-pub mod Counted
-pub mod Reading
-pub mod Words
-pub use Rattle.tt_instance_data.specs.Cells
-pub use Rattle.tt_instance_data.specs.Courses
-pub use Rattle.tt_instance_data.specs.Limits
-pub use Rattle.tt_instance_data.specs.Problem
-pub use Rattle.tt_instance_data.specs.Spelling
+pub mod Cells
+pub mod Columns
+pub mod Courses
+pub mod Inner
+pub mod Limits
+pub mod Problem
+pub mod Seen
+pub mod Spelling

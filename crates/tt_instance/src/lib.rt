@@ -1,22 +1,29 @@
-//! The files that spell instances of curriculum-based course timetabling.
+//! Instances of curriculum-based course timetabling.
 #![tactic(auto)]
 
-mod conflicts;
-mod courses;
-mod curricula;
-mod fault;
-mod faulty;
-mod fields;
-mod header;
+mod barred;
+mod cell;
 mod instance;
+mod limit;
+mod marks;
+mod name_hasher;
+mod names;
 mod parts;
-mod rooms;
-mod unavailabilities;
+mod rows;
 
-pub use fault::{InstanceFault, Word};
-pub use faulty::faulty_beginnings_spell_none;
-pub use instance::read_instance;
-pub use tt_instance_data::{
-    Cell, Instance, MAX_CELLS, MAX_COURSES, MAX_CURRICULA, MAX_DAYS, MAX_LECTURES, MAX_MEMBERS,
-    MAX_MIN_DAYS, MAX_PERIODS, MAX_ROOMS, MAX_SEATS, MAX_SLOTS, MAX_UNAVAILABILITIES, Slot,
+pub use barred::{is_barred, mark_place};
+pub use cell::{Cell, Slot};
+pub use instance::Instance;
+pub use limit::{
+    ISOLATED_COST, MAX_CELLS, MAX_COURSES, MAX_CURRICULA, MAX_DAYS, MAX_LECTURES, MAX_MEMBERS,
+    MAX_MIN_DAYS, MAX_PERIODS, MAX_ROOMS, MAX_SEATS, MAX_SLOTS, MAX_UNAVAILABILITIES,
+    MISSING_DAY_COST,
+};
+pub use marks::Marks;
+pub use name_hasher::NameHasher;
+pub use names::Names;
+pub use parts::Parts;
+pub use rows::{
+    CourseList, CourseRow, CurriculumList, CurriculumRow, MemberList, RoomList, RoomRow,
+    UnavailabilityList, UnavailabilityRow,
 };

@@ -6,16 +6,16 @@ use Rattle.std.proofs.Math.Bool.{and-true}
 use Rattle.std.proofs.lemmas.Bool.{and_parts, and_from}
 use Rattle.std.proofs.lemmas.List.Elements.{All-filter, All-from_recursion}
 use Rattle.std.proofs.lemmas.Map.Views.{any-filter_same}
-use Rattle.tt_lists.specs.Words.{range_below, has_number}
-use Rattle.tt_lists.proofs.Filters.{list_any-of_filter}
-use Rattle.tt_lists.proofs.Members.{member_from_any}
-use Rattle.tt_lists.proofs.Numbers.{any_below}
-use Rattle.tt_lists.proofs.Range.{each_below}
-use Rattle.tt_lists.proofs.Truth.{same_truth}
-use Rattle.tt_instance_data.specs.Problem.{Problem}
-use Rattle.tt_instance_data.specs.Cells.{all_courses}
-use Rattle.tt_instance_data.specs.Courses.{in_curriculum, conflict}
-use Rattle.tt_instance_data.proofs.Exclusion.{conflict-turn}
+use Rattle.tt_list_laws.specs.Words.{range_below, has_number}
+use Rattle.tt_list_laws.proofs.Filters.{list_any-of_filter}
+use Rattle.tt_list_laws.proofs.Members.{member_from_any}
+use Rattle.tt_list_laws.proofs.Numbers.{any_below}
+use Rattle.tt_list_laws.proofs.Range.{each_below}
+use Rattle.tt_list_laws.proofs.Truth.{same_truth}
+use Rattle.tt_instance.specs.Problem.{Problem}
+use Rattle.tt_instance.specs.Cells.{all_courses}
+use Rattle.tt_instance.specs.Courses.{in_curriculum, conflict}
+use Rattle.tt_instance.proofs.Exclusion.{conflict-turn}
 use Rattle.tt_instance_links.specs.Inner.Links.{curricula_of, conflicts_of}
 
 -- the curricula are those that the course is in

@@ -5,7 +5,7 @@ ghost use Rattle.tt_instance_links.specs.Inner.Links.{curricula_of, conflicts_of
 
 use std::alloc::{AllocError, Global};
 use std::marker::Model;
-use tt_instance_data::Instance;
+use tt_instance::Instance;
 
 /// Numbers in ascending order.
 #[derive(Drop)]

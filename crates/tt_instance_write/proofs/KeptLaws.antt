@@ -3,13 +3,13 @@ use Rattle.std.proofs.Common.{◌≡◌, ℕ, true, not, List, refl, ap}
 use Rattle.std.specs.Prelude.{◌==◌, All}
 use Rattle.std.proofs.lemmas.List.Elements.{All-weaker}
 use Rattle.std.proofs.lemmas.List.Folds.{map_fixed}
-use Rattle.tt_lists.specs.Words.{each_two, distinct}
-use Rattle.tt_lists.proofs.Distinct.{distinct_stays}
-use Rattle.tt_instance_data.specs.Problem.{Curriculum, Unavailability, Problem}
-use Rattle.tt_instance_data.specs.Limits.{same_unavailability}
-use Rattle.tt_instance_data.specs.Spelling.{without_repeated_members, without_repeats}
-use Rattle.tt_instance.proofs.CurriculumLaws.{all_kept}
-use Rattle.tt_instance.proofs.KeptLaws.{HasOnce}
+use Rattle.tt_list_laws.specs.Words.{each_two, distinct}
+use Rattle.tt_list_laws.proofs.Distinct.{distinct_stays}
+use Rattle.tt_instance.specs.Problem.{Curriculum, Unavailability, Problem}
+use Rattle.tt_instance.specs.Limits.{same_unavailability}
+use Rattle.tt_instance.specs.Spelling.{without_repeated_members, without_repeats}
+use Rattle.tt_instance_read.proofs.CurriculumLaws.{all_kept}
+use Rattle.tt_instance_read.proofs.KeptLaws.{HasOnce}
 
 -- a curriculum that has each member once stays as it is
 curriculum_stays : (q : Curriculum) → HasOnce q → without_repeated_members q ≡ q

@@ -8,20 +8,20 @@ use Rattle.std.proofs.lemmas.List.Elements.{All-weaker}
 use Rattle.tt_text.specs.Pieces.{Piece, Text, Number}
 use Rattle.tt_text.specs.Lines.{text_of, line_text, lines_text}
 use Rattle.tt_text.proofs.Texts.{lines_text-append}
-use Rattle.tt_instance.specs.declared.fault.Word.{Word}
-use Rattle.tt_instance.specs.declared.fault.Word.TheVariants as word
-use Rattle.tt_instance_data.specs.declared.rows.CourseRow.{CourseRow}
-use Rattle.tt_instance_data.specs.declared.rows.CurriculumRow.{CurriculumRow}
-use Rattle.tt_instance_data.specs.declared.rows.UnavailabilityRow.{UnavailabilityRow}
-use Rattle.tt_instance_data.specs.declared.parts.Parts.{Parts}
-use Rattle.tt_instance.specs.Words.{fixed}
-use Rattle.tt_instance_data.specs.Problem.{Course, Room, Curriculum, Unavailability, Problem}
-use Rattle.tt_instance_data.specs.Courses.{no_course}
-use Rattle.tt_instance_data.specs.Limits.{IsInstance}
-use Rattle.tt_instance_data.specs.Spelling.{named, course_pieces, room_pieces, curriculum_pieces, unavailability_pieces}
+use Rattle.tt_instance_read.specs.declared.fault.Word.{Word}
+use Rattle.tt_instance_read.specs.declared.fault.Word.TheVariants as word
+use Rattle.tt_instance.specs.declared.rows.CourseRow.{CourseRow}
+use Rattle.tt_instance.specs.declared.rows.CurriculumRow.{CurriculumRow}
+use Rattle.tt_instance.specs.declared.rows.UnavailabilityRow.{UnavailabilityRow}
+use Rattle.tt_instance.specs.declared.parts.Parts.{Parts}
+use Rattle.tt_instance_read.specs.Words.{fixed}
+use Rattle.tt_instance.specs.Problem.{Course, Room, Curriculum, Unavailability, Problem}
+use Rattle.tt_instance.specs.Courses.{no_course}
+use Rattle.tt_instance.specs.Limits.{IsInstance}
+use Rattle.tt_instance.specs.Spelling.{named, course_pieces, room_pieces, curriculum_pieces, unavailability_pieces}
 use Rattle.tt_instance_write.specs.Writing.{counted_line, section, header_lines, instance_text}
-use Rattle.tt_instance_data.specs.Seen.{course_seen, courses_seen, curriculum_seen, curricula_seen, unavailability_seen, unavailabilities_seen, problem_seen}
-use Rattle.tt_instance_data.proofs.Each.{IsCurriculum, IsUnavailability}
+use Rattle.tt_instance.specs.Seen.{course_seen, courses_seen, curriculum_seen, curricula_seen, unavailability_seen, unavailabilities_seen, problem_seen}
+use Rattle.tt_instance.proofs.Each.{IsCurriculum, IsUnavailability}
 
 module _ {X Y : Type 0} (v : X → Y) where
   -- a line for each row

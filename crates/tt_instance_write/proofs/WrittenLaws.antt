@@ -7,16 +7,16 @@ use Rattle.tt_text.specs.Pieces.{Piece, Text, Number, Begins}
 use Rattle.tt_text.specs.Lines.{all_pieces, IsWritable, AreWritable, LinesWritable}
 use Rattle.tt_text.proofs.Lines.{lines_begin}
 use Rattle.tt_text.proofs.Parts.{all_pieces-append, all_pieces-map, AreWritable-map, LinesWritable-append, LinesWritable-map}
-use Rattle.tt_instance.specs.declared.fault.Word.{Word}
-use Rattle.tt_instance.specs.declared.fault.Word.TheVariants as word
-use Rattle.tt_instance.specs.Words.{word_text, fixed}
-use Rattle.tt_instance_data.specs.Problem.{Course, Unavailability, Problem}
-use Rattle.tt_instance_data.specs.Courses.{no_course}
-use Rattle.tt_instance_data.specs.Limits.{IsInstance}
-use Rattle.tt_instance_data.specs.Spelling.{course_pieces, room_pieces, curriculum_pieces, unavailability_pieces, pieces, named, Spells}
+use Rattle.tt_instance_read.specs.declared.fault.Word.{Word}
+use Rattle.tt_instance_read.specs.declared.fault.Word.TheVariants as word
+use Rattle.tt_instance_read.specs.Words.{word_text, fixed}
+use Rattle.tt_instance.specs.Problem.{Course, Unavailability, Problem}
+use Rattle.tt_instance.specs.Courses.{no_course}
+use Rattle.tt_instance.specs.Limits.{IsInstance}
+use Rattle.tt_instance.specs.Spelling.{course_pieces, room_pieces, curriculum_pieces, unavailability_pieces, pieces, named, Spells}
 use Rattle.tt_instance_write.specs.Writing.{section, header_lines, instance_lines, instance_text}
-use Rattle.tt_instance_data.proofs.Each.{IsCurriculum, IsUnavailability}
-use Rattle.tt_instance_data.proofs.CourseLimits.{each_few}
+use Rattle.tt_instance.proofs.Each.{IsCurriculum, IsUnavailability}
+use Rattle.tt_instance.proofs.CourseLimits.{each_few}
 use Rattle.tt_instance_write.proofs.KeptLaws.{kept_stays}
 
 -- each fixed word is a token

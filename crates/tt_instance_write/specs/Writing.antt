@@ -2,11 +2,11 @@
 use Rattle.std.specs.Prelude.{ℕ, List, [], ◌∷◌, ◌++◌, length, map}
 use Rattle.tt_text.specs.Pieces.{Piece, Text, Number}
 use Rattle.tt_text.specs.Lines.{lines_text}
-use Rattle.tt_instance.specs.declared.fault.Word.{Word}
-use Rattle.tt_instance.specs.declared.fault.Word.TheVariants as word
-use Rattle.tt_instance.specs.Words.{fixed}
-use Rattle.tt_instance_data.specs.Problem.{Problem}
-use Rattle.tt_instance_data.specs.Spelling.{course_pieces, room_pieces, curriculum_pieces, unavailability_pieces}
+use Rattle.tt_instance_read.specs.declared.fault.Word.{Word}
+use Rattle.tt_instance_read.specs.declared.fault.Word.TheVariants as word
+use Rattle.tt_instance_read.specs.Words.{fixed}
+use Rattle.tt_instance.specs.Problem.{Problem}
+use Rattle.tt_instance.specs.Spelling.{course_pieces, room_pieces, curriculum_pieces, unavailability_pieces}
 
 -- A line of a fixed word and a number.
 abbrev pub counted_line : Word → ℕ → List Piece

@@ -4,16 +4,16 @@ ghost use Rattle.std.specs.Prelude.{◌≡◌, ◌<◌, [], ◌∷◌, ◌++◌,
 ghost use Rattle.std.specs.Fmt.{decimal};
 ghost use Rattle.tt_text.specs.Pieces.{Text};
 ghost use Rattle.tt_text.specs.Lines.{line_text, lines_text};
-ghost use Rattle.tt_instance.specs.declared.fault.Word.TheVariants as word;
-ghost use Rattle.tt_instance.specs.Words.{fixed};
-ghost use Rattle.tt_instance_data.specs.Limits.{IsInstance};
-ghost use Rattle.tt_instance_data.specs.Spelling.{course_pieces, room_pieces, curriculum_pieces, unavailability_pieces, Spells};
+ghost use Rattle.tt_instance_read.specs.declared.fault.Word.TheVariants as word;
+ghost use Rattle.tt_instance_read.specs.Words.{fixed};
+ghost use Rattle.tt_instance.specs.Limits.{IsInstance};
+ghost use Rattle.tt_instance.specs.Spelling.{course_pieces, room_pieces, curriculum_pieces, unavailability_pieces, Spells};
 ghost use Rattle.tt_instance_write.specs.Writing.{counted_line, section, header_lines, instance_text};
-ghost use Rattle.tt_instance_data.specs.Seen.{name_seen, course_seen, courses_seen, room_seen, rooms_seen, curriculum_seen, curricula_seen, unavailability_seen, unavailabilities_seen, problem_seen};
+ghost use Rattle.tt_instance.specs.Seen.{name_seen, course_seen, courses_seen, room_seen, rooms_seen, curriculum_seen, curricula_seen, unavailability_seen, unavailabilities_seen, problem_seen};
 
 use std::alloc::{AllocError, Global};
-use tt_instance::Word;
-use tt_instance_data::{CourseRow, CurriculumRow, Instance, Parts, RoomRow, UnavailabilityRow};
+use tt_instance_read::Word;
+use tt_instance::{CourseRow, CurriculumRow, Instance, Parts, RoomRow, UnavailabilityRow};
 use tt_text::{put_number, put_token};
 
 /// Appends a space and a token.

@@ -4,12 +4,12 @@ use Rattle.std.specs.Prelude.{nat_lt}
 use Rattle.std.proofs.lemmas.Bool.{cases_lt, lt-ltb, le-ltb}
 use Rattle.tt_bits.specs.Inner.Bits.{has_bit}
 use Rattle.tt_bits.proofs.BitLaws.{has_bit-none}
-use Rattle.tt_instance_data.specs.Problem.{Problem}
-use Rattle.tt_instance_data.specs.Cells.{slot}
-use Rattle.tt_instance_data.specs.Courses.{members}
-use Rattle.tt_facts_path.specs.Live.{pinned}
-use Rattle.tt_facts_path.specs.declared.facts.Fact.{Fact}
-use Rattle.tt_facts_path.specs.declared.facts.Who.TheVariants.{Curriculum}
+use Rattle.tt_instance.specs.Problem.{Problem}
+use Rattle.tt_instance.specs.Cells.{slot}
+use Rattle.tt_instance.specs.Courses.{members}
+use Rattle.tt_path.specs.Live.{pinned}
+use Rattle.tt_path.specs.declared.facts.Fact.{Fact}
+use Rattle.tt_path.specs.declared.facts.Who.TheVariants.{Curriculum}
 use Rattle.tt_leaf_rules.specs.Claims.{is_alone}
 use Rattle.tt_leaf_rules.specs.Inner.Nested.{live_for, live_before, live_after}
 use Rattle.tt_leaf_rules.proofs.Nested.{by_sides}

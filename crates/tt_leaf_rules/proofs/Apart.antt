@@ -3,14 +3,14 @@ use Rattle.std.proofs.Common.{◌≡◌, ℕ, true, false, not, ◌&&◌, ◌||�
 use Rattle.std.specs.Prelude.{◌==◌, All}
 use Rattle.std.specs.List.{list_any, list_all}
 use Rattle.std.proofs.lemmas.List.Elements.{All-head, All-same, All-rest}
-use Rattle.tt_lists.proofs.All.{list_all-same}
-use Rattle.tt_lists.proofs.Sums.{list_any-of_map}
-use Rattle.tt_lists.proofs.Twos.{list_all-not, each_two-of_flat_map}
+use Rattle.tt_list_laws.proofs.All.{list_all-same}
+use Rattle.tt_list_laws.proofs.Sums.{list_any-of_map}
+use Rattle.tt_list_laws.proofs.Twos.{list_all-not, each_two-of_flat_map}
 use Rattle.tt_leaf_rules.specs.Claims.{Target, RoomCapacity, WorkingDays, Compactness, Stability, targets_of}
 use Rattle.tt_leaf_rules.specs.Inner.Nested.{claims_target, are_apart, IsOnce}
 use Rattle.tt_leaf_rules.specs.Tests.{claims_once, same_target}
-use Rattle.tt_leaf_data.specs.declared.leaf.Claim.{Claim}
-use Rattle.tt_leaf_data.specs.declared.leaf.Claim.TheVariants.{Capacity, Days, Compact, Stable, Prices, Stacked}
+use Rattle.tt_leaf.specs.declared.leaf.Claim.{Claim}
+use Rattle.tt_leaf.specs.declared.leaf.Claim.TheVariants.{Capacity, Days, Compact, Stable, Prices, Stacked}
 
 none_priced : (t : Target) → ((c : ℕ) → same_target t (RoomCapacity c) ≡ false) → (courses : List (ℕ × ℕ))
     → false ≡ list_any (same_target t) (map (λ k. RoomCapacity k.0) courses)

@@ -2,15 +2,15 @@
 use Rattle.std.proofs.Common.{◌≡◌, true, not, ◌&&◌, ◌||◌, List, refl, inl, inr, eq-eqb}
 use Rattle.std.specs.Prelude.{Contains, ◌==◌}
 use Rattle.std.proofs.lemmas.Bool.{and_parts, and_from, or_cases, not-true}
-use Rattle.tt_instance_data.specs.Problem.{Problem}
-use Rattle.tt_instance_data.specs.Cells.{slot_of, is_of, is_at, is_in, same_cell}
-use Rattle.tt_instance_data.specs.Courses.{conflict}
-use Rattle.tt_instance_data.specs.declared.cell.Cell.{Cell}
-use Rattle.tt_instance_data.proofs.Exclusion.{eqb-turn, same_cell-itself}
-use Rattle.tt_lists.proofs.Members.{only_one}
+use Rattle.tt_instance.specs.Problem.{Problem}
+use Rattle.tt_instance.specs.Cells.{slot_of, is_of, is_at, is_in, same_cell}
+use Rattle.tt_instance.specs.Courses.{conflict}
+use Rattle.tt_instance.specs.declared.cell.Cell.{Cell}
+use Rattle.tt_instance.proofs.Exclusion.{eqb-turn, same_cell-itself}
+use Rattle.tt_list_laws.proofs.Members.{only_one}
 use Rattle.tt_rules.specs.Score.{IsFeasible}
 use Rattle.tt_rules.proofs.Feasible.{in_range, once_at, one_in, no_collision}
-use Rattle.tt_facts_path.specs.Live.{clash}
+use Rattle.tt_path.specs.Live.{clash}
 
 module _ (p : Problem) (t : List Cell) (ok : IsFeasible p t) where
   -- no two entries clash

@@ -3,26 +3,26 @@ use Rattle.std.proofs.Common.{◌≡◌, ℕ, ◌≤◌, ◌<◌, true, false, n
 use Rattle.std.specs.Prelude.{Contains, ◌==◌, sum_by, count_by}
 use Rattle.std.specs.List.{list_any, AllByRecursion}
 use Rattle.std.proofs.lemmas.Bool.{and_parts, and_from, or_cases, not-true, both_ways}
-use Rattle.tt_lists.specs.Words.{each_two, are_distinct}
-use Rattle.tt_instance_data.specs.Problem.{Problem}
-use Rattle.tt_instance_data.specs.Cells.{slot_of, cell, all_slots, all_rooms, is_of, is_at, is_in}
-use Rattle.tt_instance_data.specs.Courses.{lectures, conflict}
-use Rattle.tt_instance_data.specs.declared.cell.Slot.{Slot}
+use Rattle.tt_list_laws.specs.Words.{each_two, are_distinct}
+use Rattle.tt_instance.specs.Problem.{Problem}
+use Rattle.tt_instance.specs.Cells.{slot_of, cell, all_slots, all_rooms, is_of, is_at, is_in}
+use Rattle.tt_instance.specs.Courses.{lectures, conflict}
+use Rattle.tt_instance.specs.declared.cell.Slot.{Slot}
 use Rattle.tt_rules.specs.Hard.{entries_of, periods_of, entries_in}
 use Rattle.tt_rules.specs.Score.{IsFeasible}
-use Rattle.tt_facts_path.specs.Facts.{matches, Fits}
-use Rattle.tt_facts_path.specs.Live.{is_dead, is_live, live_period, pinned, pinned_periods}
+use Rattle.tt_path.specs.Facts.{matches, Fits}
+use Rattle.tt_path.specs.Live.{is_dead, is_live, live_period, pinned, pinned_periods}
 use Rattle.tt_leaf_rules.specs.Leaves.{all_dead, open_periods, open_rooms, all_lectures}
-use Rattle.tt_instance_data.specs.declared.cell.Cell.{Cell}
-use Rattle.tt_facts_path.specs.declared.facts.Who.TheVariants.{Course}
-use Rattle.tt_facts_path.specs.declared.facts.Pattern.{Pattern}
-use Rattle.tt_facts_path.specs.declared.facts.Fact.{Fact}
-use Rattle.tt_lists.proofs.Sums.{one_if, cond-le, sum_by-le, sum_by-same, each, each_weaker, any_if_count, spread_up, once_at_least}
-use Rattle.tt_instance_data.proofs.Places.{any_slot, each_cell_at}
-use Rattle.tt_instance_data.proofs.Cells.{at_itself, is_at-slot}
-use Rattle.tt_lists.proofs.Numbers.{any_below}
-use Rattle.tt_lists.proofs.Members.{at_member, each_member, any_member, member_from_any, only_one}
-use Rattle.tt_lists.proofs.Apart.{one_at_most}
+use Rattle.tt_instance.specs.declared.cell.Cell.{Cell}
+use Rattle.tt_path.specs.declared.facts.Who.TheVariants.{Course}
+use Rattle.tt_path.specs.declared.facts.Pattern.{Pattern}
+use Rattle.tt_path.specs.declared.facts.Fact.{Fact}
+use Rattle.tt_list_laws.proofs.Sums.{one_if, cond-le, sum_by-le, sum_by-same, each, each_weaker, any_if_count, spread_up, once_at_least}
+use Rattle.tt_instance.proofs.Places.{any_slot, each_cell_at}
+use Rattle.tt_instance.proofs.Cells.{at_itself, is_at-slot}
+use Rattle.tt_list_laws.proofs.Numbers.{any_below}
+use Rattle.tt_list_laws.proofs.Members.{at_member, each_member, any_member, member_from_any, only_one}
+use Rattle.tt_list_laws.proofs.Apart.{one_at_most}
 use Rattle.tt_rules.proofs.Feasible.{in_range, lectures_met, once_a_period, one_in_room, no_collision, periods-le_entries}
 use Rattle.tt_leaf_rules.proofs.Live.{matched, not_dead, live_entry, live_period_of, pinned_entry}
 

@@ -6,18 +6,18 @@ use Rattle.std.proofs.lemmas.Bool.{cases_lt, cases_eq, eq-eqb, ne_eqb, and_parts
 use Rattle.std.proofs.Math.Nat.{div-add-mod}
 use Rattle.std.proofs.lemmas.List.{get_or-set_same, get_or-set_other, get_or-replicate, drop_more, drop_all}
 use Rattle.std.proofs.lemmas.List.Sums.{AllPass-from_list_all, list_all-from_AllPass, sum_by_more}
-use Rattle.tt_lists.proofs.Below.{all_pass}
-use Rattle.tt_lists.proofs.Sums.{sum_by-at_places, sum_by-same}
-use Rattle.tt_lists.proofs.Range.{at_below}
-use Rattle.tt_lists.proofs.Truth.{wanted, same_truth}
+use Rattle.tt_list_laws.proofs.Below.{all_pass}
+use Rattle.tt_list_laws.proofs.Sums.{sum_by-at_places, sum_by-same}
+use Rattle.tt_list_laws.proofs.Range.{at_below}
+use Rattle.tt_list_laws.proofs.Truth.{wanted, same_truth}
 use Rattle.tt_bits.specs.Inner.Bits.{has_bit, bits, each_bit}
 use Rattle.tt_bits.proofs.BitLaws.{each_bit_from, each_bit_at, each_bit-none, none-bit, bit_from_any}
-use Rattle.tt_instance_data.specs.Problem.{Problem}
-use Rattle.tt_instance_data.specs.Cells.{cell, all_slots}
-use Rattle.tt_instance_data.specs.Courses.{excess}
-use Rattle.tt_instance_data.specs.declared.cell.Slot.{Slot}
-use Rattle.tt_facts_path.specs.Live.{is_dead}
-use Rattle.tt_facts_path.specs.declared.facts.Fact.{Fact}
+use Rattle.tt_instance.specs.Problem.{Problem}
+use Rattle.tt_instance.specs.Cells.{cell, all_slots}
+use Rattle.tt_instance.specs.Courses.{excess}
+use Rattle.tt_instance.specs.declared.cell.Slot.{Slot}
+use Rattle.tt_path.specs.Live.{is_dead}
+use Rattle.tt_path.specs.declared.facts.Fact.{Fact}
 use Rattle.tt_leaf_rules.specs.Claims.{price_in, is_covered}
 use Rattle.tt_leaf_rules.specs.Inner.Nested.{clear_in, covered_in, covered}
 use Rattle.tt_leaf_rules.proofs.Nested.{covered_by_price}

@@ -5,7 +5,7 @@ use Rattle.std.specs.List.{list_all}
 use Rattle.std.proofs.lemmas.Bool.{and_parts, and_from, not-true, both_ways, not_from_false, false_from_ne_true}
 use Rattle.std.proofs.lemmas.List.Kept.{AllPairs-cons}
 use Rattle.std.proofs.lemmas.List.Sums.{AllPass-from_list_all, list_all-from_AllPass}
-use Rattle.tt_lists.specs.Words.{each_two}
+use Rattle.tt_list_laws.specs.Words.{each_two}
 
 -- each two are different
 abbrev pub AreDifferent : {X : Type 0} → List X → Type 0

@@ -4,22 +4,22 @@ use Rattle.std.specs.Prelude.{Contains, ◌==◌}
 use Rattle.std.specs.List.{list_any}
 use Rattle.std.proofs.lemmas.List.Elements.{All-contains}
 use Rattle.std.proofs.lemmas.Bool.{and_parts, and_from, or_cases, false_from_ne_true, not-true, both_ways, not_from_false}
-use Rattle.tt_instance_data.specs.Problem.{Problem}
-use Rattle.tt_instance_data.specs.Cells.{slot, slot_of, cell, is_of, is_at, is_in}
-use Rattle.tt_instance_data.specs.Courses.{unavailable}
-use Rattle.tt_instance_data.specs.declared.cell.Slot.{Slot}
+use Rattle.tt_instance.specs.Problem.{Problem}
+use Rattle.tt_instance.specs.Cells.{slot, slot_of, cell, is_of, is_at, is_in}
+use Rattle.tt_instance.specs.Courses.{unavailable}
+use Rattle.tt_instance.specs.declared.cell.Slot.{Slot}
 use Rattle.tt_rules.specs.Score.{IsFeasible}
-use Rattle.tt_facts_path.specs.Facts.{is_who, matches, Holds, Fits}
-use Rattle.tt_facts_path.specs.Live.{clash, is_barred, excludes, is_dead, is_live, live_period, live_day, gives, is_pinned_by, pinned, pinned_room}
-use Rattle.tt_instance_data.specs.declared.cell.Cell.{Cell}
-use Rattle.tt_facts_path.specs.declared.facts.Who.{Who}
-use Rattle.tt_facts_path.specs.declared.facts.Who.TheVariants.{Course}
-use Rattle.tt_facts_path.specs.declared.facts.Fact.{Fact}
-use Rattle.tt_lists.proofs.Numbers.{any_below}
-use Rattle.tt_lists.proofs.Members.{any_member, member_from_any}
-use Rattle.tt_instance_data.proofs.Places.{each_cell_at}
+use Rattle.tt_path.specs.Facts.{is_who, matches, Holds, Fits}
+use Rattle.tt_path.specs.Live.{clash, is_barred, excludes, is_dead, is_live, live_period, live_day, gives, is_pinned_by, pinned, pinned_room}
+use Rattle.tt_instance.specs.declared.cell.Cell.{Cell}
+use Rattle.tt_path.specs.declared.facts.Who.{Who}
+use Rattle.tt_path.specs.declared.facts.Who.TheVariants.{Course}
+use Rattle.tt_path.specs.declared.facts.Fact.{Fact}
+use Rattle.tt_list_laws.proofs.Numbers.{any_below}
+use Rattle.tt_list_laws.proofs.Members.{any_member, member_from_any}
+use Rattle.tt_instance.proofs.Places.{each_cell_at}
 use Rattle.tt_rules.proofs.Feasible.{in_range, available}
-use Rattle.tt_facts_path.proofs.Matching.{gives-agrees, speaks-is_who, Matches-from}
+use Rattle.tt_path.proofs.Matching.{gives-agrees, speaks-is_who, Matches-from}
 use Rattle.tt_leaf_rules.proofs.Clash.{no_clash}
 
 -- -- what a yes-fact says about the entry that matches it

@@ -5,18 +5,18 @@ use Rattle.std.specs.List.{list_all, AllByRecursion}
 use Rattle.std.proofs.lemmas.Bool.{cases_eq, ne_eqb}
 use Rattle.std.proofs.lemmas.List.{map-append}
 use Rattle.std.proofs.lemmas.List.Elements.{All-weaker, All-head, recursion_from_All, All-from_recursion}
-use Rattle.tt_lists.specs.Words.{each_two}
-use Rattle.tt_lists.proofs.All.{list_all-same}
-use Rattle.tt_lists.proofs.Below.{all_pass}
-use Rattle.tt_lists.proofs.Members.{each_two-of_map}
-use Rattle.tt_lists.proofs.Twos.{neither, each_two-same, list_all-both}
+use Rattle.tt_list_laws.specs.Words.{each_two}
+use Rattle.tt_list_laws.proofs.All.{list_all-same}
+use Rattle.tt_list_laws.proofs.Below.{all_pass}
+use Rattle.tt_list_laws.proofs.Members.{each_two-of_map}
+use Rattle.tt_list_laws.proofs.Twos.{neither, each_two-same, list_all-both}
 use Rattle.tt_leaf_rules.specs.Claims.{Target, RoomCapacity, WorkingDays, Compactness, Stability, targets_of, claimed}
 use Rattle.tt_leaf_rules.specs.Inner.NumberSet.{marked, are_new, place, places_of, IsPlaced}
-use Rattle.tt_leaf_data.specs.Ranges.{AreBelow, IsClaimOf}
+use Rattle.tt_leaf.specs.Ranges.{AreBelow, IsClaimOf}
 use Rattle.tt_leaf_rules.specs.Tests.{claims_once, same_target}
-use Rattle.tt_instance_data.specs.Problem.{Problem}
-use Rattle.tt_leaf_data.specs.declared.leaf.Claim.{Claim}
-use Rattle.tt_leaf_data.specs.declared.leaf.Claim.TheVariants.{Capacity, Days, Compact, Stable, Prices, Stacked}
+use Rattle.tt_instance.specs.Problem.{Problem}
+use Rattle.tt_leaf.specs.declared.leaf.Claim.{Claim}
+use Rattle.tt_leaf.specs.declared.leaf.Claim.TheVariants.{Capacity, Days, Compact, Stable, Prices, Stacked}
 
 -- if nothing is marked, numbers that differ are new
 pub new_at_first : (marks : List Bool) (ns : List ℕ) → ((k : ℕ) → marked marks k ≡ false)

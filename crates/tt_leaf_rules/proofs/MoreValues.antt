@@ -4,31 +4,31 @@ use Rattle.std.specs.Prelude.{Contains, ◌==◌, nat_le, sum_by, count_by}
 use Rattle.std.specs.List.{list_any, list_all}
 use Rattle.std.proofs.lemmas.List.Sums.{sum_by-cons}
 use Rattle.std.proofs.lemmas.Bool.{and_parts, and_from, or_cases, not-true, not_from_false, both_ways, cases_Bool, or_left, or_right, cond-true, cond-false}
-use Rattle.tt_lists.specs.Words.{each_two, are_distinct}
-use Rattle.tt_instance_data.specs.Problem.{Problem}
-use Rattle.tt_instance_data.specs.Cells.{slot, slot_of, cell, all_slots, all_rooms, all_days, is_of, is_at, is_in, is_on}
-use Rattle.tt_instance_data.specs.Courses.{lectures, excess}
-use Rattle.tt_instance_data.specs.declared.cell.Slot.{Slot}
+use Rattle.tt_list_laws.specs.Words.{each_two, are_distinct}
+use Rattle.tt_instance.specs.Problem.{Problem}
+use Rattle.tt_instance.specs.Cells.{slot, slot_of, cell, all_slots, all_rooms, all_days, is_of, is_at, is_in, is_on}
+use Rattle.tt_instance.specs.Courses.{lectures, excess}
+use Rattle.tt_instance.specs.declared.cell.Slot.{Slot}
 use Rattle.tt_rules.specs.Soft.{days_of, days_cost}
 use Rattle.tt_rules.specs.Score.{IsFeasible}
-use Rattle.tt_facts_path.specs.Facts.{Fits}
-use Rattle.tt_facts_path.specs.Live.{is_live, pinned, pinned_periods}
+use Rattle.tt_path.specs.Facts.{Fits}
+use Rattle.tt_path.specs.Live.{is_live, pinned, pinned_periods}
 use Rattle.tt_leaf_rules.specs.Claims.{RoomCapacity}
 use Rattle.tt_leaf_rules.specs.Claims.{part, price_in, are_covered, open_in, pinned_day, targets_of, value_of}
 use Rattle.tt_leaf_rules.specs.Tests.{same_target}
-use Rattle.tt_instance_data.specs.declared.cell.Cell.{Cell}
-use Rattle.tt_facts_path.specs.declared.facts.Who.TheVariants.{Course}
-use Rattle.tt_facts_path.specs.declared.facts.Fact.{Fact}
-use Rattle.tt_leaf_data.specs.declared.leaf.Claim.TheVariants.{Prices, Stacked}
-use Rattle.tt_lists.proofs.Sums.{one_if, one_if_any, cond-le, sum_by-le, sum_by-same, sum_by-plus, sum_by-of_map, sum_by-at_places, sum_by-times, each, each_from_list_all, list_any-of_map, spread_up, spread_down, once_at_most}
-use Rattle.tt_lists.proofs.Numbers.{any_below, count_below}
-use Rattle.tt_instance_data.proofs.Places.{count_slots, each_slot_at}
-use Rattle.tt_lists.proofs.Members.{at_member, each_member, any_member, member_from_any, count_by-split, each_two-of_map, each_below_at}
-use Rattle.tt_lists.proofs.Counting.{or-le, cond-le_plus}
+use Rattle.tt_instance.specs.declared.cell.Cell.{Cell}
+use Rattle.tt_path.specs.declared.facts.Who.TheVariants.{Course}
+use Rattle.tt_path.specs.declared.facts.Fact.{Fact}
+use Rattle.tt_leaf.specs.declared.leaf.Claim.TheVariants.{Prices, Stacked}
+use Rattle.tt_list_laws.proofs.Sums.{one_if, one_if_any, cond-le, sum_by-le, sum_by-same, sum_by-plus, sum_by-of_map, sum_by-at_places, sum_by-times, each, each_from_list_all, list_any-of_map, spread_up, spread_down, once_at_most}
+use Rattle.tt_list_laws.proofs.Numbers.{any_below, count_below}
+use Rattle.tt_instance.proofs.Places.{count_slots, each_slot_at}
+use Rattle.tt_list_laws.proofs.Members.{at_member, each_member, any_member, member_from_any, count_by-split, each_two-of_map, each_below_at}
+use Rattle.tt_list_laws.proofs.Counting.{or-le, cond-le_plus}
 use Rattle.tt_rules.proofs.Feasible.{in_range}
 use Rattle.tt_rules.proofs.Feasible.{lectures_met, one_in_each}
 use Rattle.tt_leaf_rules.proofs.Live.{live_entry, pinned_entry}
-use Rattle.tt_instance_data.proofs.Cells.{is_at-slot}
+use Rattle.tt_instance.proofs.Cells.{is_at-slot}
 use Rattle.tt_leaf_rules.proofs.Contradictions.{in_room_at_most}
 use Rattle.tt_leaf_rules.proofs.Values.{days_live}
 

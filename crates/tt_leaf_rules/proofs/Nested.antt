@@ -3,29 +3,29 @@ use Rattle.std.proofs.Common.{◌≡◌, ℕ, Bool, true, false, not, ◌&&◌, 
 use Rattle.std.specs.Prelude.{nat_lt, nat_le, ◌==◌, length, None, Some}
 use Rattle.std.specs.List.{list_all, list_any}
 use Rattle.std.proofs.lemmas.Bool.{and_parts, and_from, or_cases, or_left, or_right}
-use Rattle.tt_instance_data.specs.Problem.{Problem}
-use Rattle.tt_instance_data.specs.Cells.{slot, next_to, cell, all_rooms, all_slots, all_courses}
-use Rattle.tt_instance_data.specs.Courses.{members, excess, no_curriculum}
-use Rattle.tt_instance_data.specs.declared.cell.Slot.{Slot}
-use Rattle.tt_facts_path.specs.Facts.{agrees, is_who, matches}
-use Rattle.tt_facts_path.specs.Live.{is_dead, is_live, live_period}
-use Rattle.tt_facts_path.specs.Inner.Nested.{courses_of}
-use Rattle.tt_facts_path.specs.declared.facts.Who.TheVariants.{Course, Curriculum}
-use Rattle.tt_facts_path.specs.declared.facts.Pattern.{Pattern}
-use Rattle.tt_facts_path.specs.declared.facts.Fact.{Fact}
+use Rattle.tt_instance.specs.Problem.{Problem}
+use Rattle.tt_instance.specs.Cells.{slot, next_to, cell, all_rooms, all_slots, all_courses}
+use Rattle.tt_instance.specs.Courses.{members, excess, no_curriculum}
+use Rattle.tt_instance.specs.declared.cell.Slot.{Slot}
+use Rattle.tt_path.specs.Facts.{agrees, is_who, matches}
+use Rattle.tt_path.specs.Live.{is_dead, is_live, live_period}
+use Rattle.tt_path.specs.Inner.Nested.{courses_of}
+use Rattle.tt_path.specs.declared.facts.Who.TheVariants.{Course, Curriculum}
+use Rattle.tt_path.specs.declared.facts.Pattern.{Pattern}
+use Rattle.tt_path.specs.declared.facts.Fact.{Fact}
 use Rattle.std.proofs.Math.Bool.{and-true}
 use Rattle.std.proofs.lemmas.List.{get_or_past}
-use Rattle.tt_lists.specs.Words.{has_number}
-use Rattle.tt_lists.proofs.All.{list_all-same}
-use Rattle.tt_lists.proofs.Below.{all_pass}
-use Rattle.tt_lists.proofs.Twos.{neither, list_all-not, list_all-swap}
-use Rattle.tt_lists.proofs.Sums.{list_any_with, each_weaker}
-use Rattle.tt_lists.proofs.Truth.{same_truth}
-use Rattle.tt_instance_data.proofs.Places.{any_slot}
-use Rattle.tt_instance_data.proofs.Slots.{cells_in_rooms}
-use Rattle.tt_instance_data.proofs.Cells.{IsSlot, each_slot}
-use Rattle.tt_facts_path.proofs.Given.{at_number, list_all-of_members}
-use Rattle.tt_facts_path.proofs.Lost.{is_who-has}
+use Rattle.tt_list_laws.specs.Words.{has_number}
+use Rattle.tt_list_laws.proofs.All.{list_all-same}
+use Rattle.tt_list_laws.proofs.Below.{all_pass}
+use Rattle.tt_list_laws.proofs.Twos.{neither, list_all-not, list_all-swap}
+use Rattle.tt_list_laws.proofs.Sums.{list_any_with, each_weaker}
+use Rattle.tt_list_laws.proofs.Truth.{same_truth}
+use Rattle.tt_instance.proofs.Places.{any_slot}
+use Rattle.tt_instance.proofs.Slots.{cells_in_rooms}
+use Rattle.tt_instance.proofs.Cells.{IsSlot, each_slot}
+use Rattle.tt_path.proofs.Given.{at_number, list_all-of_members}
+use Rattle.tt_path.proofs.Lost.{is_who-has}
 use Rattle.tt_leaf_rules.specs.Leaves.{all_dead}
 use Rattle.tt_leaf_rules.specs.Claims.{is_alone, price_in}
 use Rattle.tt_leaf_rules.specs.Inner.Nested.{are_rooms_dead, is_period_dead, is_course_dead, is_gone_or_dead, live_before, live_after, covered_in}

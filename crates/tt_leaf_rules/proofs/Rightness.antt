@@ -3,25 +3,25 @@ use Rattle.std.proofs.Common.{◌≡◌, ℕ, ◌<◌, Bool, true, false, List, 
 use Rattle.std.specs.Prelude.{nat_lt, nat_le, ◌==◌, ◌↔◌, IsTrue, is_ok, Contains}
 use Rattle.std.specs.List.{list_all}
 use Rattle.std.proofs.lemmas.Bool.{and_parts, and_from}
-use Rattle.tt_lists.specs.Words.{each_two, are_distinct}
-use Rattle.tt_instance_data.specs.Problem.{Problem}
-use Rattle.tt_instance_data.specs.Courses.{lectures, conflict}
-use Rattle.tt_facts_path.specs.Facts.{has_fact}
-use Rattle.tt_facts_path.specs.Live.{pinned_periods}
-use Rattle.tt_facts_path.specs.declared.facts.Who.TheVariants.{Course}
-use Rattle.tt_facts_path.specs.declared.facts.Pattern.{Pattern}
-use Rattle.tt_facts_path.specs.declared.facts.Fact.{Fact}
-use Rattle.tt_facts_path.proofs.Same.{fact_there, yes_on_path}
+use Rattle.tt_list_laws.specs.Words.{each_two, are_distinct}
+use Rattle.tt_instance.specs.Problem.{Problem}
+use Rattle.tt_instance.specs.Courses.{lectures, conflict}
+use Rattle.tt_path.specs.Facts.{has_fact}
+use Rattle.tt_path.specs.Live.{pinned_periods}
+use Rattle.tt_path.specs.declared.facts.Who.TheVariants.{Course}
+use Rattle.tt_path.specs.declared.facts.Pattern.{Pattern}
+use Rattle.tt_path.specs.declared.facts.Fact.{Fact}
+use Rattle.tt_path.proofs.Same.{fact_there, yes_on_path}
 use Rattle.tt_leaf_rules.specs.Claims.{claimed, is_fair, total_of}
 use Rattle.tt_leaf_rules.specs.Faults.{demand, fault_of}
 use Rattle.tt_leaf_rules.specs.Leaves.{all_dead, open_periods, all_lectures, open_rooms, IsRight}
 use Rattle.tt_leaf_rules.specs.Outcomes.{outcome}
 use Rattle.tt_leaf_rules.specs.Tests.{claims_once, has_member, is_clique, same_target}
-use Rattle.tt_leaf_data.specs.declared.leaf.Bound.{Bound}
-use Rattle.tt_leaf_data.specs.declared.leaf.Bound.TheVariants.{AtLeast, Nothing}
-use Rattle.tt_leaf_data.specs.declared.leaf.Claim.{Claim}
-use Rattle.tt_leaf_data.specs.declared.leaf.Leaf.{Leaf}
-use Rattle.tt_leaf_data.specs.declared.leaf.Leaf.TheVariants.{Empty, Many, Clique, Slots, Cost}
+use Rattle.tt_leaf.specs.declared.leaf.Bound.{Bound}
+use Rattle.tt_leaf.specs.declared.leaf.Bound.TheVariants.{AtLeast, Nothing}
+use Rattle.tt_leaf.specs.declared.leaf.Claim.{Claim}
+use Rattle.tt_leaf.specs.declared.leaf.Leaf.{Leaf}
+use Rattle.tt_leaf.specs.declared.leaf.Leaf.TheVariants.{Empty, Many, Clique, Slots, Cost}
 use Rattle.tt_leaf_rules.specs.declared.fault.RuleFault.{RuleFault}
 use Rattle.tt_leaf_rules.specs.declared.fault.RuleFault.TheVariants.{NotOnPath, StillAlive, NotTooMany, NotAClique, EnoughRoom, ClaimedTwice, TooCheap, BadPrice}
 use Rattle.tt_leaf_rules.proofs.Different.{AreDifferent, different, each_two_differ}

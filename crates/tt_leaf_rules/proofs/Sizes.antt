@@ -8,20 +8,20 @@ use Rattle.std.proofs.lemmas.List.Elements.{recursion_from_All, All-weaker}
 use Rattle.std.proofs.lemmas.List.FromFn.{length-range_with_len}
 use Rattle.std.proofs.lemmas.List.Sums.{count_by-le-length}
 use Rattle.std.proofs.lemmas.Bool.{cases_lt, le-ltb, lt-leb, cond-true, cond-false, cases_Bool}
-use Rattle.tt_lists.specs.Words.{range_below, each_two}
-use Rattle.tt_lists.proofs.Sums.{each_weaker}
-use Rattle.tt_lists.proofs.Numbers.{any_below}
-use Rattle.tt_lists.proofs.Counting.{length-le_sum}
-use Rattle.tt_lists.proofs.Tested.{each_append}
-use Rattle.tt_lists.proofs.Members.{each_two-of_map}
-use Rattle.tt_lists.proofs.Apart.{distinct_sum}
-use Rattle.tt_instance_data.specs.Problem.{Problem}
+use Rattle.tt_list_laws.specs.Words.{range_below, each_two}
+use Rattle.tt_list_laws.proofs.Sums.{each_weaker}
+use Rattle.tt_list_laws.proofs.Numbers.{any_below}
+use Rattle.tt_list_laws.proofs.Counting.{length-le_sum}
+use Rattle.tt_list_laws.proofs.Tested.{each_append}
+use Rattle.tt_list_laws.proofs.Members.{each_two-of_map}
+use Rattle.tt_list_laws.proofs.Apart.{distinct_sum}
+use Rattle.tt_instance.specs.Problem.{Problem}
 use Rattle.tt_leaf_rules.specs.Claims.{Target, RoomCapacity, targets_of, claimed}
 use Rattle.tt_leaf_rules.specs.Inner.Nested.{PricesBelow, IsOnce}
-use Rattle.tt_leaf_data.specs.Ranges.{AreBelow, ArePrices, IsClaimOf}
+use Rattle.tt_leaf.specs.Ranges.{AreBelow, ArePrices, IsClaimOf}
 use Rattle.tt_leaf_rules.specs.Tests.{claims_once, same_target}
-use Rattle.tt_leaf_data.specs.declared.leaf.Claim.{Claim}
-use Rattle.tt_leaf_data.specs.declared.leaf.Claim.TheVariants.{Capacity, Days, Compact, Stable, Prices, Stacked}
+use Rattle.tt_leaf.specs.declared.leaf.Claim.{Claim}
+use Rattle.tt_leaf.specs.declared.leaf.Claim.TheVariants.{Capacity, Days, Compact, Stable, Prices, Stacked}
 use Rattle.tt_leaf_rules.proofs.Totals.{all_targets, same_target-true, same_target-itself, capacity_there, days_there, compactness_there, stability_there, length-all_targets}
 
 -- the count of distinct numbers below a bound is at most the bound

@@ -1,16 +1,16 @@
 -- The conclusion of a right leaf holds for every feasible timetable that fits its path.
 use Rattle.std.proofs.Common.{List, arith}
-use Rattle.tt_instance_data.specs.Problem.{Problem}
+use Rattle.tt_instance.specs.Problem.{Problem}
 use Rattle.tt_rules.specs.Score.{IsFeasible, cost}
-use Rattle.tt_facts_path.specs.Facts.{Fits}
+use Rattle.tt_path.specs.Facts.{Fits}
 use Rattle.tt_leaf_rules.specs.Leaves.{IsRight}
 use Rattle.tt_leaf_rules.specs.Bounds.{Respects}
-use Rattle.tt_instance_data.specs.declared.cell.Cell.{Cell}
-use Rattle.tt_facts_path.specs.declared.facts.Fact.{Fact}
-use Rattle.tt_leaf_data.specs.declared.leaf.Bound.{Bound}
-use Rattle.tt_leaf_data.specs.declared.leaf.Bound.TheVariants.{AtLeast, Nothing}
-use Rattle.tt_leaf_data.specs.declared.leaf.Leaf.{Leaf}
-use Rattle.tt_leaf_data.specs.declared.leaf.Leaf.TheVariants.{Empty, Many, Clique, Slots, Cost}
+use Rattle.tt_instance.specs.declared.cell.Cell.{Cell}
+use Rattle.tt_path.specs.declared.facts.Fact.{Fact}
+use Rattle.tt_leaf.specs.declared.leaf.Bound.{Bound}
+use Rattle.tt_leaf.specs.declared.leaf.Bound.TheVariants.{AtLeast, Nothing}
+use Rattle.tt_leaf.specs.declared.leaf.Leaf.{Leaf}
+use Rattle.tt_leaf.specs.declared.leaf.Leaf.TheVariants.{Empty, Many, Clique, Slots, Cost}
 use Rattle.tt_leaf_rules.proofs.Rightness.{courses_distinct, targets_once}
 use Rattle.tt_leaf_rules.proofs.Contradictions.{empty_sound, many_sound, clique_sound, slots_sound}
 use Rattle.tt_leaf_rules.proofs.Totals.{claims_sound}

@@ -7,25 +7,25 @@ use Rattle.std.proofs.lemmas.List.FromFn.{length-range_with_len}
 use Rattle.std.proofs.lemmas.List.Sums.{sum_by-append}
 use Rattle.std.proofs.lemmas.List.Folds.{list_any-append}
 use Rattle.std.proofs.lemmas.Bool.{both_ways, cases_lt, or_left, or_right, and_parts}
-use Rattle.tt_lists.specs.Words.{has_number, range_below, each_two}
-use Rattle.tt_instance_data.specs.Problem.{Problem}
-use Rattle.tt_instance_data.specs.Courses.{no_course, no_curriculum, in_curriculum, excess}
-use Rattle.tt_instance_data.specs.Cells.{all_courses, all_curricula, all_rooms, is_of, is_in}
+use Rattle.tt_list_laws.specs.Words.{has_number, range_below, each_two}
+use Rattle.tt_instance.specs.Problem.{Problem}
+use Rattle.tt_instance.specs.Courses.{no_course, no_curriculum, in_curriculum, excess}
+use Rattle.tt_instance.specs.Cells.{all_courses, all_curricula, all_rooms, is_of, is_in}
 use Rattle.tt_rules.specs.Soft.{is_isolated}
 use Rattle.tt_rules.specs.Score.{cost, IsFeasible}
-use Rattle.tt_facts_path.specs.Facts.{Fits}
+use Rattle.tt_path.specs.Facts.{Fits}
 use Rattle.tt_leaf_rules.specs.Claims.{Target, part, targets_of, value_of, is_fair, claimed, total_of}
 use Rattle.tt_leaf_rules.specs.Claims.{RoomCapacity, WorkingDays, Compactness, Stability}
 use Rattle.tt_leaf_rules.specs.Tests.{claims_once, same_target}
-use Rattle.tt_instance_data.specs.declared.cell.Cell.{Cell}
-use Rattle.tt_facts_path.specs.declared.facts.Fact.{Fact}
-use Rattle.tt_leaf_data.specs.declared.leaf.Claim.{Claim}
-use Rattle.tt_leaf_data.specs.declared.leaf.Claim.TheVariants.{Capacity, Days, Compact, Stable, Prices, Stacked}
-use Rattle.tt_lists.proofs.Sums.{sum_by-le, sum_by-of_map, sum_by-of_flat_map, each, list_any-of_map, spread_down, once_at_most, sum_by-nothing}
-use Rattle.tt_lists.proofs.Numbers.{any_below, count_below}
-use Rattle.tt_lists.proofs.Members.{each_two-of_append, each_member, member_from_any, none_counted}
-use Rattle.tt_lists.proofs.Apart.{distinct_sum}
-use Rattle.tt_lists.proofs.Counting.{nothing_if}
+use Rattle.tt_instance.specs.declared.cell.Cell.{Cell}
+use Rattle.tt_path.specs.declared.facts.Fact.{Fact}
+use Rattle.tt_leaf.specs.declared.leaf.Claim.{Claim}
+use Rattle.tt_leaf.specs.declared.leaf.Claim.TheVariants.{Capacity, Days, Compact, Stable, Prices, Stacked}
+use Rattle.tt_list_laws.proofs.Sums.{sum_by-le, sum_by-of_map, sum_by-of_flat_map, each, list_any-of_map, spread_down, once_at_most, sum_by-nothing}
+use Rattle.tt_list_laws.proofs.Numbers.{any_below, count_below}
+use Rattle.tt_list_laws.proofs.Members.{each_two-of_append, each_member, member_from_any, none_counted}
+use Rattle.tt_list_laws.proofs.Apart.{distinct_sum}
+use Rattle.tt_list_laws.proofs.Counting.{nothing_if}
 use Rattle.tt_rules.proofs.Feasible.{in_range}
 use Rattle.tt_leaf_rules.proofs.MoreValues.{priced_sound, stacked_sound}
 use Rattle.tt_leaf_rules.proofs.Values.{capacity_sound, days_sound, compact_sound, stable_sound}

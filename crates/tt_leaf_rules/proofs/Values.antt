@@ -3,31 +3,31 @@ use Rattle.std.proofs.Common.{◌≡◌, ℕ, ◌+◌, ◌-◌, ◌*◌, ◌≤�
 use Rattle.std.specs.Prelude.{Contains, ◌==◌, max, sum_by, count_by, filter}
 use Rattle.std.specs.List.{list_any}
 use Rattle.std.proofs.lemmas.Bool.{and_parts, and_from, false_from_ne_true, not-true, both_ways, not_from_false}
-use Rattle.tt_instance_data.specs.Problem.{Problem}
-use Rattle.tt_instance_data.specs.Cells.{slot_of, next_to, cell, all_slots, all_rooms, all_days, is_of, is_at, is_in, is_on}
-use Rattle.tt_instance_data.specs.Courses.{members, in_curriculum, excess}
-use Rattle.tt_instance_data.specs.declared.cell.Slot.{Slot}
+use Rattle.tt_instance.specs.Problem.{Problem}
+use Rattle.tt_instance.specs.Cells.{slot_of, next_to, cell, all_slots, all_rooms, all_days, is_of, is_at, is_in, is_on}
+use Rattle.tt_instance.specs.Courses.{members, in_curriculum, excess}
+use Rattle.tt_instance.specs.declared.cell.Slot.{Slot}
 use Rattle.tt_rules.specs.Hard.{entries_of}
 use Rattle.tt_rules.specs.Soft.{days_of, days_cost, is_isolated, compactness_cost, stability_cost}
 use Rattle.tt_rules.specs.Score.{IsFeasible}
-use Rattle.tt_facts_path.specs.Facts.{Fits}
-use Rattle.tt_facts_path.specs.Live.{is_live, live_period, live_day, least_with, least, least_excess, pinned, pinned_room}
+use Rattle.tt_path.specs.Facts.{Fits}
+use Rattle.tt_path.specs.Live.{is_live, live_period, live_day, least_with, least, least_excess, pinned, pinned_room}
 use Rattle.tt_leaf_rules.specs.Claims.{RoomCapacity}
 use Rattle.tt_leaf_rules.specs.Claims.{part, greatest, discount, is_alone, value_of}
 use Rattle.tt_leaf_rules.specs.Inner.Nested.{above_least, discounts}
-use Rattle.tt_instance_data.specs.declared.cell.Cell.{Cell}
-use Rattle.tt_facts_path.specs.declared.facts.Who.TheVariants.{Curriculum}
-use Rattle.tt_facts_path.specs.declared.facts.Fact.{Fact}
-use Rattle.tt_leaf_data.specs.declared.leaf.Claim.TheVariants.{Capacity, Days, Compact, Stable}
-use Rattle.tt_lists.proofs.Sums.{one_if, cond-le, sum_by-le, sum_by-same, sum_by-plus, each, each_weaker, one_if_any, spread_up, spread_down, once_at_least, once_at_most, sum_by-at_places}
-use Rattle.tt_instance_data.proofs.Places.{any_slot, count_slots}
-use Rattle.tt_lists.proofs.Numbers.{count_below}
-use Rattle.tt_lists.proofs.Members.{each_member, any_member, member_from_any, member_cases, number_below}
-use Rattle.tt_lists.proofs.Counting.{cond-le_plus, cond-same}
+use Rattle.tt_instance.specs.declared.cell.Cell.{Cell}
+use Rattle.tt_path.specs.declared.facts.Who.TheVariants.{Curriculum}
+use Rattle.tt_path.specs.declared.facts.Fact.{Fact}
+use Rattle.tt_leaf.specs.declared.leaf.Claim.TheVariants.{Capacity, Days, Compact, Stable}
+use Rattle.tt_list_laws.proofs.Sums.{one_if, cond-le, sum_by-le, sum_by-same, sum_by-plus, each, each_weaker, one_if_any, spread_up, spread_down, once_at_least, once_at_most, sum_by-at_places}
+use Rattle.tt_instance.proofs.Places.{any_slot, count_slots}
+use Rattle.tt_list_laws.proofs.Numbers.{count_below}
+use Rattle.tt_list_laws.proofs.Members.{each_member, any_member, member_from_any, member_cases, number_below}
+use Rattle.tt_list_laws.proofs.Counting.{cond-le_plus, cond-same}
 use Rattle.tt_rules.proofs.Feasible.{in_range}
 use Rattle.tt_rules.proofs.Feasible.{lectures_met, once_a_period}
 use Rattle.tt_leaf_rules.proofs.Live.{live_entry, live_period_of, live_day_of, pinned_entry, pinned_room_entry}
-use Rattle.tt_instance_data.proofs.Cells.{is_at-slot, at_itself}
+use Rattle.tt_instance.proofs.Cells.{is_at-slot, at_itself}
 
 -- ---- discounts
 

@@ -2,15 +2,15 @@
 use Rattle.std.proofs.Common.{◌≡◌, ℕ, ◌+◌, ◌*◌, ◌<◌, ◌≤◌, Bool, ◌&&◌, cond, map, sym, ap, ◌∙◌, arith}
 use Rattle.std.specs.Prelude.{nat_lt, sum_by, count_by}
 use Rattle.std.proofs.lemmas.List.Sums.{count_by-le-length}
-use Rattle.tt_lists.specs.Words.{range_below}
-use Rattle.tt_lists.proofs.Numbers.{sum_more}
-use Rattle.tt_lists.proofs.Sums.{sum_by-same, sum_by-of_map, sum_by-of_flat_map}
+use Rattle.tt_list_laws.specs.Words.{range_below}
+use Rattle.tt_list_laws.proofs.Numbers.{sum_more}
+use Rattle.tt_list_laws.proofs.Sums.{sum_by-same, sum_by-of_map, sum_by-of_flat_map}
 use Rattle.tt_bits.specs.Inner.Bits.{has_bit, bits}
 use Rattle.tt_bits.proofs.Counts.{count-set}
-use Rattle.tt_instance_data.specs.Problem.{Problem}
-use Rattle.tt_instance_data.specs.Cells.{slot, all_slots, all_days}
-use Rattle.tt_instance_data.specs.declared.cell.Slot.{Slot}
-use Rattle.tt_instance_data.proofs.Slots.{length-all_slots}
+use Rattle.tt_instance.specs.Problem.{Problem}
+use Rattle.tt_instance.specs.Cells.{slot, all_slots, all_days}
+use Rattle.tt_instance.specs.declared.cell.Slot.{Slot}
+use Rattle.tt_instance.proofs.Slots.{length-all_slots}
 
 -- how many periods of a day pass
 abbrev pub on_day : Problem → (Slot → Bool) → ℕ → ℕ

@@ -1,21 +1,21 @@
 -- The first fault of a leaf, or none if it is right.
 use Rattle.std.specs.Prelude.{nat_lt, nat_le, Bool, true, List, Option, Some, None, if◌then◌else◌}
 use Rattle.std.specs.List.{list_all}
-use Rattle.tt_lists.specs.Words.{are_distinct}
-use Rattle.tt_instance_data.specs.Problem.{Problem}
-use Rattle.tt_instance_data.specs.Courses.{lectures}
-use Rattle.tt_facts_path.specs.Facts.{has_fact}
-use Rattle.tt_facts_path.specs.Live.{pinned_periods}
-use Rattle.tt_facts_path.specs.declared.facts.Who.TheVariants.{Course}
-use Rattle.tt_facts_path.specs.declared.facts.Fact.{Fact}
+use Rattle.tt_list_laws.specs.Words.{are_distinct}
+use Rattle.tt_instance.specs.Problem.{Problem}
+use Rattle.tt_instance.specs.Courses.{lectures}
+use Rattle.tt_path.specs.Facts.{has_fact}
+use Rattle.tt_path.specs.Live.{pinned_periods}
+use Rattle.tt_path.specs.declared.facts.Who.TheVariants.{Course}
+use Rattle.tt_path.specs.declared.facts.Fact.{Fact}
 use Rattle.tt_leaf_rules.specs.Claims.{is_fair, total_of}
 use Rattle.tt_leaf_rules.specs.Leaves.{all_dead, all_lectures, open_periods, open_rooms}
 use Rattle.tt_leaf_rules.specs.Tests.{claims_once, is_clique}
-use Rattle.tt_leaf_data.specs.declared.leaf.Bound.{Bound}
-use Rattle.tt_leaf_data.specs.declared.leaf.Bound.TheVariants.{AtLeast, Nothing}
-use Rattle.tt_leaf_data.specs.declared.leaf.Claim.{Claim}
-use Rattle.tt_leaf_data.specs.declared.leaf.Leaf.{Leaf}
-use Rattle.tt_leaf_data.specs.declared.leaf.Leaf.TheVariants.{Empty, Many, Clique, Slots, Cost}
+use Rattle.tt_leaf.specs.declared.leaf.Bound.{Bound}
+use Rattle.tt_leaf.specs.declared.leaf.Bound.TheVariants.{AtLeast, Nothing}
+use Rattle.tt_leaf.specs.declared.leaf.Claim.{Claim}
+use Rattle.tt_leaf.specs.declared.leaf.Leaf.{Leaf}
+use Rattle.tt_leaf.specs.declared.leaf.Leaf.TheVariants.{Empty, Many, Clique, Slots, Cost}
 use Rattle.tt_leaf_rules.specs.declared.fault.RuleFault.{RuleFault}
 use Rattle.tt_leaf_rules.specs.declared.fault.RuleFault.TheVariants.{NotOnPath, StillAlive, NotTooMany, NotAClique, EnoughRoom, ClaimedTwice, TooCheap, NoBound, BadPrice}
 

@@ -1,20 +1,20 @@
 -- When a leaf closes a node.
 use Rattle.std.specs.Prelude.{◌≡◌, ℕ, ◌<◌, ◌≤◌, Bool, true, not, ◌||◌, List, length, Contains, sum_by, count_by}
 use Rattle.std.specs.List.{list_any, list_all}
-use Rattle.tt_lists.specs.Words.{each_two, AreDistinct}
-use Rattle.tt_instance_data.specs.Problem.{Problem}
-use Rattle.tt_instance_data.specs.Cells.{cell, all_rooms, all_slots, all_cells}
-use Rattle.tt_instance_data.specs.Courses.{lectures, conflict}
-use Rattle.tt_facts_path.specs.Facts.{matches}
-use Rattle.tt_facts_path.specs.Live.{is_dead, is_live, live_period, pinned_periods}
-use Rattle.tt_facts_path.specs.declared.facts.Who.TheVariants.{Course}
-use Rattle.tt_facts_path.specs.declared.facts.Pattern.{Pattern}
-use Rattle.tt_facts_path.specs.declared.facts.Fact.{Fact}
+use Rattle.tt_list_laws.specs.Words.{each_two, AreDistinct}
+use Rattle.tt_instance.specs.Problem.{Problem}
+use Rattle.tt_instance.specs.Cells.{cell, all_rooms, all_slots, all_cells}
+use Rattle.tt_instance.specs.Courses.{lectures, conflict}
+use Rattle.tt_path.specs.Facts.{matches}
+use Rattle.tt_path.specs.Live.{is_dead, is_live, live_period, pinned_periods}
+use Rattle.tt_path.specs.declared.facts.Who.TheVariants.{Course}
+use Rattle.tt_path.specs.declared.facts.Pattern.{Pattern}
+use Rattle.tt_path.specs.declared.facts.Fact.{Fact}
 use Rattle.tt_leaf_rules.specs.Claims.{claimed, is_fair, total_of}
-use Rattle.tt_leaf_data.specs.declared.leaf.Bound.{Bound}
-use Rattle.tt_leaf_data.specs.declared.leaf.Bound.TheVariants.{AtLeast, Nothing}
-use Rattle.tt_leaf_data.specs.declared.leaf.Leaf.{Leaf}
-use Rattle.tt_leaf_data.specs.declared.leaf.Leaf.TheVariants.{Empty, Many, Clique, Slots, Cost}
+use Rattle.tt_leaf.specs.declared.leaf.Bound.{Bound}
+use Rattle.tt_leaf.specs.declared.leaf.Bound.TheVariants.{AtLeast, Nothing}
+use Rattle.tt_leaf.specs.declared.leaf.Leaf.{Leaf}
+use Rattle.tt_leaf.specs.declared.leaf.Leaf.TheVariants.{Empty, Many, Clique, Slots, Cost}
 
 -- Each cell that the pattern matches is dead.
 abbrev pub all_dead : Problem → List Fact → Pattern → Bool

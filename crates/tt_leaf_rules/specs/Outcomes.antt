@@ -1,11 +1,11 @@
 -- The result of checking a leaf, and the value of a leaf's claims.
 use Rattle.std.specs.Prelude.{◌≡◌, ℕ, true, List, Option, Some, None, Result, Ok, Err, ⊤}
-use Rattle.tt_instance_data.specs.Problem.{Problem}
-use Rattle.tt_facts_path.specs.declared.facts.Fact.{Fact}
+use Rattle.tt_instance.specs.Problem.{Problem}
+use Rattle.tt_path.specs.declared.facts.Fact.{Fact}
 use Rattle.tt_leaf_rules.specs.Claims.{total_of}
 use Rattle.tt_leaf_rules.specs.Tests.{claims_once}
-use Rattle.tt_leaf_data.specs.declared.leaf.Leaf.{Leaf}
-use Rattle.tt_leaf_data.specs.declared.leaf.Leaf.TheVariants.{Empty, Many, Clique, Slots, Cost}
+use Rattle.tt_leaf.specs.declared.leaf.Leaf.{Leaf}
+use Rattle.tt_leaf.specs.declared.leaf.Leaf.TheVariants.{Empty, Many, Clique, Slots, Cost}
 use Rattle.tt_leaf_rules.specs.declared.fault.RuleFault.{RuleFault}
 
 -- The fault as an error.

@@ -1,10 +1,10 @@
 -- The code's tests of a leaf, from which its faults are computed. They don't define when a leaf is right: Leaves does, in plain words.
 use Rattle.std.specs.Prelude.{ℕ, ◌==◌, Bool, true, false, not, ◌&&◌, List, [], ◌∷◌}
-use Rattle.tt_lists.specs.Words.{each_two}
-use Rattle.tt_instance_data.specs.Problem.{Problem}
-use Rattle.tt_instance_data.specs.Courses.{conflict}
+use Rattle.tt_list_laws.specs.Words.{each_two}
+use Rattle.tt_instance.specs.Problem.{Problem}
+use Rattle.tt_instance.specs.Courses.{conflict}
 use Rattle.tt_leaf_rules.specs.Claims.{Target, RoomCapacity, WorkingDays, Compactness, Stability, claimed}
-use Rattle.tt_leaf_data.specs.declared.leaf.Claim.{Claim}
+use Rattle.tt_leaf.specs.declared.leaf.Claim.{Claim}
 
 -- The list has at least one course.
 abbrev pub has_member : List ℕ → Bool

@@ -3,11 +3,11 @@
 ghost use Rattle.std.specs.Prelude.{◌≡◌, ◌<◌, ◌≤◌, ◌*◌, length};
 ghost use Rattle.tt_leaf_rules.specs.Claims.{value_of};
 ghost use Rattle.tt_leaf_rules.specs.Inner.Nested.{above_least, discounts};
-ghost use Rattle.tt_leaf_data.specs.declared.leaf.Claim.TheVariants.{Capacity};
+ghost use Rattle.tt_leaf.specs.declared.leaf.Claim.TheVariants.{Capacity};
 ghost use Rattle.tt_leaf_rules.specs.declared.limit.TheConstants.{MAX_TARGET_VALUE};
 
 use crate::slots::{slot_at, slot_count};
-use tt_facts_path::Path;
+use tt_path::Path;
 
 fn above_least(price: u64, least: Option<u64>) -> u64
     ensures value { result ≡ above_least price least }

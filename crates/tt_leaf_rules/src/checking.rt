@@ -5,10 +5,10 @@ ghost use Rattle.tt_leaf_rules.specs.Claims.{total_of};
 ghost use Rattle.tt_leaf_rules.specs.Faults.{fault_of};
 ghost use Rattle.tt_leaf_rules.specs.Leaves.{IsRight};
 ghost use Rattle.tt_leaf_rules.specs.Outcomes.{outcome, leaf_total, IsClaimedOnce};
-ghost use Rattle.tt_leaf_data.specs.Ranges.{AreBelow, IsClaimOf, IsLeafOf};
+ghost use Rattle.tt_leaf.specs.Ranges.{AreBelow, IsClaimOf, IsLeafOf};
 ghost use Rattle.tt_leaf_rules.specs.Tests.{claims_once};
-ghost use Rattle.tt_leaf_data.specs.declared.leaf.Bound.TheVariants.{AtLeast, Nothing};
-ghost use Rattle.tt_leaf_data.specs.declared.leaf.Leaf.TheVariants.{Empty, Many, Clique, Slots, Cost};
+ghost use Rattle.tt_leaf.specs.declared.leaf.Bound.TheVariants.{AtLeast, Nothing};
+ghost use Rattle.tt_leaf.specs.declared.leaf.Leaf.TheVariants.{Empty, Many, Clique, Slots, Cost};
 
 use crate::claims::{are_fair, are_worth, total};
 use crate::empty::are_all_dead;
@@ -16,9 +16,9 @@ use crate::fault::RuleFault;
 use crate::groups::{are_distinct, has_more_lectures, is_clique, open_periods, open_rooms};
 use crate::pinned::pinned_periods;
 use crate::targets::are_claimed_once;
-use tt_facts_path::{Path, Pattern, Who};
-use tt_instance_data::{MAX_COURSES, MAX_CURRICULA};
-use tt_leaf_data::{Bound, Claim, Leaf};
+use tt_path::{Path, Pattern, Who};
+use tt_instance::{MAX_COURSES, MAX_CURRICULA};
+use tt_leaf::{Bound, Claim, Leaf};
 
 fn fault_of_empty<'i, P: Path<'i>>(path: &P, pattern: &Pattern) -> Option<RuleFault>
     ensures { result ≡ fault_of (P.problem path.now) (P.facts path.now) Nothing (Empty pattern.now) }

@@ -3,7 +3,7 @@
 ghost use Rattle.std.specs.Prelude.{◌≡◌, ◌≤◌, ◌*◌, ◌-◌, ◌^◌, min, nat_le, length, All};
 ghost use Rattle.std.specs.List.{list_all};
 ghost use Rattle.tt_leaf_rules.specs.Claims.{targets_of, is_fair, value_of, claimed, total_of};
-ghost use Rattle.tt_leaf_data.specs.Ranges.{IsClaimOf};
+ghost use Rattle.tt_leaf.specs.Ranges.{IsClaimOf};
 ghost use Rattle.tt_leaf_rules.specs.declared.limit.TheConstants.{MAX_TARGET_VALUE};
 
 use crate::capacity::capacity_value;
@@ -11,8 +11,8 @@ use crate::days::{days_value, stacked_value};
 use crate::isolated::compact_value;
 use crate::prices::{are_covered, prices_value};
 use crate::stable::stable_value;
-use tt_facts_path::Path;
-use tt_leaf_data::Claim;
+use tt_path::Path;
+use tt_leaf::Claim;
 
 /// Returns the value of a claim on a path, in cost points.
 #[tactic(auto, using(crate::proofs::Sizes::prices_below))]

@@ -2,15 +2,15 @@
 
 ghost use Rattle.std.specs.Prelude.{◌≡◌, ◌<◌, ◌≤◌, ◌*◌, length};
 ghost use Rattle.tt_leaf_rules.specs.Claims.{live_days, pinned_day, pinned_days, value_of};
-ghost use Rattle.tt_leaf_data.specs.declared.leaf.Claim.TheVariants.{Days, Stacked};
-ghost use Rattle.tt_instance_data.specs.declared.limit.TheConstants.{MAX_DAYS, MAX_MIN_DAYS};
+ghost use Rattle.tt_leaf.specs.declared.leaf.Claim.TheVariants.{Days, Stacked};
+ghost use Rattle.tt_instance.specs.declared.limit.TheConstants.{MAX_DAYS, MAX_MIN_DAYS};
 
 use crate::pinned::pinned_periods;
 use tt_bits::is_empty;
-use tt_facts_path::{Path, Who};
-use tt_instance_data::{MAX_PERIODS, MISSING_DAY_COST};
+use tt_path::{Path, Who};
+use tt_instance::{MAX_PERIODS, MISSING_DAY_COST};
 
-#[tactic(auto, using(tt_lists::proofs::Numbers::count_more))]
+#[tactic(auto, using(tt_list_laws::proofs::Numbers::count_more))]
 fn live_days<'i, P: Path<'i>>(path: &P, course: u32) -> u32
     requires { course < length (P.problem path.now).courses }
     ensures value { result ≡ live_days (P.problem path.now) (P.facts path.now) course }
@@ -46,7 +46,7 @@ fn is_pinned_day<'i, P: Path<'i>>(path: &P, course: u32, day: u32) -> bool
     !is_empty(path.pinned_periods(Who::Course(course), day))
 }
 
-#[tactic(auto, using(tt_lists::proofs::Numbers::count_more))]
+#[tactic(auto, using(tt_list_laws::proofs::Numbers::count_more))]
 fn pinned_days<'i, P: Path<'i>>(path: &P, course: u32) -> u32
     requires { course < length (P.problem path.now).courses }
     ensures value { result ≡ pinned_days (P.problem path.now) (P.facts path.now) course }

@@ -2,21 +2,21 @@
 
 ghost use Rattle.std.specs.Prelude.{◌≡◌, ◌<◌, ◌≤◌, ◌+◌, ◌-◌, ◌*◌, ◌^◌, ◌==◌, ◌&&◌, ℕ, not, min, nat_lt, length};
 ghost use Rattle.std.specs.List.{list_all};
-ghost use Rattle.tt_lists.specs.Words.{each_two, are_distinct};
+ghost use Rattle.tt_list_laws.specs.Words.{each_two, are_distinct};
 ghost use Rattle.tt_bits.specs.Inner.Bits.{has_bit};
-ghost use Rattle.tt_instance_data.specs.Cells.{slot};
-ghost use Rattle.tt_instance_data.specs.Courses.{conflict};
+ghost use Rattle.tt_instance.specs.Cells.{slot};
+ghost use Rattle.tt_instance.specs.Courses.{conflict};
 ghost use Rattle.tt_leaf_rules.specs.Leaves.{all_lectures, open_periods, open_rooms};
 ghost use Rattle.tt_leaf_rules.specs.Inner.Nested.{live_for, live_in, open_in_period};
-ghost use Rattle.tt_leaf_data.specs.Ranges.{AreBelow};
+ghost use Rattle.tt_leaf.specs.Ranges.{AreBelow};
 ghost use Rattle.tt_leaf_rules.specs.Tests.{is_clique};
-ghost use Rattle.tt_instance_data.specs.declared.limit.TheConstants.{MAX_COURSES, MAX_ROOMS, MAX_SLOTS};
+ghost use Rattle.tt_instance.specs.declared.limit.TheConstants.{MAX_COURSES, MAX_ROOMS, MAX_SLOTS};
 
 use crate::number_set::{MAX_COMPARED, NumberSet};
 use crate::slots::{slot_at, slot_count};
 use tt_bits::{below, count, either};
-use tt_facts_path::Path;
-use tt_instance_data::{Instance, MAX_PERIODS};
+use tt_path::Path;
+use tt_instance::{Instance, MAX_PERIODS};
 
 fn is_in_conflict_with_each(instance: &Instance<'_>, course: u32, others: &[u32]) -> bool
     ensures { result ≡ list_all (conflict instance.now course) others.now }

@@ -2,18 +2,18 @@
 
 ghost use Rattle.std.specs.Prelude.{◌≡◌, ◌<◌, ◌≤◌, ◌*◌, ◌&&◌, ℕ, nat_lt, length};
 ghost use Rattle.tt_bits.specs.Inner.Bits.{has_bit};
-ghost use Rattle.tt_instance_data.specs.Cells.{slot};
-ghost use Rattle.tt_facts_path.specs.Live.{pinned};
-ghost use Rattle.tt_facts_path.specs.declared.facts.Who.TheVariants.{Curriculum};
+ghost use Rattle.tt_instance.specs.Cells.{slot};
+ghost use Rattle.tt_path.specs.Live.{pinned};
+ghost use Rattle.tt_path.specs.declared.facts.Who.TheVariants.{Curriculum};
 ghost use Rattle.tt_leaf_rules.specs.Claims.{is_alone, value_of};
 ghost use Rattle.tt_leaf_rules.specs.Inner.Nested.{isolated_periods};
-ghost use Rattle.tt_leaf_data.specs.declared.leaf.Claim.TheVariants.{Compact};
-ghost use Rattle.tt_instance_data.specs.declared.limit.TheConstants.{MAX_SLOTS};
+ghost use Rattle.tt_leaf.specs.declared.leaf.Claim.TheVariants.{Compact};
+ghost use Rattle.tt_instance.specs.declared.limit.TheConstants.{MAX_SLOTS};
 
 use crate::groups::open_on;
 use tt_bits::{count, next, previous, without};
-use tt_facts_path::{Path, Who};
-use tt_instance_data::{ISOLATED_COST, MAX_DAYS, MAX_PERIODS};
+use tt_path::{Path, Who};
+use tt_instance::{ISOLATED_COST, MAX_DAYS, MAX_PERIODS};
 
 /// Returns the pinned periods of a curriculum on a day that have no live neighbour period, as a set.
 fn isolated_on<'i, P: Path<'i>>(path: &P, curriculum: u32, day: u32) -> u64

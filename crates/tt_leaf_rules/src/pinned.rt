@@ -1,13 +1,13 @@
 //! The periods that the yes-facts of a path pin.
 
 ghost use Rattle.std.specs.Prelude.{◌≡◌, ◌≤◌};
-ghost use Rattle.tt_facts_path.specs.Facts.{IsWho};
-ghost use Rattle.tt_facts_path.specs.Live.{pinned_periods};
-ghost use Rattle.tt_instance_data.specs.declared.limit.TheConstants.{MAX_SLOTS};
+ghost use Rattle.tt_path.specs.Facts.{IsWho};
+ghost use Rattle.tt_path.specs.Live.{pinned_periods};
+ghost use Rattle.tt_instance.specs.declared.limit.TheConstants.{MAX_SLOTS};
 
 use tt_bits::count;
-use tt_facts_path::{Path, Who};
-use tt_instance_data::MAX_PERIODS;
+use tt_path::{Path, Who};
+use tt_instance::MAX_PERIODS;
 
 /// Counts the periods of the week that are pinned for a course or a curriculum.
 pub fn pinned_periods<'i, P: Path<'i>>(path: &P, who: Who) -> u32

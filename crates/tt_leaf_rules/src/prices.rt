@@ -3,20 +3,20 @@
 ghost use Rattle.std.specs.Prelude.{◌≡◌, ◌<◌, ◌≤◌, ◌+◌, ◌*◌, ◌/◌, ◌%◌, ◌^◌, ◌&&◌, ℕ, nat_lt, cond, sum_by, length, slice_index_or};
 ghost use Rattle.std.specs.List.{list_all};
 ghost use Rattle.tt_bits.specs.Inner.Bits.{has_bit};
-ghost use Rattle.tt_instance_data.specs.Cells.{slot, all_slots};
-ghost use Rattle.tt_instance_data.specs.Courses.{lectures, excess};
+ghost use Rattle.tt_instance.specs.Cells.{slot, all_slots};
+ghost use Rattle.tt_instance.specs.Courses.{lectures, excess};
 ghost use Rattle.tt_leaf_rules.specs.Claims.{price_in, are_covered, value_of};
 ghost use Rattle.tt_leaf_rules.specs.Inner.Nested.{PricesBelow, clear_in, priced_live_in, course_prices, room_prices, covered};
-ghost use Rattle.tt_leaf_data.specs.Ranges.{ArePrices};
-ghost use Rattle.tt_leaf_data.specs.declared.leaf.Claim.TheVariants.{Prices};
-ghost use Rattle.tt_instance_data.specs.declared.limit.TheConstants.{MAX_COURSES, MAX_ROOMS, MAX_SLOTS};
+ghost use Rattle.tt_leaf.specs.Ranges.{ArePrices};
+ghost use Rattle.tt_leaf.specs.declared.leaf.Claim.TheVariants.{Prices};
+ghost use Rattle.tt_instance.specs.declared.limit.TheConstants.{MAX_COURSES, MAX_ROOMS, MAX_SLOTS};
 ghost use Rattle.tt_leaf_rules.specs.declared.limit.TheConstants.{MAX_TARGET_VALUE};
 
 use crate::room_prices::RoomPrices;
 use crate::slots::{slot_at, slot_count};
 use tt_bits::{below, both, either, has_bit, is_empty, with_if};
-use tt_facts_path::Path;
-use tt_instance_data::{Instance, MAX_ROOMS, Slot};
+use tt_path::Path;
+use tt_instance::{Instance, MAX_ROOMS, Slot};
 
 /// The rooms of a block: a word has one bit for each.
 const BLOCK: u32 = 64;

@@ -1,7 +1,7 @@
 //! The prices of rooms, by number.
 
 ghost use Rattle.std.specs.Prelude.{◌≡◌, ◌<◌};
-ghost use Rattle.tt_instance_data.specs.declared.limit.TheConstants.{MAX_ROOMS};
+ghost use Rattle.tt_instance.specs.declared.limit.TheConstants.{MAX_ROOMS};
 ghost use Rattle.tt_leaf_rules.specs.Claims.{price_in};
 
 use std::marker::Model;

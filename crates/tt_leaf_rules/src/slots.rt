@@ -1,11 +1,11 @@
 //! The periods of the week, by their places from 0.
 
 ghost use Rattle.std.specs.Prelude.{◌≡◌, ◌<◌, ◌≤◌, length, slice_index_or};
-ghost use Rattle.tt_instance_data.specs.Cells.{all_slots};
-ghost use Rattle.tt_instance_data.specs.Limits.{IsInstance};
-ghost use Rattle.tt_instance_data.specs.declared.limit.TheConstants.{MAX_SLOTS};
+ghost use Rattle.tt_instance.specs.Cells.{all_slots};
+ghost use Rattle.tt_instance.specs.Limits.{IsInstance};
+ghost use Rattle.tt_instance.specs.declared.limit.TheConstants.{MAX_SLOTS};
 
-use tt_instance_data::{Instance, Slot};
+use tt_instance::{Instance, Slot};
 
 /// Returns how many periods the week has.
 pub fn slot_count(instance: &Instance<'_>) -> u32

@@ -3,11 +3,11 @@
 ghost use Rattle.std.specs.Prelude.{◌≡◌, ◌<◌, ◌≤◌, length};
 ghost use Rattle.tt_leaf_rules.specs.Claims.{value_of};
 ghost use Rattle.tt_leaf_rules.specs.Inner.Nested.{pinned_rooms};
-ghost use Rattle.tt_leaf_data.specs.declared.leaf.Claim.TheVariants.{Stable};
-ghost use Rattle.tt_instance_data.specs.declared.limit.TheConstants.{MAX_ROOMS};
+ghost use Rattle.tt_leaf.specs.declared.leaf.Claim.TheVariants.{Stable};
+ghost use Rattle.tt_instance.specs.declared.limit.TheConstants.{MAX_ROOMS};
 
 use tt_bits::count;
-use tt_facts_path::Path;
+use tt_path::Path;
 
 #[inline(always)]
 fn pinned_rooms<'i, P: Path<'i>>(path: &P, course: u32) -> u32

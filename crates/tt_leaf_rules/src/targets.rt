@@ -9,7 +9,7 @@ ghost use Rattle.tt_leaf_rules.specs.Tests.{claims_once};
 ghost use Rattle.tt_leaf_rules.specs.declared.number_set.TheConstants.{PLACES};
 
 use crate::number_set::{MAX_COMPARED, NumberSet};
-use tt_leaf_data::Claim;
+use tt_leaf::Claim;
 
 fn is_priced(courses: &[(u32, u32)], course: u32) -> bool
     ensures { result ≡ list_any (λ k. course == k.0) courses.now }

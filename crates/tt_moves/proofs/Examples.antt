@@ -1,7 +1,7 @@
 -- Steps of a small timetable.
 use Rattle.std.proofs.Common.{◌≡◌, List, [], ◌∷◌, refl}
-use Rattle.tt_instance_data.specs.declared.cell.Cell.{Cell}
-use Rattle.tt_instance_data.proofs.Examples.{at}
+use Rattle.tt_instance.specs.declared.cell.Cell.{Cell}
+use Rattle.tt_instance.proofs.Examples.{at}
 use Rattle.tt_moves.specs.Steps.{stepped}
 use Rattle.tt_moves.specs.declared.step.Step.TheVariants.{Move, Swap}
 

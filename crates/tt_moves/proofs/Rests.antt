@@ -3,14 +3,14 @@ use Rattle.std.proofs.Common.{◌≡◌, ℕ, ◌+◌, ◌-◌, ◌≤◌, ◌<�
 use Rattle.std.specs.Prelude.{◌==◌, nat_lt, count_by}
 use Rattle.std.specs.List.{list_any}
 use Rattle.std.proofs.lemmas.Bool.Decides.{nat_tests}
-use Rattle.tt_lists.specs.Words.{range_below}
-use Rattle.tt_lists.proofs.Sums.{one_if, count_by-cons, sum_by-same}
-use Rattle.tt_lists.proofs.Tests.{same_test}
-use Rattle.tt_instance_data.specs.Cells.{slot_of, is_of, is_at}
-use Rattle.tt_instance_data.specs.declared.cell.Cell.{Cell}
-use Rattle.tt_occupancy_tallies.specs.Weight.{repeats}
-use Rattle.tt_occupancy_tallies.proofs.Chosen.{any_counted}
-use Rattle.tt_occupancy_tallies.proofs.Spreads.{used_more}
+use Rattle.tt_list_laws.specs.Words.{range_below}
+use Rattle.tt_list_laws.proofs.Sums.{one_if, count_by-cons, sum_by-same}
+use Rattle.tt_list_laws.proofs.Tests.{same_test}
+use Rattle.tt_instance.specs.Cells.{slot_of, is_of, is_at}
+use Rattle.tt_instance.specs.declared.cell.Cell.{Cell}
+use Rattle.tt_tallies.specs.Weight.{repeats}
+use Rattle.tt_tallies.proofs.Chosen.{any_counted}
+use Rattle.tt_tallies.proofs.Spreads.{used_more}
 use Rattle.tt_moves.specs.Inner.Rests.{IsRest}
 use Rattle.tt_moves.specs.declared.rest.WithoutEntry.{WithoutEntry}
 

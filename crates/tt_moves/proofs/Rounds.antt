@@ -4,14 +4,14 @@ use Rattle.std.specs.Prelude.{◌==◌, nat_lt}
 use Rattle.std.proofs.lemmas.Bool.{and_from, cases_eq, cases_lt, lt-ltb, le-ltb}
 use Rattle.std.proofs.lemmas.Bool.Decides.{nat_tests}
 use Rattle.std.proofs.Math.Bool.{or_comm}
-use Rattle.tt_lists.proofs.Sums.{one_if}
-use Rattle.tt_instance_data.specs.Problem.{Problem}
-use Rattle.tt_instance_data.specs.Cells.{slot, is_at}
-use Rattle.tt_instance_data.specs.Courses.{in_curriculum}
-use Rattle.tt_instance_data.specs.declared.cell.Cell.{Cell}
+use Rattle.tt_list_laws.proofs.Sums.{one_if}
+use Rattle.tt_instance.specs.Problem.{Problem}
+use Rattle.tt_instance.specs.Cells.{slot, is_at}
+use Rattle.tt_instance.specs.Courses.{in_curriculum}
+use Rattle.tt_instance.specs.declared.cell.Cell.{Cell}
 use Rattle.tt_table.specs.Table.{IsTimetable}
-use Rattle.tt_occupancy_tallies.specs.Inner.Neighbours.{entries_at, has_entry_at, has_neighbour, joined_before, joined_after}
-use Rattle.tt_occupancy_tallies.proofs.Chosen.{any_counted}
+use Rattle.tt_tallies.specs.Inner.Neighbours.{entries_at, has_entry_at, has_neighbour, joined_before, joined_after}
+use Rattle.tt_tallies.proofs.Chosen.{any_counted}
 use Rattle.tt_occupancy.proofs.TakenPeriods.{none_taken}
 use Rattle.tt_moves.specs.Inner.Rests.{IsRest, IsStill}
 use Rattle.tt_moves.specs.Inner.Rounds.{has_next, OtherIsHandled}

@@ -6,13 +6,13 @@ use Rattle.std.proofs.lemmas.List.{length-set, get_or-set_same, get_or-set_other
 use Rattle.std.proofs.lemmas.List.Edits.{get_or-remove_below, get_or-remove_above, length-remove}
 use Rattle.std.proofs.lemmas.List.Elements.{All-set}
 use Rattle.std.proofs.lemmas.List.Sums.{sum_by-remove, sum_by-set}
-use Rattle.tt_lists.proofs.Sums.{one_if}
-use Rattle.tt_instance_data.specs.Problem.{Problem}
-use Rattle.tt_instance_data.specs.Cells.{InRange, is_of}
-use Rattle.tt_instance_data.specs.declared.cell.Cell.{Cell}
+use Rattle.tt_list_laws.proofs.Sums.{one_if}
+use Rattle.tt_instance.specs.Problem.{Problem}
+use Rattle.tt_instance.specs.Cells.{InRange, is_of}
+use Rattle.tt_instance.specs.declared.cell.Cell.{Cell}
 use Rattle.tt_table.specs.Table.{IsTimetable}
-use Rattle.tt_occupancy_tallies.specs.Bag.{SameBag}
-use Rattle.tt_occupancy_tallies.proofs.Bags.{bag_front, bag_set, bag_swap}
+use Rattle.tt_tallies.specs.Bag.{SameBag}
+use Rattle.tt_tallies.proofs.Bags.{bag_front, bag_set, bag_swap}
 use Rattle.tt_occupancy.specs.Filled.{Filled}
 use Rattle.tt_moves.specs.Inner.Exchanges.{IsExchange, IsFirst, Lead}
 use Rattle.tt_moves.specs.Inner.Rests.{IsRest, rest_without}

@@ -1,8 +1,8 @@
 -- The cost of one entry at its place.
 use Rattle.std.specs.Prelude.{◌≡◌, ℕ, List, remove}
-use Rattle.tt_instance_data.specs.Problem.{Problem}
-use Rattle.tt_instance_data.specs.declared.cell.Cell.{Cell}
-use Rattle.tt_occupancy_tallies.specs.Weight.{cost_rise, cost_fall}
+use Rattle.tt_instance.specs.Problem.{Problem}
+use Rattle.tt_instance.specs.declared.cell.Cell.{Cell}
+use Rattle.tt_tallies.specs.Weight.{cost_rise, cost_fall}
 use Rattle.tt_moves.specs.Steps.{entry_at}
 use Rattle.tt_moves.specs.declared.cost.EntryCost.{EntryCost}
 

@@ -1,7 +1,7 @@
 -- Steps from one timetable to the next.
 use Rattle.std.specs.Prelude.{ℕ, ◌<◌, List, length}
-use Rattle.tt_instance_data.specs.Problem.{Problem}
-use Rattle.tt_instance_data.specs.declared.cell.Cell.{Cell}
+use Rattle.tt_instance.specs.Problem.{Problem}
+use Rattle.tt_instance.specs.declared.cell.Cell.{Cell}
 pub use Rattle.tt_occupancy.specs.Filled.{no_entry, entry_at, in_place_of, moved, swapped}
 use Rattle.tt_moves.specs.declared.step.Step.{Step}
 use Rattle.tt_moves.specs.declared.step.Step.TheVariants.{Move, Swap}

@@ -1,8 +1,8 @@
 //! The change of the score when one entry replaces another.
 
 ghost use Rattle.std.specs.Prelude.{◌≡◌, List, pos, neg_ℤ, ◌+ℤ◌, ◌≤ℤ◌};
-ghost use Rattle.tt_instance_data.specs.Problem.{Problem};
-ghost use Rattle.tt_instance_data.specs.declared.cell.Cell.{Cell};
+ghost use Rattle.tt_instance.specs.Problem.{Problem};
+ghost use Rattle.tt_instance.specs.declared.cell.Cell.{Cell};
 ghost use Rattle.tt_rules.specs.Score.{hard, cost};
 ghost use Rattle.tt_rules.specs.declared.limit.TheConstants.{MAX_COUNT};
 ghost use Rattle.tt_moves.specs.Inner.Exchanges.{IsExchange, CanExchange};

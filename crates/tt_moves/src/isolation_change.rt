@@ -1,15 +1,15 @@
 //! The isolated entries that an entry would add and join.
 
 ghost use Rattle.std.specs.Prelude.{◌≡◌, ◌+◌, ◌*◌, ◌<◌, ◌≤◌, true, List, length, filter, All};
-ghost use Rattle.tt_instance_data.specs.Cells.{InRange, all_curricula};
-ghost use Rattle.tt_instance_data.specs.Courses.{in_curriculum};
-ghost use Rattle.tt_instance_data.specs.declared.cell.Cell.{Cell};
-ghost use Rattle.tt_occupancy_tallies.specs.Weight.{alone, all_joined};
+ghost use Rattle.tt_instance.specs.Cells.{InRange, all_curricula};
+ghost use Rattle.tt_instance.specs.Courses.{in_curriculum};
+ghost use Rattle.tt_instance.specs.declared.cell.Cell.{Cell};
+ghost use Rattle.tt_tallies.specs.Weight.{alone, all_joined};
 ghost use Rattle.tt_moves.specs.Inner.Rests.{IsRest};
 ghost use Rattle.tt_table.specs.declared.table.TheConstants.{MAX_ENTRIES};
 
 use crate::rest::WithoutEntry;
-use tt_instance_data::MAX_CURRICULA;
+use tt_instance::MAX_CURRICULA;
 use tt_occupancy::IsolationChange;
 use tt_table::Entry;
 

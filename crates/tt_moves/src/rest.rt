@@ -1,19 +1,19 @@
 //! A timetable without an entry, read without writing.
 
 ghost use Rattle.std.specs.Prelude.{◌≡◌, ◌+◌, ◌-◌, ◌<◌, ◌≤◌, ◌==◌, ◌&&◌, true, cond, List, ◌∷◌, length, remove};
-ghost use Rattle.tt_instance_data.specs.Cells.{InRange, slot_of, is_at, is_in};
-ghost use Rattle.tt_instance_data.specs.Courses.{in_curriculum, conflict};
-ghost use Rattle.tt_instance_data.specs.declared.cell.Cell.{Cell};
+ghost use Rattle.tt_instance.specs.Cells.{InRange, slot_of, is_at, is_in};
+ghost use Rattle.tt_instance.specs.Courses.{in_curriculum, conflict};
+ghost use Rattle.tt_instance.specs.declared.cell.Cell.{Cell};
 ghost use Rattle.tt_table.specs.declared.table.TheConstants.{MAX_ENTRIES};
 ghost use Rattle.tt_rules.specs.Soft.{days_of};
-ghost use Rattle.tt_occupancy_tallies.specs.Tallies.{rooms_of};
-ghost use Rattle.tt_occupancy_tallies.specs.Inner.Neighbours.{entries_at};
-ghost use Rattle.tt_occupancy_tallies.specs.Weight.{repeats, shares, against};
+ghost use Rattle.tt_tallies.specs.Tallies.{rooms_of};
+ghost use Rattle.tt_tallies.specs.Inner.Neighbours.{entries_at};
+ghost use Rattle.tt_tallies.specs.Weight.{repeats, shares, against};
 ghost use Rattle.tt_moves.specs.Inner.Rests.{IsRest, rest_without};
 ghost use Rattle.tt_moves.specs.Inner.Rounds.{OtherIsHandled};
-ghost use Rattle.tt_instance_data.specs.declared.limit.TheConstants.{MAX_SLOTS};
+ghost use Rattle.tt_instance.specs.declared.limit.TheConstants.{MAX_SLOTS};
 
-use tt_instance_data::{Instance, Slot};
+use tt_instance::{Instance, Slot};
 use tt_occupancy::{Occupied, one_if};
 use tt_table::Entry;
 

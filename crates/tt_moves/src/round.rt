@@ -2,10 +2,10 @@
 
 ghost use Rattle.std.specs.Prelude.{◌≡◌, ℕ, ◌+◌, ◌*◌, ◌^◌, ◌<◌, ◌≤◌, ◌&&◌, nat_lt, cond, not, true, List, [], ◌∷◌, ◌++◌, length};
 ghost use Rattle.tt_bits.specs.Inner.Bits.{has_bit};
-ghost use Rattle.tt_instance_data.specs.Cells.{slot, is_at};
-ghost use Rattle.tt_instance_data.specs.Courses.{in_curriculum};
-ghost use Rattle.tt_instance_data.specs.declared.cell.Cell.{Cell};
-ghost use Rattle.tt_occupancy_tallies.specs.Inner.Neighbours.{entries_at, joined_before, joined_after};
+ghost use Rattle.tt_instance.specs.Cells.{slot, is_at};
+ghost use Rattle.tt_instance.specs.Courses.{in_curriculum};
+ghost use Rattle.tt_instance.specs.declared.cell.Cell.{Cell};
+ghost use Rattle.tt_tallies.specs.Inner.Neighbours.{entries_at, joined_before, joined_after};
 ghost use Rattle.tt_occupancy.specs.Inner.NeighbourCounts.{IsIsolationChange};
 ghost use Rattle.tt_moves.specs.Inner.Rests.{IsRest, IsStill};
 ghost use Rattle.tt_moves.specs.Inner.Rounds.{AreTaken, AreIsolated, OtherIsHandled};
@@ -14,9 +14,9 @@ ghost use Rattle.tt_table.specs.declared.table.TheConstants.{MAX_ENTRIES};
 use crate::neighbours::neighbours;
 use crate::rest::WithoutEntry;
 use tt_bits::{has_bit, next, previous, without};
-use tt_instance_data::MAX_PERIODS;
+use tt_instance::MAX_PERIODS;
 use tt_occupancy::{IsolationChange, one_if};
-use tt_occupancy_tallies::put;
+use tt_tallies::put;
 use tt_table::Entry;
 
 impl WithoutEntry<'_, '_, '_> {

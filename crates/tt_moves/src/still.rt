@@ -1,8 +1,8 @@
 //! The conditions under which the moved entry makes no difference.
 
 ghost use Rattle.std.specs.Prelude.{◌≡◌, ℕ, true, false, List};
-ghost use Rattle.tt_instance_data.specs.Courses.{in_curriculum};
-ghost use Rattle.tt_instance_data.specs.declared.cell.Cell.{Cell};
+ghost use Rattle.tt_instance.specs.Courses.{in_curriculum};
+ghost use Rattle.tt_instance.specs.declared.cell.Cell.{Cell};
 ghost use Rattle.tt_moves.specs.Inner.Rests.{IsRest, IsStill};
 
 use crate::rest::WithoutEntry;

@@ -1,18 +1,18 @@
 //! The weight of an entry next to the others.
 
 ghost use Rattle.std.specs.Prelude.{◌≡◌, ◌+◌, ◌-◌, ◌*◌, ◌≤◌, List, ◌∷◌};
-ghost use Rattle.tt_instance_data.specs.Cells.{InRange};
-ghost use Rattle.tt_instance_data.specs.declared.cell.Cell.{Cell};
+ghost use Rattle.tt_instance.specs.Cells.{InRange};
+ghost use Rattle.tt_instance.specs.declared.cell.Cell.{Cell};
 ghost use Rattle.tt_rules.specs.Soft.{days_cost, stability_cost};
-ghost use Rattle.tt_occupancy_tallies.specs.Weight.{hard_weight};
+ghost use Rattle.tt_tallies.specs.Weight.{hard_weight};
 ghost use Rattle.tt_moves.specs.Pricing.{IsCost};
 ghost use Rattle.tt_moves.specs.Inner.Rests.{IsRest};
-ghost use Rattle.tt_instance_data.specs.declared.limit.TheConstants.{MAX_MIN_DAYS, MAX_SLOTS};
+ghost use Rattle.tt_instance.specs.declared.limit.TheConstants.{MAX_MIN_DAYS, MAX_SLOTS};
 ghost use Rattle.tt_table.specs.declared.table.TheConstants.{MAX_ENTRIES};
 
 use crate::cost::EntryCost;
 use crate::rest::WithoutEntry;
-use tt_instance_data::{ISOLATED_COST, MISSING_DAY_COST};
+use tt_instance::{ISOLATED_COST, MISSING_DAY_COST};
 use tt_occupancy::one_if;
 use tt_table::Entry;
 

@@ -5,22 +5,22 @@ use Rattle.std.specs.List.{list_any}
 use Rattle.std.proofs.lemmas.Bool.{cases_Bool, cases_lt, and_parts, and_from, or_cases, or_left, or_right}
 use Rattle.std.proofs.lemmas.List.Elements.{Contains-get_or, recursion_from_All}
 use Rattle.std.proofs.lemmas.List.Folds.{list_any_at}
-use Rattle.tt_lists.specs.Words.{count_pairs}
-use Rattle.tt_instance_data.specs.Problem.{Problem}
-use Rattle.tt_instance_data.specs.Cells.{slot_of, all_slots, all_courses, all_rooms, is_of, is_at, is_in}
-use Rattle.tt_instance_data.specs.Courses.{lectures, conflict}
+use Rattle.tt_list_laws.specs.Words.{count_pairs}
+use Rattle.tt_instance.specs.Problem.{Problem}
+use Rattle.tt_instance.specs.Cells.{slot_of, all_slots, all_courses, all_rooms, is_of, is_at, is_in}
+use Rattle.tt_instance.specs.Courses.{lectures, conflict}
 use Rattle.tt_table.specs.Table.{IsTimetable}
 use Rattle.tt_rules.specs.Hard.{entries_of, periods_of, entries_in, collide, lectures_off, availability_count}
 use Rattle.tt_rules.specs.Score.{IsFeasible}
-use Rattle.tt_instance_data.specs.declared.cell.Slot.{Slot}
-use Rattle.tt_instance_data.specs.declared.cell.Cell.{Cell}
-use Rattle.tt_lists.proofs.Sums.{one_if, one_if_true, one_if_false, count_by-cons, any_if_count, count_if_any, sum_by-nothing, sum_by-same, sum_by-le, spread_up, once_at_least, each}
-use Rattle.tt_instance_data.proofs.Places.{any_slot}
-use Rattle.tt_lists.proofs.Members.{member_from_any}
-use Rattle.tt_instance_data.proofs.Exclusion.{eqb-turn}
+use Rattle.tt_instance.specs.declared.cell.Slot.{Slot}
+use Rattle.tt_instance.specs.declared.cell.Cell.{Cell}
+use Rattle.tt_list_laws.proofs.Sums.{one_if, one_if_true, one_if_false, count_by-cons, any_if_count, count_if_any, sum_by-nothing, sum_by-same, sum_by-le, spread_up, once_at_least, each}
+use Rattle.tt_instance.proofs.Places.{any_slot}
+use Rattle.tt_list_laws.proofs.Members.{member_from_any}
+use Rattle.tt_instance.proofs.Exclusion.{eqb-turn}
 use Rattle.tt_rules.proofs.Feasible.{once_at, one_in, no_collision}
 use Rattle.tt_moves_chain.specs.Chains.{exclude}
-use Rattle.tt_instance_data.proofs.Cells.{at_itself}
+use Rattle.tt_instance.proofs.Cells.{at_itself}
 
 abbrev pub same_period : Cell → Cell → Bool
 same_period x y = (x.day == y.day) && (x.period == y.period)

@@ -3,12 +3,12 @@ use Rattle.std.proofs.Common.{◌≡◌, ℕ, ◌<◌, true, false, ◌||◌, Li
 use Rattle.std.specs.Prelude.{◌==◌, All}
 use Rattle.std.proofs.lemmas.List.{get_or_default}
 use Rattle.std.proofs.lemmas.List.Folds.{list_any_at}
-use Rattle.tt_lists.specs.Words.{has_number}
-use Rattle.tt_instance_data.specs.Problem.{Problem}
-use Rattle.tt_instance_data.specs.Cells.{is_at}
-use Rattle.tt_instance_data.specs.Courses.{unavailable}
-use Rattle.tt_instance_data.specs.declared.cell.Cell.{Cell}
-use Rattle.tt_instance_data.specs.declared.cell.Slot.{Slot}
+use Rattle.tt_list_laws.specs.Words.{has_number}
+use Rattle.tt_instance.specs.Problem.{Problem}
+use Rattle.tt_instance.specs.Cells.{is_at}
+use Rattle.tt_instance.specs.Courses.{unavailable}
+use Rattle.tt_instance.specs.declared.cell.Cell.{Cell}
+use Rattle.tt_instance.specs.declared.cell.Slot.{Slot}
 use Rattle.tt_occupancy.specs.Filled.{no_entry, entry_at}
 use Rattle.tt_moves_chain.specs.Answers.{MayTurn}
 use Rattle.tt_moves_chain.specs.Chains.{linked, other, IsClosed, IsOpen}

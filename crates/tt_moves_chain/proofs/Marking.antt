@@ -4,7 +4,7 @@ use Rattle.std.specs.Prelude.{◌⊎◌, Contains, slice_set}
 use Rattle.std.proofs.lemmas.Bool.{cases_eq, cases_lt, both_ways}
 use Rattle.std.proofs.lemmas.List.{get_or_past, length-set, length-append, get_or-set_same, get_or-set_other}
 use Rattle.std.proofs.lemmas.List.Elements.{Contains-append_left, Contains-push, Contains-push_cases}
-use Rattle.tt_lists.proofs.Sums.{count_by-cons, one_if_true, one_if_false}
+use Rattle.tt_list_laws.proofs.Sums.{count_by-cons, one_if_true, one_if_false}
 use Rattle.tt_moves_chain.specs.Marks.{marked, marks, IsMarking}
 
 -- A marked place is one of the list.

@@ -9,14 +9,14 @@ use Rattle.std.proofs.lemmas.List.Folds.{list_any_at}
 use Rattle.std.proofs.lemmas.List.FromFn.{length-range_with_len, get_or-range_with_len}
 use Rattle.std.proofs.lemmas.List.Kept.{IsStrictlyIncreasing-filter, AllPairs-from_increasing}
 use Rattle.std.proofs.lemmas.Map.Views.{any-filter_same}
-use Rattle.tt_lists.specs.Words.{has_number, range_below}
-use Rattle.tt_lists.proofs.Numbers.{any_below}
-use Rattle.tt_lists.proofs.Members.{any_member, member_from_any}
-use Rattle.tt_instance_data.specs.Problem.{Problem}
-use Rattle.tt_instance_data.specs.Cells.{is_at}
-use Rattle.tt_instance_data.specs.Courses.{unavailable}
-use Rattle.tt_instance_data.specs.declared.cell.Cell.{Cell}
-use Rattle.tt_instance_data.specs.declared.cell.Slot.{Slot}
+use Rattle.tt_list_laws.specs.Words.{has_number, range_below}
+use Rattle.tt_list_laws.proofs.Numbers.{any_below}
+use Rattle.tt_list_laws.proofs.Members.{any_member, member_from_any}
+use Rattle.tt_instance.specs.Problem.{Problem}
+use Rattle.tt_instance.specs.Cells.{is_at}
+use Rattle.tt_instance.specs.Courses.{unavailable}
+use Rattle.tt_instance.specs.declared.cell.Cell.{Cell}
+use Rattle.tt_instance.specs.declared.cell.Slot.{Slot}
 use Rattle.tt_occupancy.specs.Filled.{no_entry, entry_at}
 use Rattle.tt_moves_chain.specs.Answers.{is_shut, IsFirstShut}
 use Rattle.tt_moves_chain.specs.Chains.{exclude, other, IsClosed, IsChain, IsOpen}

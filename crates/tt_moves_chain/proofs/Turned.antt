@@ -2,18 +2,18 @@
 use Rattle.std.proofs.Common.{◌≡◌, ℕ, zero, suc, ◌+◌, ◌<◌, Bool, true, false, cond, ◌&&◌, ◌||◌, List, [], ◌∷◌, length, get_or, refl, sym, ap, ◌∙◌, subst, arith, inl, inr, le_of_suc-le-suc}
 use Rattle.std.specs.Prelude.{◌==◌}
 use Rattle.std.proofs.lemmas.Bool.{cases_Bool, and_parts, and_from, or_cases, or_left, or_right, both_ways}
-use Rattle.tt_instance_data.specs.Problem.{Problem}
-use Rattle.tt_instance_data.specs.Cells.{InRange, is_of, is_at}
-use Rattle.tt_instance_data.specs.Courses.{conflict, unavailable}
+use Rattle.tt_instance.specs.Problem.{Problem}
+use Rattle.tt_instance.specs.Cells.{InRange, is_of, is_at}
+use Rattle.tt_instance.specs.Courses.{conflict, unavailable}
 use Rattle.tt_table.specs.Table.{IsTimetable}
 use Rattle.tt_rules.specs.Hard.{entries_of, availability_count}
 use Rattle.tt_rules.specs.Score.{IsFeasible}
-use Rattle.tt_instance_data.specs.declared.cell.Slot.{Slot}
-use Rattle.tt_instance_data.specs.declared.cell.Cell.{Cell}
-use Rattle.tt_lists.proofs.Sums.{one_if, count_by-cons}
-use Rattle.tt_lists.proofs.Members.{none_counted}
+use Rattle.tt_instance.specs.declared.cell.Slot.{Slot}
+use Rattle.tt_instance.specs.declared.cell.Cell.{Cell}
+use Rattle.tt_list_laws.proofs.Sums.{one_if, count_by-cons}
+use Rattle.tt_list_laws.proofs.Members.{none_counted}
 use Rattle.std.proofs.lemmas.List.Elements.{Contains-get_or}
-use Rattle.tt_instance_data.proofs.Exclusion.{eqb-turn, conflict-turn}
+use Rattle.tt_instance.proofs.Exclusion.{eqb-turn, conflict-turn}
 use Rattle.tt_rules.proofs.Feasible.{lectures_met, available}
 use Rattle.tt_moves_chain.specs.Chains.{exclude, linked, IsClosed, other, turned, moved, swapped_from, swapped, IsOpen}
 use Rattle.tt_moves_chain.proofs.Free.{IsFree, same_period, same_at, free_from_feasible, feasible_from_free}

@@ -1,12 +1,12 @@
 -- The results of the search for a chain, and the conditions for a chain of a timetable.
 use Rattle.std.specs.Prelude.{◌≡◌, ℕ, ◌≤◌, ◌<◌, ◌==◌, Bool, true, false, ◌&&◌, ◌||◌, List, length, All, Result, Ok, Err}
 use Rattle.std.specs.List.Sorted.{IsStrictlyIncreasing}
-use Rattle.tt_lists.specs.Words.{has_number}
-use Rattle.tt_instance_data.specs.Problem.{Problem}
-use Rattle.tt_instance_data.specs.Cells.{is_at}
-use Rattle.tt_instance_data.specs.Courses.{unavailable}
-use Rattle.tt_instance_data.specs.declared.cell.Cell.{Cell}
-use Rattle.tt_instance_data.specs.declared.cell.Slot.{Slot}
+use Rattle.tt_list_laws.specs.Words.{has_number}
+use Rattle.tt_instance.specs.Problem.{Problem}
+use Rattle.tt_instance.specs.Cells.{is_at}
+use Rattle.tt_instance.specs.Courses.{unavailable}
+use Rattle.tt_instance.specs.declared.cell.Cell.{Cell}
+use Rattle.tt_instance.specs.declared.cell.Slot.{Slot}
 use Rattle.tt_occupancy.specs.Filled.{entry_at}
 use Rattle.tt_moves_chain.specs.Chains.{Kempe, linked, IsClosed, IsChain, IsOpen, other}
 use Rattle.tt_moves_chain.specs.declared.kempe.ChainFault.{ChainFault}

@@ -1,11 +1,11 @@
 -- Kempe chains: the entries of two periods that have to move together.
 use Rattle.std.specs.Prelude.{◌≡◌, ℕ, ◌+◌, ◌<◌, ◌==◌, Bool, true, false, ◌&&◌, ◌||◌, List, [], ◌∷◌, length, slice_index_or, Contains, if◌then◌else◌}
-use Rattle.tt_lists.specs.Words.{has_number}
-use Rattle.tt_instance_data.specs.Problem.{Problem}
-use Rattle.tt_instance_data.specs.Cells.{is_at}
-use Rattle.tt_instance_data.specs.Courses.{conflict, unavailable}
-use Rattle.tt_instance_data.specs.declared.cell.Cell.{Cell}
-use Rattle.tt_instance_data.specs.declared.cell.Slot.{Slot}
+use Rattle.tt_list_laws.specs.Words.{has_number}
+use Rattle.tt_instance.specs.Problem.{Problem}
+use Rattle.tt_instance.specs.Cells.{is_at}
+use Rattle.tt_instance.specs.Courses.{conflict, unavailable}
+use Rattle.tt_instance.specs.declared.cell.Cell.{Cell}
+use Rattle.tt_instance.specs.declared.cell.Slot.{Slot}
 
 -- entries of two periods that change periods together, by their numbers
 pub record Kempe : Type 0 where

@@ -1,8 +1,8 @@
 -- Marks of places.
 use Rattle.std.specs.Prelude.{◌≡◌, ◌⊎◌, ℕ, ◌+◌, ◌<◌, ◌≤◌, Bool, true, false, List, length, slice_index_or, count_by, Contains}
-use Rattle.tt_instance_data.specs.Problem.{Problem}
-use Rattle.tt_instance_data.specs.declared.cell.Slot.{Slot}
-use Rattle.tt_instance_data.specs.declared.cell.Cell.{Cell}
+use Rattle.tt_instance.specs.Problem.{Problem}
+use Rattle.tt_instance.specs.declared.cell.Slot.{Slot}
+use Rattle.tt_instance.specs.declared.cell.Cell.{Cell}
 use Rattle.tt_moves_chain.specs.Chains.{linked, IsClosed}
 
 -- Whether a place is marked; a place beyond the end of the list is not.

@@ -5,7 +5,7 @@ ghost use Rattle.std.specs.List.Sorted.{IsStrictlyIncreasing};
 
 use std::marker::Model;
 use thiserror::Error;
-use tt_instance_data::Slot;
+use tt_instance::Slot;
 
 /// The reason why there is no chain.
 #[derive(Clone, Copy, Debug, PartialEq, Eq, Error)]

@@ -2,8 +2,8 @@
 
 ghost use Rattle.std.specs.Prelude.{◌≡◌, ℕ, ◌<◌, ◌≤◌, true, false, List, length, slice_index, filter, All, IfOk, MatchOption};
 ghost use Rattle.std.specs.List.Sorted.{IsStrictlyIncreasing};
-ghost use Rattle.tt_lists.specs.Words.{range_below};
-ghost use Rattle.tt_instance_data.specs.Cells.{slot, slot_of, is_at};
+ghost use Rattle.tt_list_laws.specs.Words.{range_below};
+ghost use Rattle.tt_instance.specs.Cells.{slot, slot_of, is_at};
 ghost use Rattle.tt_table.specs.Table.{IsTimetable};
 ghost use Rattle.tt_table.specs.declared.table.TheConstants.{MAX_ENTRIES};
 ghost use Rattle.tt_moves_chain.specs.Chains.{IsChain, other};
@@ -14,7 +14,7 @@ ghost use Rattle.tt_moves_chain.specs.Marks.{marked};
 use crate::kempe::{Chain, ChainFault};
 use crate::spreading::spread;
 use std::alloc::{AllocError, Global};
-use tt_instance_data::Slot;
+use tt_instance::Slot;
 use tt_occupancy::Occupied;
 use tt_table::Entry;
 

@@ -1,12 +1,12 @@
 //! The least set of entries that is closed under links.
 
 ghost use Rattle.std.specs.Prelude.{◌≡◌, ◌⊎◌, ℕ, ◌<◌, Bool, true, length, slice_index_or, OnOk, IfOk};
-ghost use Rattle.tt_instance_data.specs.declared.cell.Cell.{Cell};
+ghost use Rattle.tt_instance.specs.declared.cell.Cell.{Cell};
 ghost use Rattle.tt_moves_chain.specs.Chains.{exclude, linked, IsClosed};
 ghost use Rattle.tt_moves_chain.specs.Marks.{marked, IsMarking, IsSpread};
 
 use std::alloc::{AllocError, Global};
-use tt_instance_data::{Instance, Slot};
+use tt_instance::{Instance, Slot};
 use tt_table::Entry;
 
 fn are_in_conflict(instance: &Instance<'_>, x: &Entry, y: &Entry) -> bool

@@ -1,7 +1,7 @@
 //! Chains whose entries change periods.
 
 ghost use Rattle.std.specs.Prelude.{◌≡◌, ℕ, ◌<◌, ◌↔◌, true, false, length, All, EachIndex, slice_index, IsTrue};
-ghost use Rattle.tt_lists.specs.Words.{has_number};
+ghost use Rattle.tt_list_laws.specs.Words.{has_number};
 ghost use Rattle.tt_rules.specs.Hard.{entries_of};
 ghost use Rattle.tt_rules.specs.Score.{IsFeasible};
 ghost use Rattle.tt_occupancy.specs.Filled.{entry_at};
@@ -11,7 +11,7 @@ ghost use Rattle.tt_moves_chain.specs.Chains.{linked, swapped};
 use crate::kempe::Chain;
 use crate::seeking::{is_barred, other_period};
 use crate::spreading::is_linked;
-use tt_instance_data::{Instance, Slot};
+use tt_instance::{Instance, Slot};
 use tt_occupancy::Occupied;
 
 /// Checks whether a period is one of the week.

@@ -9,7 +9,7 @@ use crate::moving::try_moves;
 use crate::swapping::try_swaps;
 use crate::trying::Spent;
 use std::alloc::{AllocError, Global};
-use tt_instance_data::Instance;
+use tt_instance::Instance;
 use tt_occupancy::Occupied;
 use tt_table::Timetable;
 

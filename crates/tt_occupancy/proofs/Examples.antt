@@ -1,7 +1,7 @@
 -- Timetables after a move and after an exchange.
 use Rattle.std.proofs.Common.{◌≡◌, List, [], ◌∷◌, refl}
-use Rattle.tt_instance_data.specs.declared.cell.Cell.{Cell}
-use Rattle.tt_instance_data.proofs.Examples.{at}
+use Rattle.tt_instance.specs.declared.cell.Cell.{Cell}
+use Rattle.tt_instance.proofs.Examples.{at}
 use Rattle.tt_occupancy.specs.Filled.{moved, swapped}
 
 abbrev two : List Cell

@@ -1,19 +1,19 @@
 -- The eight counts after an entry is replaced by another of its course.
 use Rattle.std.proofs.Common.{◌≡◌, ◌+◌, ◌*◌, ◌≤◌, List, ◌∷◌, length, arith}
 use Rattle.std.proofs.lemmas.List.Elements.{All-head}
-use Rattle.tt_lists.proofs.Sums.{one_if-le}
-use Rattle.tt_instance_data.specs.Problem.{Problem}
-use Rattle.tt_instance_data.specs.Cells.{InRange}
-use Rattle.tt_instance_data.specs.declared.cell.Cell.{Cell}
+use Rattle.tt_list_laws.proofs.Sums.{one_if-le}
+use Rattle.tt_instance.specs.Problem.{Problem}
+use Rattle.tt_instance.specs.Cells.{InRange}
+use Rattle.tt_instance.specs.declared.cell.Cell.{Cell}
 use Rattle.tt_rules.specs.Hard.{lectures_count, conflicts_count, availability_count, occupancy_count}
 use Rattle.tt_rules.specs.Soft.{capacity_count, days_count, compactness_count, stability_count}
 use Rattle.tt_rules.specs.declared.counts.Score.{Score}
-use Rattle.tt_occupancy_tallies.specs.Weight.{repeats, barred, shares}
-use Rattle.tt_occupancy_tallies.proofs.Adding.{conflicts_added, availability_added, occupancy_added, capacity_added}
-use Rattle.tt_occupancy_tallies.proofs.Compact.{compactness_added}
-use Rattle.tt_occupancy_tallies.proofs.Exchange.{lectures_exchanged, days_exchanged, stability_exchanged}
-use Rattle.tt_occupancy_tallies.proofs.Sizes.{lectures_few, conflicts_few, availability_few, occupancy_few, capacity_few, days_few, days_cost_few, compactness_few, stability_few, stability_cost_few}
-use Rattle.tt_occupancy_tallies.specs.declared.tables.Tables.{Tables}
+use Rattle.tt_tallies.specs.Weight.{repeats, barred, shares}
+use Rattle.tt_tallies.proofs.Adding.{conflicts_added, availability_added, occupancy_added, capacity_added}
+use Rattle.tt_tallies.proofs.Compact.{compactness_added}
+use Rattle.tt_tallies.proofs.Exchange.{lectures_exchanged, days_exchanged, stability_exchanged}
+use Rattle.tt_tallies.proofs.Sizes.{lectures_few, conflicts_few, availability_few, occupancy_few, capacity_few, days_few, days_cost_few, compactness_few, stability_few, stability_cost_few}
+use Rattle.tt_tallies.specs.declared.tables.Tables.{Tables}
 use Rattle.tt_occupancy.specs.Inner.Counted.{IsCounted}
 use Rattle.tt_occupancy.specs.Inner.Weights.{IsWeight, IsExchange, IsExchanged}
 use Rattle.tt_occupancy.specs.declared.weight.Weight.{Weight}

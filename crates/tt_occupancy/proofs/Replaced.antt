@@ -8,23 +8,23 @@ use Rattle.std.proofs.lemmas.List.Elements.{All-cons, All-head, All-set}
 use Rattle.std.proofs.lemmas.List.Edits.{get_or-remove_below, get_or-remove_above, length-remove}
 use Rattle.std.proofs.lemmas.Bool.{cases_lt}
 use Rattle.std.proofs.lemmas.Option.{get_or_from_slice_get}
-use Rattle.tt_lists.specs.Words.{range_below}
-use Rattle.tt_lists.proofs.Sums.{one_if, sum_by-same}
-use Rattle.tt_instance_data.specs.Problem.{Problem}
-use Rattle.tt_instance_data.specs.Cells.{InRange, is_of, is_in, is_at, slot}
-use Rattle.tt_instance_data.specs.Courses.{teachers}
-use Rattle.tt_instance_data.specs.declared.cell.Cell.{Cell}
+use Rattle.tt_list_laws.specs.Words.{range_below}
+use Rattle.tt_list_laws.proofs.Sums.{one_if, sum_by-same}
+use Rattle.tt_instance.specs.Problem.{Problem}
+use Rattle.tt_instance.specs.Cells.{InRange, is_of, is_in, is_at, slot}
+use Rattle.tt_instance.specs.Courses.{teachers}
+use Rattle.tt_instance.specs.declared.cell.Cell.{Cell}
 use Rattle.tt_table.specs.Table.{IsTimetable}
 use Rattle.tt_rules.specs.Score.{IsScore}
 use Rattle.tt_rules.specs.declared.counts.Score.{Score}
-use Rattle.tt_occupancy_tallies.specs.Bag.{SameBag}
-use Rattle.tt_occupancy_tallies.proofs.Bags.{bag_any, bag_front, bag_set}
-use Rattle.tt_occupancy_tallies.proofs.Same.{lectures_same, conflicts_same, availability_same, occupancy_same, capacity_same, days_same, compactness_same, stability_same}
-use Rattle.tt_occupancy_tallies.specs.Inner.Tables.{AreTables}
-use Rattle.tt_occupancy_tallies.specs.Tallies.{IsTally, IsSpread, of_curriculum, of_teacher, opposes}
-use Rattle.tt_occupancy_tallies.specs.declared.spread.Spread.{Spread}
-use Rattle.tt_occupancy_tallies.specs.declared.tables.Tables.{Tables}
-use Rattle.tt_occupancy_tallies.specs.declared.week.Week.{Week}
+use Rattle.tt_tallies.specs.Bag.{SameBag}
+use Rattle.tt_tallies.proofs.Bags.{bag_any, bag_front, bag_set}
+use Rattle.tt_tallies.proofs.Same.{lectures_same, conflicts_same, availability_same, occupancy_same, capacity_same, days_same, compactness_same, stability_same}
+use Rattle.tt_tallies.specs.Inner.Tables.{AreTables}
+use Rattle.tt_tallies.specs.Tallies.{IsTally, IsSpread, of_curriculum, of_teacher, opposes}
+use Rattle.tt_tallies.specs.declared.spread.Spread.{Spread}
+use Rattle.tt_tallies.specs.declared.tables.Tables.{Tables}
+use Rattle.tt_tallies.specs.declared.week.Week.{Week}
 use Rattle.tt_occupancy.specs.Inner.Counted.{IsCounted}
 
 -- ---- lists with the same entries have the same tables and scores

@@ -3,25 +3,25 @@ use Rattle.std.proofs.Common.{◌≡◌, ℕ, ◌+◌, ◌-◌, ◌≤◌, ◌<�
 use Rattle.std.specs.Prelude.{◌==◌, nat_lt, nat_le, sum_by, filter}
 use Rattle.std.proofs.lemmas.Bool.{cases_lt, lt-ltb, le-ltb, and_parts}
 use Rattle.std.proofs.lemmas.Bool.Decides.{nat_tests}
-use Rattle.tt_lists.proofs.Members.{none_counted}
-use Rattle.tt_lists.proofs.Sums.{sum_by-same}
-use Rattle.tt_instance_data.specs.Problem.{Problem}
-use Rattle.tt_instance_data.specs.Cells.{InRange, all_curricula, slot, is_at}
-use Rattle.tt_instance_data.specs.Courses.{in_curriculum}
-use Rattle.tt_instance_data.specs.declared.cell.Cell.{Cell}
+use Rattle.tt_list_laws.proofs.Members.{none_counted}
+use Rattle.tt_list_laws.proofs.Sums.{sum_by-same}
+use Rattle.tt_instance.specs.Problem.{Problem}
+use Rattle.tt_instance.specs.Cells.{InRange, all_curricula, slot, is_at}
+use Rattle.tt_instance.specs.Courses.{in_curriculum}
+use Rattle.tt_instance.specs.declared.cell.Cell.{Cell}
 use Rattle.tt_table.specs.Table.{IsTimetable}
 use Rattle.tt_rules.specs.Soft.{is_isolated}
-use Rattle.tt_occupancy_tallies.specs.Inner.Neighbours.{entries_at, has_entry_at, has_neighbour, joined_before, joined_after}
-use Rattle.tt_occupancy_tallies.specs.Weight.{alone, joined, all_joined}
-use Rattle.tt_occupancy_tallies.proofs.Chosen.{any_counted}
-use Rattle.tt_occupancy_tallies.proofs.Neighbours.{isolated_by_periods, joined_by_periods}
-use Rattle.tt_occupancy_tallies.specs.Inner.Counts.{in_period}
-use Rattle.tt_occupancy_tallies.specs.Tallies.{IsTally, of_curriculum}
-use Rattle.tt_occupancy_tallies.specs.declared.week.Week.{Week}
+use Rattle.tt_tallies.specs.Inner.Neighbours.{entries_at, has_entry_at, has_neighbour, joined_before, joined_after}
+use Rattle.tt_tallies.specs.Weight.{alone, joined, all_joined}
+use Rattle.tt_tallies.proofs.Chosen.{any_counted}
+use Rattle.tt_tallies.proofs.Neighbours.{isolated_by_periods, joined_by_periods}
+use Rattle.tt_tallies.specs.Inner.Counts.{in_period}
+use Rattle.tt_tallies.specs.Tallies.{IsTally, of_curriculum}
+use Rattle.tt_tallies.specs.declared.week.Week.{Week}
 use Rattle.tt_occupancy.specs.Inner.NeighbourCounts.{AreNeighbourCounts, IsIsolationChange}
 use Rattle.tt_occupancy.specs.declared.neighbour_counts.NeighbourCounts.{NeighbourCounts}
 use Rattle.tt_occupancy.specs.declared.isolation_change.IsolationChange.{IsolationChange}
-use Rattle.tt_lists.proofs.Filters.{sum_by-of_filter}
+use Rattle.tt_list_laws.proofs.Filters.{sum_by-of_filter}
 
 -- no entry in range is past the day's end
 pub none_taken : (p : Problem) (u : List Cell) (q d s : ℕ) → IsTimetable p u → p.periods ≤ s → 0 ≡ entries_at p u q d s

@@ -1,7 +1,7 @@
 -- A timetable of an instance, and its state after a move or an exchange.
 use Rattle.std.specs.Prelude.{ℕ, List, slice_index_or, slice_set}
-use Rattle.tt_instance_data.specs.Problem.{Problem}
-use Rattle.tt_instance_data.specs.declared.cell.Cell.{Cell}
+use Rattle.tt_instance.specs.Problem.{Problem}
+use Rattle.tt_instance.specs.declared.cell.Cell.{Cell}
 
 -- an instance and the entries of a timetable of it
 pub record Filled : Type 0 where

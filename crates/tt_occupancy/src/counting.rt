@@ -1,14 +1,14 @@
 //! The tables of a whole list of entries.
 
 ghost use Rattle.std.specs.Prelude.{◌≤◌, length, IfOk};
-ghost use Rattle.tt_instance_data.specs.Limits.{IsInstance};
+ghost use Rattle.tt_instance.specs.Limits.{IsInstance};
 ghost use Rattle.tt_table.specs.Table.{IsTimetable};
 ghost use Rattle.tt_table.specs.declared.table.TheConstants.{MAX_ENTRIES};
-ghost use Rattle.tt_occupancy_tallies.specs.Inner.Tables.{AreTables};
+ghost use Rattle.tt_tallies.specs.Inner.Tables.{AreTables};
 
 use std::alloc::{AllocError, Global};
-use tt_instance_data::Instance;
-use tt_occupancy_tallies::Tables;
+use tt_instance::Instance;
+use tt_tallies::Tables;
 use tt_table::Entry;
 
 /// Returns the tables of the entries.

@@ -2,15 +2,15 @@
 
 ghost use Rattle.std.specs.Prelude.{◌≡◌, ℕ, ◌<◌, ◌≤◌, ◌&&◌, nat_lt, length, filter, count_by};
 ghost use Rattle.tt_bits.specs.Inner.Bits.{has_bit};
-ghost use Rattle.tt_instance_data.specs.Cells.{all_curricula, slot, is_of, is_at, is_in, is_on};
-ghost use Rattle.tt_instance_data.specs.Courses.{teachers, in_curriculum, conflict};
+ghost use Rattle.tt_instance.specs.Cells.{all_curricula, slot, is_of, is_at, is_in, is_on};
+ghost use Rattle.tt_instance.specs.Courses.{teachers, in_curriculum, conflict};
 ghost use Rattle.tt_table.specs.declared.table.TheConstants.{MAX_ENTRIES};
 ghost use Rattle.tt_rules.specs.Soft.{days_of};
-ghost use Rattle.tt_occupancy_tallies.specs.Tallies.{teaches, rooms_of};
-ghost use Rattle.tt_instance_data.specs.declared.limit.TheConstants.{MAX_DAYS, MAX_ROOMS};
+ghost use Rattle.tt_tallies.specs.Tallies.{teaches, rooms_of};
+ghost use Rattle.tt_instance.specs.declared.limit.TheConstants.{MAX_DAYS, MAX_ROOMS};
 
 use crate::occupied::Occupied;
-use tt_instance_data::Instance;
+use tt_instance::Instance;
 
 impl<'a, 'i> Occupied<'a, 'i> {
     /// Returns the instance.

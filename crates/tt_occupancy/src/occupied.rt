@@ -1,7 +1,7 @@
 //! A timetable with its counts and its score.
 
 ghost use Rattle.std.specs.Prelude.{◌≡◌, ◌<◌, ◌≤◌, length, slice_set, IfOk, IfErr};
-ghost use Rattle.tt_instance_data.specs.Cells.{InRange};
+ghost use Rattle.tt_instance.specs.Cells.{InRange};
 ghost use Rattle.tt_table.specs.Table.{IsTimetable};
 ghost use Rattle.tt_table.specs.declared.table.TheConstants.{MAX_ENTRIES};
 ghost use Rattle.tt_rules.specs.Score.{IsScore};
@@ -11,8 +11,8 @@ use crate::counting::tables_of;
 use crate::recounting::recount;
 use std::alloc::Global;
 use std::marker::Model;
-use tt_instance_data::Instance;
-use tt_occupancy_tallies::Tables;
+use tt_instance::Instance;
+use tt_tallies::Tables;
 use tt_rules::Score;
 use tt_table::{Entry, Timetable};
 

@@ -1,14 +1,14 @@
 //! The tables and the score of entries when one of them is replaced.
 
 ghost use Rattle.std.specs.Prelude.{◌≡◌, List, ◌∷◌};
-ghost use Rattle.tt_instance_data.specs.Cells.{InRange};
-ghost use Rattle.tt_instance_data.specs.declared.cell.Cell.{Cell};
+ghost use Rattle.tt_instance.specs.Cells.{InRange};
+ghost use Rattle.tt_instance.specs.declared.cell.Cell.{Cell};
 ghost use Rattle.tt_occupancy.specs.Inner.Counted.{IsCounted};
 
 use crate::rescoring::rescored;
 use crate::weighing::weigh;
-use tt_instance_data::Instance;
-use tt_occupancy_tallies::Tables;
+use tt_instance::Instance;
+use tt_tallies::Tables;
 use tt_rules::Score;
 use tt_table::Entry;
 

@@ -1,13 +1,13 @@
 //! A score that is updated by weights.
 
 ghost use Rattle.std.specs.Prelude.{◌≡◌, ℕ, List, ◌∷◌};
-ghost use Rattle.tt_instance_data.specs.Problem.{Problem};
-ghost use Rattle.tt_instance_data.specs.declared.cell.Cell.{Cell};
+ghost use Rattle.tt_instance.specs.Problem.{Problem};
+ghost use Rattle.tt_instance.specs.declared.cell.Cell.{Cell};
 ghost use Rattle.tt_rules.specs.Score.{IsScore};
 ghost use Rattle.tt_occupancy.specs.Inner.Weights.{IsExchange, IsExchanged};
 
 use crate::weight::Weight;
-use tt_instance_data::ISOLATED_COST;
+use tt_instance::ISOLATED_COST;
 use tt_rules::Score;
 
 /// Returns a count minus one weight plus another.

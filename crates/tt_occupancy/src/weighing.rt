@@ -1,17 +1,17 @@
 //! The weight of an entry next to a list of entries.
 
 ghost use Rattle.std.specs.Prelude.{◌≡◌, List, ◌∷◌, cond};
-ghost use Rattle.tt_instance_data.specs.Cells.{InRange};
-ghost use Rattle.tt_instance_data.specs.declared.cell.Cell.{Cell};
+ghost use Rattle.tt_instance.specs.Cells.{InRange};
+ghost use Rattle.tt_instance.specs.declared.cell.Cell.{Cell};
 ghost use Rattle.tt_table.specs.Table.{IsTimetable};
 ghost use Rattle.tt_rules.specs.Soft.{days_cost, stability_cost};
-ghost use Rattle.tt_occupancy_tallies.specs.Inner.Tables.{AreTables};
+ghost use Rattle.tt_tallies.specs.Inner.Tables.{AreTables};
 ghost use Rattle.tt_occupancy.specs.Inner.Weights.{IsWeight};
 
 use crate::isolation_change::isolation_change_at;
 use crate::weight::Weight;
-use tt_instance_data::{Instance, MISSING_DAY_COST};
-use tt_occupancy_tallies::Tables;
+use tt_instance::{Instance, MISSING_DAY_COST};
+use tt_tallies::Tables;
 use tt_table::Entry;
 
 /// Returns 1 if the test passes, else 0.

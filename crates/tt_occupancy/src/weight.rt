@@ -1,7 +1,7 @@
 //! The weight of an entry.
 
 ghost use Rattle.std.specs.Prelude.{◌*◌, ◌^◌, ◌≤◌};
-ghost use Rattle.tt_instance_data.specs.declared.limit.TheConstants.{MAX_CURRICULA};
+ghost use Rattle.tt_instance.specs.declared.limit.TheConstants.{MAX_CURRICULA};
 
 /// The amounts that an entry adds to each count of a list, compared with another entry of its course.
 #[derive(Clone, Copy)]

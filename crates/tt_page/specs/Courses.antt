@@ -1,10 +1,10 @@
 -- The row of a course: it shows all that belongs to no single cell.
 use Rattle.std.specs.Prelude.{ℕ, ◌-◌, List, [], ◌∷◌, ◌++◌, length, flat_map, codes, if◌then◌else◌}
 use Rattle.tt_text.specs.Pieces.{Text, Number}
-use Rattle.tt_instance_data.specs.Problem.{Problem}
-use Rattle.tt_instance_data.specs.Cells.{all_courses, all_rooms}
-use Rattle.tt_instance_data.specs.Courses.{lectures, min_days, students}
-use Rattle.tt_instance_data.specs.declared.cell.Cell.{Cell}
+use Rattle.tt_instance.specs.Problem.{Problem}
+use Rattle.tt_instance.specs.Cells.{all_courses, all_rooms}
+use Rattle.tt_instance.specs.Courses.{lectures, min_days, students}
+use Rattle.tt_instance.specs.declared.cell.Cell.{Cell}
 use Rattle.tt_rules.specs.Hard.{entries_of, lectures_off}
 use Rattle.tt_rules.specs.Soft.{days_of, stability_cost}
 use Rattle.tt_page_text.specs.Shown.{shown}

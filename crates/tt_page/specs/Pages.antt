@@ -1,8 +1,8 @@
 -- The text of a page.
 use Rattle.std.specs.Prelude.{ℕ, List, ◌++◌, codes, Option}
-use Rattle.tt_instance_data.specs.Problem.{Problem}
-use Rattle.tt_instance_data.specs.declared.cell.Cell.{Cell}
-use Rattle.tt_leaf_data.specs.declared.leaf.Bound.{Bound}
+use Rattle.tt_instance.specs.Problem.{Problem}
+use Rattle.tt_instance.specs.declared.cell.Cell.{Cell}
+use Rattle.tt_leaf.specs.declared.leaf.Bound.{Bound}
 use Rattle.tt_page_text.specs.Labelled.{Labelled}
 use Rattle.tt_page.specs.Heading.{head_text, header_text, legend_text}
 use Rattle.tt_page_lists.specs.Lists.{hard_table, cost_table, lists_text}

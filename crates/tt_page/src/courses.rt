@@ -1,7 +1,7 @@
 //! The rows of the courses.
 
 ghost use Rattle.std.specs.Prelude.{◌≡◌, ◌<◌, length, flat_map};
-ghost use Rattle.tt_lists.specs.Words.{range_below};
+ghost use Rattle.tt_list_laws.specs.Words.{range_below};
 ghost use Rattle.tt_page_text.specs.Puts.{put_text};
 ghost use Rattle.tt_page.specs.Courses.{rooms_text, room_text, course_marks, course_numbers, course_head, course_row, courses_head_text, courses_text};
 

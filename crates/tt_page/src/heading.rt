@@ -5,8 +5,8 @@ ghost use Rattle.tt_rules.specs.Score.{IsScore};
 ghost use Rattle.tt_page_text.specs.Puts.{put_text};
 ghost use Rattle.tt_page.specs.Heading.{head_text, contents_text, verdict_text, best_text, gap_text, least_text, nothing_text, bound_text, proved_text, sizes_text, header_text, legend_text};
 
-use tt_instance_data::Instance;
-use tt_leaf_data::Bound;
+use tt_instance::Instance;
+use tt_leaf::Bound;
 use tt_page_plan::{Plan, put_name};
 use tt_page_text::{PageText, Part, put, put_token};
 use tt_rules::Score;

@@ -1,11 +1,11 @@
 //! The days of a page: a table for each, with a row for each room and a column for each period.
 
 ghost use Rattle.std.specs.Prelude.{◌≡◌, ◌<◌, length, flat_map, All};
-ghost use Rattle.tt_lists.specs.Words.{range_below};
+ghost use Rattle.tt_list_laws.specs.Words.{range_below};
 ghost use Rattle.tt_page_text.specs.Puts.{put_text};
 ghost use Rattle.tt_page_days.specs.Days.{room_cell, room_row_head, room_row, day_grid_head, day_table_head, day_title, period_head, day_grid, day_link_head, day_index_item, days_head, days_text};
 
-use tt_instance_data::Instance;
+use tt_instance::Instance;
 use tt_page_plan::{Plan, put_week_link};
 use tt_page_text::{Labels, PageText, Part, put, put_day, put_period, put_token};
 use tt_page_weeks::{put_lectures, put_paper_name};

@@ -6,15 +6,15 @@ use Rattle.std.proofs.lemmas.List.{drop_more, drop_all}
 use Rattle.std.proofs.lemmas.List.Elements.{All-filter}
 use Rattle.std.proofs.lemmas.List.Sums.{length-filter}
 use Rattle.std.proofs.lemmas.Option.{get_or_from_slice_get, slice_get_within}
-use Rattle.tt_lists.proofs.Tests.{test_turned}
+use Rattle.tt_list_laws.proofs.Tests.{test_turned}
 use Rattle.tt_page_text.specs.Labelled.{Labelled}
 use Rattle.tt_page_text.specs.Puts.{put_text}
 use Rattle.tt_page_text.specs.Windowed.{PageState}
 use Rattle.tt_page_text.proofs.Growing.{put_nothing, put_twice}
-use Rattle.tt_instance_data.specs.Problem.{Problem}
-use Rattle.tt_instance_data.specs.Cells.{is_at, slot_of}
-use Rattle.tt_instance_data.specs.Courses.{conflict}
-use Rattle.tt_instance_data.specs.declared.cell.Cell.{Cell}
+use Rattle.tt_instance.specs.Problem.{Problem}
+use Rattle.tt_instance.specs.Cells.{is_at, slot_of}
+use Rattle.tt_instance.specs.Courses.{conflict}
+use Rattle.tt_instance.specs.declared.cell.Cell.{Cell}
 use Rattle.tt_page_lists.specs.Items.{item_head, is_odd, at_odds, odds_count, pair_text, odds_item, odds_text, pairs_item, entry_item, entry_items}
 use Rattle.tt_page_lists.specs.declared.rule.Rule.{Rule}
 use Rattle.tt_page_lists.specs.declared.rule.Rule.TheVariants as rule

@@ -2,10 +2,10 @@
 -- lectures, and its place in the list is by that sum.
 use Rattle.std.specs.Prelude.{ℕ, ◌==◌, ◌&&◌, List, [], ◌∷◌, ◌++◌, filter, flat_map, sum_by, codes, if◌then◌else◌}
 use Rattle.tt_text.specs.Pieces.{Text, Number}
-use Rattle.tt_instance_data.specs.Problem.{Problem}
-use Rattle.tt_instance_data.specs.Cells.{all_courses, all_curricula, is_of}
-use Rattle.tt_instance_data.specs.Courses.{students, capacity, in_curriculum, excess}
-use Rattle.tt_instance_data.specs.declared.cell.Cell.{Cell}
+use Rattle.tt_instance.specs.Problem.{Problem}
+use Rattle.tt_instance.specs.Cells.{all_courses, all_curricula, is_of}
+use Rattle.tt_instance.specs.Courses.{students, capacity, in_curriculum, excess}
+use Rattle.tt_instance.specs.declared.cell.Cell.{Cell}
 use Rattle.tt_rules.specs.Soft.{is_isolated, compactness_cost}
 use Rattle.tt_page_text.specs.Markup.{markup}
 use Rattle.tt_page_text.specs.Labelled.{Labelled}

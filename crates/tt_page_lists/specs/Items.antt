@@ -1,10 +1,10 @@
 -- The items of the lists, except those in groups. Each begins with the number that it adds to its count, and its place in the list is by that number.
 use Rattle.std.specs.Prelude.{ℕ, ◌+◌, ◌-◌, ◌==◌, Bool, ◌&&◌, List, [], ◌∷◌, ◌++◌, length, filter, codes, Option, Some, None, if◌then◌else◌}
 use Rattle.tt_text.specs.Pieces.{Text, Number}
-use Rattle.tt_instance_data.specs.Problem.{Problem}
-use Rattle.tt_instance_data.specs.Cells.{slot_of, is_at}
-use Rattle.tt_instance_data.specs.Courses.{lectures, min_days, conflict, unavailable}
-use Rattle.tt_instance_data.specs.declared.cell.Cell.{Cell}
+use Rattle.tt_instance.specs.Problem.{Problem}
+use Rattle.tt_instance.specs.Cells.{slot_of, is_at}
+use Rattle.tt_instance.specs.Courses.{lectures, min_days, conflict, unavailable}
+use Rattle.tt_instance.specs.declared.cell.Cell.{Cell}
 use Rattle.tt_rules.specs.Hard.{entries_of, periods_of, lectures_off, collide}
 use Rattle.tt_rules.specs.Soft.{days_of, days_cost, stability_cost}
 use Rattle.tt_page_text.specs.Markup.{markup}

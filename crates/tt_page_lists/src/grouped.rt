@@ -1,9 +1,9 @@
 //! The items that are groups: the lectures of a course without seats, and the isolated lectures of a curriculum.
 
 ghost use Rattle.std.specs.Prelude.{◌≡◌, ◌<◌, ◌≤◌, ◌&&◌, length, flat_map, sum_by, count_by, All};
-ghost use Rattle.tt_lists.specs.Words.{range_below};
-ghost use Rattle.tt_instance_data.specs.Cells.{InRange};
-ghost use Rattle.tt_instance_data.specs.Courses.{excess, in_curriculum};
+ghost use Rattle.tt_list_laws.specs.Words.{range_below};
+ghost use Rattle.tt_instance.specs.Cells.{InRange};
+ghost use Rattle.tt_instance.specs.Courses.{excess, in_curriculum};
 ghost use Rattle.tt_rules.specs.Soft.{is_isolated};
 ghost use Rattle.tt_table.specs.declared.table.TheConstants.{MAX_ENTRIES};
 ghost use Rattle.tt_page_text.specs.Puts.{put_text};
@@ -13,7 +13,7 @@ use crate::items::{
     put_course_and_teacher, put_course_items, put_entry_items, put_item_end, put_item_head,
 };
 use crate::rule::Rule;
-use tt_instance_data::{ISOLATED_COST, Instance};
+use tt_instance::{ISOLATED_COST, Instance};
 use tt_page_plan::{Plan, is_isolated, put_week_link, put_when_link};
 use tt_page_text::{Labels, PageText, Part, put, put_token};
 use tt_rules::without_seat;

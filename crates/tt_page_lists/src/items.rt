@@ -2,14 +2,14 @@
 
 ghost use Rattle.std.specs.Prelude.{◌≡◌, ◌+◌, ◌<◌, ◌≤◌, length, count_by, find, flat_map, drop, Some, slice_get};
 ghost use Rattle.std.specs.Option.{ForSome};
-ghost use Rattle.tt_lists.specs.Words.{range_below};
-ghost use Rattle.tt_instance_data.specs.Cells.{InRange};
+ghost use Rattle.tt_list_laws.specs.Words.{range_below};
+ghost use Rattle.tt_instance.specs.Cells.{InRange};
 ghost use Rattle.tt_table.specs.declared.table.TheConstants.{MAX_ENTRIES};
 ghost use Rattle.tt_page_text.specs.Puts.{put_text};
 ghost use Rattle.tt_page_lists.specs.Items.{item_head, item_end, course_and_teacher, lectures_detail, days_detail, rooms_detail, course_detail, course_adds, course_item, entry_and_teacher, place_text, unavailable_detail, unavailable_item, is_odd, odds_count, more_text, pair_text, odds_text, pairs_item, entry_item, entry_items};
 
 use crate::rule::Rule;
-use tt_instance_data::{Instance, MISSING_DAY_COST};
+use tt_instance::{Instance, MISSING_DAY_COST};
 use tt_page_plan::{
     Plan, days_of, entries_of, is_unavailable, lectures_off, missing_days, other_rooms, periods_of,
     put_cell_link, put_course_link, put_teacher_link, put_week_link, teacher_of,

@@ -3,9 +3,9 @@ use Rattle.std.proofs.Common.{◌≡◌, Bool, true, false, ◌&&◌, cond, List
 use Rattle.std.specs.Prelude.{filter, count_by}
 use Rattle.std.specs.List.{list_any}
 use Rattle.std.proofs.Math.Bool.{and_comm}
-use Rattle.tt_lists.proofs.Sums.{one_if, sum_by-same}
-use Rattle.tt_lists.proofs.Filters.{list_any-of_filter, count_by-of_filter}
-use Rattle.tt_lists.proofs.Tested.{list_any-same}
+use Rattle.tt_list_laws.proofs.Sums.{one_if, sum_by-same}
+use Rattle.tt_list_laws.proofs.Filters.{list_any-of_filter, count_by-of_filter}
+use Rattle.tt_list_laws.proofs.Tested.{list_any-same}
 
 module _ {X : Type 0} where
   pub count-turned : (p q : X → Bool) (xs : List X) → count_by (λ x. p x && q x) xs ≡ count_by (λ x. q x && p x) xs

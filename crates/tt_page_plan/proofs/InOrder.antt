@@ -15,13 +15,13 @@ use Rattle.std.proofs.lemmas.List.Sorted.{IsPermutation-sym, IsPermutation-map, 
 use Rattle.std.proofs.lemmas.Map.Keys.{IsDistinct-IsPermutation, IsDistinct-from_apart, apart_from_distinct}
 use Rattle.std.specs.declared.cmp.Ordering.{Ordering}
 use Rattle.std.specs.declared.cmp.Ordering.TheVariants.{Less, Equal, Greater}
-use Rattle.tt_lists.specs.Words.{range_below}
-use Rattle.tt_lists.proofs.Below.{range_below_more}
-use Rattle.tt_lists.proofs.Sums.{one_if, one_if_true, one_if_false, count_by-cons, each}
-use Rattle.tt_lists.proofs.Members.{number_below}
-use Rattle.tt_lists.proofs.Range.{below_member, each_below}
-use Rattle.tt_lists.proofs.Tested.{each_flat}
-use Rattle.tt_lists.proofs.Tests.{test_turned}
+use Rattle.tt_list_laws.specs.Words.{range_below}
+use Rattle.tt_list_laws.proofs.Below.{range_below_more}
+use Rattle.tt_list_laws.proofs.Sums.{one_if, one_if_true, one_if_false, count_by-cons, each}
+use Rattle.tt_list_laws.proofs.Members.{number_below}
+use Rattle.tt_list_laws.proofs.Range.{below_member, each_below}
+use Rattle.tt_list_laws.proofs.Tested.{each_flat}
+use Rattle.tt_list_laws.proofs.Tests.{test_turned}
 use Rattle.tt_page_plan.specs.Orders.{by_name, place_of, in_order}
 
 -- ---- the order of two numbers

@@ -3,9 +3,9 @@ use Rattle.std.proofs.Common.{◌≡◌, ℕ, ◌+◌, ◌<◌, List, All, lengt
 use Rattle.std.specs.Prelude.{filter, slice_get, IfSome}
 use Rattle.std.proofs.lemmas.List.Elements.{All-drop, All-filter}
 use Rattle.std.proofs.lemmas.Option.{slice_get-get_or}
-use Rattle.tt_instance_data.specs.Problem.{Problem}
-use Rattle.tt_instance_data.specs.Cells.{InRange, is_at, slot_of}
-use Rattle.tt_instance_data.specs.declared.cell.Cell.{Cell}
+use Rattle.tt_instance.specs.Problem.{Problem}
+use Rattle.tt_instance.specs.Cells.{InRange, is_at, slot_of}
+use Rattle.tt_instance.specs.declared.cell.Cell.{Cell}
 use Rattle.tt_table.specs.Groups.{Grouped, in_group, group_of, nobody}
 use Rattle.tt_table.specs.declared.groups.GroupBy.TheVariants as by
 use Rattle.tt_table.proofs.Numbering.{group_at}

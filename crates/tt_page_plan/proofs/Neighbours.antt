@@ -3,13 +3,13 @@ use Rattle.std.proofs.Common.{◌≡◌, ◌+◌, ◌-◌, ◌<◌, Bool, true, 
 use Rattle.std.specs.Prelude.{◌==◌, All}
 use Rattle.std.specs.List.{list_any}
 use Rattle.std.proofs.lemmas.Bool.{ne_eqb}
-use Rattle.tt_lists.proofs.Tests.{same_test, list_any-same_at, list_any-or}
-use Rattle.tt_lists.proofs.Tested.{list_any-same}
-use Rattle.tt_instance_data.specs.Problem.{Problem}
-use Rattle.tt_instance_data.specs.Cells.{InRange, slot, slot_of, is_at, next_to}
-use Rattle.tt_instance_data.specs.declared.cell.Cell.{Cell}
+use Rattle.tt_list_laws.proofs.Tests.{same_test, list_any-same_at, list_any-or}
+use Rattle.tt_list_laws.proofs.Tested.{list_any-same}
+use Rattle.tt_instance.specs.Problem.{Problem}
+use Rattle.tt_instance.specs.Cells.{InRange, slot, slot_of, is_at, next_to}
+use Rattle.tt_instance.specs.declared.cell.Cell.{Cell}
 use Rattle.tt_page_plan.specs.Sides.{is_right_before, is_right_after}
-use Rattle.tt_lists.proofs.Twos.{neither as both_fail}
+use Rattle.tt_list_laws.proofs.Twos.{neither as both_fail}
 
 -- a test that no element passes
 none_pass : {X : Type 0} (xs : List X) → list_any (λ x. false) xs ≡ false

@@ -3,14 +3,14 @@ use Rattle.std.proofs.Common.{◌≡◌, ℕ, ◌+◌, ◌<◌, Bool, true, fals
 use Rattle.std.specs.Prelude.{◌==◌, All, filter}
 use Rattle.std.proofs.lemmas.List.{append-nil}
 use Rattle.std.proofs.lemmas.List.Elements.{filter-append, All-filter, All-nil}
-use Rattle.tt_instance_data.specs.Problem.{Problem}
-use Rattle.tt_instance_data.specs.Cells.{all_courses}
-use Rattle.tt_instance_data.specs.Courses.{in_curriculum}
+use Rattle.tt_instance.specs.Problem.{Problem}
+use Rattle.tt_instance.specs.Cells.{all_courses}
+use Rattle.tt_instance.specs.Courses.{in_curriculum}
 use Rattle.tt_page_plan.specs.Kinds.{own_courses, teacher_of}
 use Rattle.tt_table.specs.declared.kind.Kind.{Kind}
 use Rattle.tt_table.specs.declared.kind.Kind.TheVariants.{Room, Teacher, Curriculum}
-use Rattle.tt_lists.specs.Words.{range_below}
-use Rattle.tt_lists.proofs.Below.{range_below_more, each_below}
+use Rattle.tt_list_laws.specs.Words.{range_below}
+use Rattle.tt_list_laws.proofs.Below.{range_below_more, each_below}
 
 -- ---- elements that pass a test
 

@@ -1,8 +1,8 @@
 -- Where a course is taught.
 use Rattle.std.specs.Prelude.{ℕ, Bool, ◌&&◌, List}
 use Rattle.std.specs.List.{list_any}
-use Rattle.tt_instance_data.specs.Cells.{is_of, is_in}
-use Rattle.tt_instance_data.specs.declared.cell.Cell.{Cell}
+use Rattle.tt_instance.specs.Cells.{is_of, is_in}
+use Rattle.tt_instance.specs.declared.cell.Cell.{Cell}
 
 -- Whether a course is taught in a room.
 abbrev pub is_taught_in : List Cell → ℕ → ℕ → Bool

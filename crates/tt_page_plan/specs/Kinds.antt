@@ -1,10 +1,10 @@
 -- The weeks that a page shows: those of all rooms, of all teachers and of all curricula.
 use Rattle.std.specs.Prelude.{ℕ, ◌==◌, Bool, List, [], filter, codes, slice_index_or, unwrap_or, Option, find}
 use Rattle.tt_text.specs.Texts.{index_of_name}
-use Rattle.tt_instance_data.specs.Problem.{Problem}
-use Rattle.tt_instance_data.specs.Cells.{is_in, all_courses, all_curricula}
-use Rattle.tt_instance_data.specs.Courses.{no_course, teachers, in_curriculum}
-use Rattle.tt_instance_data.specs.declared.cell.Cell.{Cell}
+use Rattle.tt_instance.specs.Problem.{Problem}
+use Rattle.tt_instance.specs.Cells.{is_in, all_courses, all_curricula}
+use Rattle.tt_instance.specs.Courses.{no_course, teachers, in_curriculum}
+use Rattle.tt_instance.specs.declared.cell.Cell.{Cell}
 use Rattle.tt_table.specs.declared.kind.Kind.{Kind}
 use Rattle.tt_table.specs.declared.kind.Kind.TheVariants.{Room, Teacher, Curriculum}
 

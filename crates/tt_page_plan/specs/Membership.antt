@@ -1,6 +1,6 @@
 -- The courses of the weeks of an instance.
 use Rattle.std.specs.Prelude.{ℕ, List}
-use Rattle.tt_instance_data.specs.Problem.{Problem}
+use Rattle.tt_instance.specs.Problem.{Problem}
 use Rattle.tt_page_plan.specs.OwnCourses.{AreOwnCourses}
 use Rattle.tt_table.specs.declared.kind.Kind.{Kind}
 use Rattle.tt_table.specs.declared.kind.Kind.TheVariants.{Room, Teacher, Curriculum}

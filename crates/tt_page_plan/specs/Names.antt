@@ -1,6 +1,6 @@
 -- The name of an instance in a page.
 use Rattle.std.specs.Prelude.{ℕ, List, ◌∷◌, flat_map}
-use Rattle.tt_instance_data.specs.Problem.{Problem}
+use Rattle.tt_instance.specs.Problem.{Problem}
 use Rattle.tt_page_text.specs.Shown.{shown}
 
 -- A space and a token of the name.

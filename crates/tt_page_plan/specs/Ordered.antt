@@ -1,6 +1,6 @@
 -- The orders of an instance's rooms, teachers and curricula.
 use Rattle.std.specs.Prelude.{◌≡◌, ℕ, List}
-use Rattle.tt_instance_data.specs.Problem.{Problem}
+use Rattle.tt_instance.specs.Problem.{Problem}
 use Rattle.tt_page_plan.specs.Orders.{numbers_of}
 use Rattle.tt_table.specs.declared.kind.Kind.{Kind}
 use Rattle.tt_table.specs.declared.kind.Kind.TheVariants.{Room, Teacher, Curriculum}

@@ -3,8 +3,8 @@ use Rattle.std.specs.Prelude.{ℕ, ◌==◌, List, filter, flat_map, count_by}
 use Rattle.std.specs.Ordering.{nat_cmp, ordering_then, is_lt}
 use Rattle.std.specs.Cmp.Lexicographic.{slice_cmp}
 use Rattle.std.specs.declared.cmp.Ordering.{Ordering}
-use Rattle.tt_lists.specs.Words.{range_below}
-use Rattle.tt_instance_data.specs.Problem.{Problem}
+use Rattle.tt_list_laws.specs.Words.{range_below}
+use Rattle.tt_instance.specs.Problem.{Problem}
 use Rattle.tt_table.specs.Kinds.{count_of, name_of}
 use Rattle.tt_table.specs.declared.kind.Kind.{Kind}
 

@@ -1,6 +1,6 @@
 -- The courses of the weeks of a kind.
 use Rattle.std.specs.Prelude.{◌≡◌, ℕ, ◌<◌, List, [], length, slice_index_or}
-use Rattle.tt_instance_data.specs.Problem.{Problem}
+use Rattle.tt_instance.specs.Problem.{Problem}
 use Rattle.tt_table.specs.Kinds.{count_of}
 use Rattle.tt_page_plan.specs.Kinds.{own_courses}
 use Rattle.tt_table.specs.declared.kind.Kind.{Kind}

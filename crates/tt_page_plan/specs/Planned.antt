@@ -1,7 +1,7 @@
 -- A timetable of an instance.
 use Rattle.std.specs.Prelude.{List}
-use Rattle.tt_instance_data.specs.Problem.{Problem}
-use Rattle.tt_instance_data.specs.declared.cell.Cell.{Cell}
+use Rattle.tt_instance.specs.Problem.{Problem}
+use Rattle.tt_instance.specs.declared.cell.Cell.{Cell}
 
 -- An instance, and the entries of a timetable of it.
 pub record Planned : Type 0 where

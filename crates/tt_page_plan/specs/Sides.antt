@@ -1,6 +1,6 @@
 -- The periods immediately before and after an entry's.
 use Rattle.std.specs.Prelude.{◌+◌, Bool, ◌&&◌, ◌==◌}
-use Rattle.tt_instance_data.specs.declared.cell.Cell.{Cell}
+use Rattle.tt_instance.specs.declared.cell.Cell.{Cell}
 
 -- Whether the second entry is on the day of the first, in the period immediately before that of the first.
 abbrev pub is_right_before : Cell → Cell → Bool

@@ -1,8 +1,8 @@
 //! The counts of a course.
 
 ghost use Rattle.std.specs.Prelude.{◌≡◌, ◌<◌, ◌≤◌, ◌-◌, length};
-ghost use Rattle.tt_instance_data.specs.Courses.{min_days};
-ghost use Rattle.tt_instance_data.specs.declared.limit.TheConstants.{MAX_MIN_DAYS, MAX_ROOMS};
+ghost use Rattle.tt_instance.specs.Courses.{min_days};
+ghost use Rattle.tt_instance.specs.declared.limit.TheConstants.{MAX_MIN_DAYS, MAX_ROOMS};
 ghost use Rattle.tt_table.specs.declared.table.TheConstants.{MAX_ENTRIES};
 ghost use Rattle.tt_rules.specs.Hard.{entries_of, periods_of, lectures_off};
 ghost use Rattle.tt_rules.specs.Soft.{days_of, stability_cost};

@@ -2,10 +2,10 @@
 
 ghost use Rattle.std.specs.Prelude.{◌≡◌};
 ghost use Rattle.std.specs.List.{list_any};
-ghost use Rattle.tt_instance_data.specs.Cells.{is_in};
-ghost use Rattle.tt_instance_data.specs.Courses.{in_curriculum};
+ghost use Rattle.tt_instance.specs.Cells.{is_in};
+ghost use Rattle.tt_instance.specs.Courses.{in_curriculum};
 
-use tt_instance_data::Instance;
+use tt_instance::Instance;
 use tt_table::Group;
 
 /// Returns whether some entry's course is in a curriculum.

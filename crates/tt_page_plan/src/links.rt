@@ -1,7 +1,7 @@
 //! Links to the parts of a page.
 
 ghost use Rattle.std.specs.Prelude.{◌≡◌, ◌<◌, length};
-ghost use Rattle.tt_instance_data.specs.Cells.{InRange};
+ghost use Rattle.tt_instance.specs.Cells.{InRange};
 ghost use Rattle.tt_page_text.specs.Puts.{put_text};
 ghost use Rattle.tt_table.specs.Kinds.{count_of};
 ghost use Rattle.tt_page_plan.specs.Kinds.{teacher_of};
@@ -9,7 +9,7 @@ ghost use Rattle.tt_table.specs.declared.kind.Kind.TheVariants as kinds;
 ghost use Rattle.tt_page_plan.specs.Links.{course_link, week_link, cell_link, cell_anchor, when_link};
 
 use crate::week::{course_name, teacher_of};
-use tt_instance_data::Instance;
+use tt_instance::Instance;
 use tt_page_text::{Labels, PageText, Part, put, put_token, put_when};
 use tt_table::{Entry, Kind};
 

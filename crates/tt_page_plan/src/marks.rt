@@ -2,14 +2,14 @@
 
 ghost use Rattle.std.specs.Prelude.{◌≡◌, ◌<◌, ◌&&◌};
 ghost use Rattle.std.specs.List.{list_any};
-ghost use Rattle.tt_instance_data.specs.Cells.{InRange, is_at, slot};
-ghost use Rattle.tt_instance_data.specs.Courses.{in_curriculum, unavailable};
+ghost use Rattle.tt_instance.specs.Cells.{InRange, is_at, slot};
+ghost use Rattle.tt_instance.specs.Courses.{in_curriculum, unavailable};
 ghost use Rattle.tt_rules.specs.Soft.{is_isolated};
 ghost use Rattle.tt_page_plan.specs.Sides.{is_right_before, is_right_after};
 
 use crate::groups::has_attended;
 use crate::plan::Plan;
-use tt_instance_data::Instance;
+use tt_instance::Instance;
 use tt_table::Entry;
 
 /// Checks whether its period is unavailable for its course.

@@ -1,15 +1,15 @@
 //! The courses of each week.
 
 ghost use Rattle.std.specs.Prelude.{◌≡◌, ◌<◌, ◌==◌, [], length, filter, slice_index_or, IfOk};
-ghost use Rattle.tt_instance_data.specs.Cells.{all_courses};
-ghost use Rattle.tt_instance_data.specs.Courses.{in_curriculum};
+ghost use Rattle.tt_instance.specs.Cells.{all_courses};
+ghost use Rattle.tt_instance.specs.Courses.{in_curriculum};
 ghost use Rattle.tt_page_plan.specs.Kinds.{own_courses, teacher_of};
 ghost use Rattle.tt_page_plan.specs.OwnCourses.{AreOwnCourses};
 
 use crate::week::teacher_of;
 use std::alloc::{AllocError, Global};
 use std::marker::Model;
-use tt_instance_data::Instance;
+use tt_instance::Instance;
 use tt_table::Kind;
 
 /// Courses in the order of the instance.

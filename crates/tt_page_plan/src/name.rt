@@ -4,7 +4,7 @@ ghost use Rattle.std.specs.Prelude.{◌≡◌};
 ghost use Rattle.tt_page_text.specs.Puts.{put_text};
 ghost use Rattle.tt_page_plan.specs.Names.{name_text, next_shown};
 
-use tt_instance_data::Instance;
+use tt_instance::Instance;
 use tt_page_text::{PageText, put_shown, put_token};
 
 /// Appends a space and a token of the name.

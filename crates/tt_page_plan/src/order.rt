@@ -1,13 +1,13 @@
 //! Rooms, teachers and curricula in the order of their names.
 
 ghost use Rattle.std.specs.Prelude.{◌≡◌, All, map, IfOk};
-ghost use Rattle.tt_lists.specs.Words.{range_below};
+ghost use Rattle.tt_list_laws.specs.Words.{range_below};
 ghost use Rattle.tt_table.specs.Kinds.{count_of, name_of};
 ghost use Rattle.tt_page_plan.specs.Orders.{numbers_of};
 ghost use Rattle.tt_page_plan.specs.Ordered.{order_of, AreOrders};
 
 use std::alloc::{AllocError, Global};
-use tt_instance_data::Instance;
+use tt_instance::Instance;
 use tt_table::Kind;
 
 /// The numbers of all rooms, of all teachers and of all curricula, each in the order of their names.

@@ -1,8 +1,8 @@
 //! A timetable of an instance, its entries by period and by course, the curricula of each course, the courses of each week, and the order of names.
 
 ghost use Rattle.std.specs.Prelude.{◌≡◌, ◌+◌, ◌<◌, ◌≤◌, length, filter, drop, All, Some, slice_get, IfOk, IfSome};
-ghost use Rattle.tt_instance_data.specs.Cells.{InRange, is_of, is_at, slot, slot_of};
-ghost use Rattle.tt_instance_data.specs.declared.limit.TheConstants.{MAX_COURSES};
+ghost use Rattle.tt_instance.specs.Cells.{InRange, is_of, is_at, slot, slot_of};
+ghost use Rattle.tt_instance.specs.declared.limit.TheConstants.{MAX_COURSES};
 ghost use Rattle.tt_table.specs.Table.{IsTimetable};
 ghost use Rattle.tt_table.specs.declared.table.TheConstants.{MAX_ENTRIES};
 ghost use Rattle.tt_table.specs.declared.groups.GroupBy.TheVariants as by;
@@ -15,7 +15,7 @@ use crate::members::Members;
 use crate::order::Orders;
 use std::alloc::{AllocError, Global};
 use std::marker::Model;
-use tt_instance_data::Instance;
+use tt_instance::Instance;
 use tt_instance_links::Curricula;
 use tt_table::{Entry, Group, Groups, Kind, Timetable};
 

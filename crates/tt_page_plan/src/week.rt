@@ -1,11 +1,11 @@
 //! The weeks that a page shows.
 
 ghost use Rattle.std.specs.Prelude.{◌≡◌, ◌<◌, length};
-ghost use Rattle.tt_instance_data.specs.Cells.{InRange};
-ghost use Rattle.tt_instance_data.specs.Courses.{teachers};
+ghost use Rattle.tt_instance.specs.Cells.{InRange};
+ghost use Rattle.tt_instance.specs.Courses.{teachers};
 ghost use Rattle.tt_page_plan.specs.Kinds.{course_name, teacher_of, belongs_to, caption_of, section_of, title_of};
 
-use tt_instance_data::Instance;
+use tt_instance::Instance;
 use tt_table::{Entry, Kind};
 
 /// Returns the name of a course, as bytes.

@@ -1,11 +1,11 @@
 -- The grids of a page: one for each room, teacher and curriculum, with a column for each day and a row for each period of a day.
 use Rattle.std.specs.Prelude.{ℕ, List, [], ◌∷◌, ◌++◌, filter, flat_map, codes, Option, Some, None, if◌then◌else◌}
-use Rattle.tt_lists.specs.Words.{range_below}
+use Rattle.tt_list_laws.specs.Words.{range_below}
 use Rattle.tt_text.specs.Pieces.{Text, Number}
-use Rattle.tt_instance_data.specs.Problem.{Problem}
-use Rattle.tt_instance_data.specs.Cells.{all_days, slot, is_at}
-use Rattle.tt_instance_data.specs.Courses.{capacity, unavailable}
-use Rattle.tt_instance_data.specs.declared.cell.Cell.{Cell}
+use Rattle.tt_instance.specs.Problem.{Problem}
+use Rattle.tt_instance.specs.Cells.{all_days, slot, is_at}
+use Rattle.tt_instance.specs.Courses.{capacity, unavailable}
+use Rattle.tt_instance.specs.declared.cell.Cell.{Cell}
 use Rattle.tt_page_text.specs.Shown.{shown}
 use Rattle.tt_page_text.specs.Markup.{markup}
 use Rattle.tt_page_text.specs.Labelled.{Labelled}

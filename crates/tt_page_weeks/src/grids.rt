@@ -1,8 +1,8 @@
 //! The grids of a page: one for each room, teacher and curriculum.
 
 ghost use Rattle.std.specs.Prelude.{◌≡◌, ◌<◌, length, filter, flat_map, All};
-ghost use Rattle.tt_lists.specs.Words.{range_below};
-ghost use Rattle.tt_instance_data.specs.Cells.{InRange};
+ghost use Rattle.tt_list_laws.specs.Words.{range_below};
+ghost use Rattle.tt_instance.specs.Cells.{InRange};
 ghost use Rattle.tt_page_text.specs.Puts.{put_text};
 ghost use Rattle.tt_table.specs.Kinds.{count_of};
 ghost use Rattle.tt_page_plan.specs.Kinds.{belongs_to};
@@ -11,7 +11,7 @@ ghost use Rattle.tt_page_weeks.specs.Grids.{barred_when, barred_course, barred_t
 
 use crate::hues::put_hue;
 use crate::lectures::put_lecture;
-use tt_instance_data::Instance;
+use tt_instance::Instance;
 use tt_page_plan::{
     Plan, caption_of, course_name, is_in_week, put_name, put_week_link, section_of, title_of,
 };

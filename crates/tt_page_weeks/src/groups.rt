@@ -2,11 +2,11 @@
 
 ghost use Rattle.std.specs.Prelude.{◌≡◌, ◌≤◌, length, count_by};
 ghost use Rattle.std.specs.List.{list_any};
-ghost use Rattle.tt_instance_data.specs.Cells.{is_of, is_in};
-ghost use Rattle.tt_instance_data.specs.Courses.{conflict};
+ghost use Rattle.tt_instance.specs.Cells.{is_of, is_in};
+ghost use Rattle.tt_instance.specs.Courses.{conflict};
 ghost use Rattle.tt_table.specs.declared.table.TheConstants.{MAX_ENTRIES};
 
-use tt_instance_data::Instance;
+use tt_instance::Instance;
 use tt_table::Group;
 
 /// Returns whether some entry's course conflicts with a course.

@@ -1,13 +1,13 @@
 //! A lecture as it appears in a week.
 
 ghost use Rattle.std.specs.Prelude.{◌≡◌, ◌<◌, length};
-ghost use Rattle.tt_instance_data.specs.Cells.{InRange};
+ghost use Rattle.tt_instance.specs.Cells.{InRange};
 ghost use Rattle.tt_page_text.specs.Puts.{put_text};
 ghost use Rattle.tt_page_weeks.specs.Lectures.{further_text, mark, isolated_mark, marks_text, lecture_head, lecture_when, lecture_course, lecture_text};
 
 use crate::hues::put_hue;
 use crate::marks::{is_in_conflict, is_in_other_room, is_repeated, is_room_taken};
-use tt_instance_data::Instance;
+use tt_instance::Instance;
 use tt_page_plan::{
     Plan, course_name, is_isolated, is_unavailable, put_teacher_link, put_week_link,
 };

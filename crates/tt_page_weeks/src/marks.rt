@@ -1,7 +1,7 @@
 //! The marks of a lecture.
 
 ghost use Rattle.std.specs.Prelude.{◌≡◌};
-ghost use Rattle.tt_instance_data.specs.Cells.{InRange};
+ghost use Rattle.tt_instance.specs.Cells.{InRange};
 ghost use Rattle.tt_page_weeks.specs.Marks.{in_conflict, room_taken, repeated, in_other_room};
 
 use crate::groups::{count_in, count_of, has_conflict_with};

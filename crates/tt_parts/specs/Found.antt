@@ -1,6 +1,6 @@
 -- The properties of parts that were found.
 use Rattle.std.specs.Prelude.{List, ℕ, Vec, map}
-use Rattle.tt_instance_data.specs.Problem.{Problem}
+use Rattle.tt_instance.specs.Problem.{Problem}
 use Rattle.tt_proof_check.specs.Derives.{HoldsOfAll}
 use Rattle.tt_proof_sum.specs.Sums.{IsSum}
 use Rattle.tt_parts.specs.declared.finding.Parts.{Parts}

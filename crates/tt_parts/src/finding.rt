@@ -1,16 +1,16 @@
 //! Searching for proofs over disjoint targets.
 
 ghost use Rattle.std.specs.Prelude.{IfOk, IfSome};
-ghost use Rattle.tt_instance_data.specs.Problem.{Problem};
+ghost use Rattle.tt_instance.specs.Problem.{Problem};
 ghost use Rattle.tt_parts.specs.Found.{AreFound};
 
 use crate::rooms::find_rooms;
 use crate::together::sum_of;
 use std::alloc::{AllocError, Global};
-use tt_instance_data::Instance;
-use tt_leaf_data::Bound;
+use tt_instance::Instance;
+use tt_leaf::Bound;
 use tt_parts_groups::{GroupSearch, KnownProof, find_groups, write_all};
-use tt_search_watch::Watch;
+use tt_watch::Watch;
 use tt_table::Entry;
 
 /// The number of relaxations that the search for groups may do for each node allowed.

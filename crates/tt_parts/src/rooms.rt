@@ -1,17 +1,17 @@
 //! A bound on the seats that rooms lack.
 
 ghost use Rattle.std.specs.Prelude.{All, IfOk};
-ghost use Rattle.tt_leaf_data.specs.Ranges.{IsClaimOf};
+ghost use Rattle.tt_leaf.specs.Ranges.{IsClaimOf};
 
 use std::alloc::{AllocError, Global};
-use tt_facts::TrailPath;
-use tt_facts_path::Path;
-use tt_instance_data::Instance;
-use tt_leaf::best_claims;
-use tt_leaf_data::{Bound, Claim, ClaimList, Leaf};
+use tt_path_trail::TrailPath;
+use tt_path::Path;
+use tt_instance::Instance;
+use tt_leaf_find::best_claims;
+use tt_leaf::{Bound, Claim, ClaimList, Leaf};
 use tt_leaf_rules::claim_value;
 use tt_proof_read::Node;
-use tt_proof_text::{WriteFault, write_proof};
+use tt_proof_write::{WriteFault, write_proof};
 
 /// The version of the proof.
 const VERSION: u8 = 2;

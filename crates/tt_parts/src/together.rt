@@ -6,8 +6,8 @@ ghost use Rattle.tt_proof_sum.specs.Sums.{IsSum};
 ghost use Rattle.tt_parts.specs.Found.{texts_of};
 
 use std::alloc::{AllocError, Global};
-use tt_instance_data::Instance;
-use tt_leaf_data::Bound;
+use tt_instance::Instance;
+use tt_leaf::Bound;
 use tt_proof_sum::{SumFault, sum_proofs};
 use tt_text::Pieces;
 use tt_text_peek::Peeked;

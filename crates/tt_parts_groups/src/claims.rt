@@ -7,7 +7,7 @@ use std::alloc::{AllocError, Global};
 use tt_groups::Group;
 use tt_groups_check::{GroupFault, Work, check_group};
 use tt_groups_read::GroupClaim;
-use tt_instance_data::Instance;
+use tt_instance::Instance;
 
 /// Checks that all numbers are below a count.
 fn are_below(numbers: &[u32], count: u32) -> bool

@@ -7,7 +7,7 @@ use crate::order::shuffle;
 use rand_pcg::Pcg32;
 use std::alloc::AllocError;
 use tt_parts_least::courses_of;
-use tt_search_watch::Watch;
+use tt_watch::Watch;
 
 /// Removes the courses without which a draft has the same value.
 fn leave_courses<W: Watch>(

@@ -13,9 +13,9 @@ use rand_core::SeedableRng;
 use rand_pcg::Pcg32;
 use std::alloc::{AllocError, Global};
 use tt_groups_read::GroupClaim;
-use tt_instance_data::Instance;
+use tt_instance::Instance;
 use tt_parts_least::Allowance;
-use tt_search_watch::{Progress, Unit, Watch};
+use tt_watch::{Progress, Unit, Watch};
 use tt_table::Entry;
 
 /// The maximum number of states of a group, stage by stage.

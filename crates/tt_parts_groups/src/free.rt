@@ -2,7 +2,7 @@
 
 use crate::draft::Draft;
 use std::alloc::{AllocError, Global};
-use tt_instance_data::Instance;
+use tt_instance::Instance;
 
 /// Marks of the curricula and the courses that are free.
 #[derive(Drop)]

@@ -4,9 +4,9 @@ use crate::draft::Draft;
 use crate::guide::Guide;
 use std::alloc::{AllocError, Global};
 use std::collections::HashMap;
-use tt_instance_data::Instance;
+use tt_instance::Instance;
 use tt_parts_least::{Aim, Allowance, Layout, Least, courses_of, least_cost};
-use tt_search_watch::Watch;
+use tt_watch::Watch;
 
 /// The maximum amount of work for one group at once.
 const GROUP_WORK: u64 = 2_147_483_648;

@@ -4,9 +4,9 @@ use crate::draft::{Draft, union_of};
 use crate::free::Free;
 use crate::group_values::GroupValues;
 use std::alloc::{AllocError, Global};
-use tt_instance_data::Instance;
+use tt_instance::Instance;
 use tt_parts_least::{courses_of, lectures_of, members_of};
-use tt_search_watch::Watch;
+use tt_watch::Watch;
 
 /// The maximum number of curricula of a group.
 const CURRICULA: usize = 64;

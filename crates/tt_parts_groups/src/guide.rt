@@ -1,7 +1,7 @@
 //! The cost of each target in a known timetable.
 
 use std::alloc::{AllocError, Global};
-use tt_instance_data::{ISOLATED_COST, Instance, MISSING_DAY_COST};
+use tt_instance::{ISOLATED_COST, Instance, MISSING_DAY_COST};
 use tt_table::Entry;
 
 /// The cost of each curriculum and each course in the timetable; without a timetable nothing is known.

@@ -9,7 +9,7 @@ use crate::group_values::GroupValues;
 use crate::growing::with_days;
 use rand_pcg::Pcg32;
 use std::alloc::{AllocError, Global};
-use tt_search_watch::Watch;
+use tt_watch::Watch;
 
 /// Two drafts by their indices, and their merger, if it has a higher value. The pair of a draft with itself takes free days.
 #[derive(Drop)]

@@ -9,7 +9,7 @@ use crate::group_values::GroupValues;
 use crate::growing::grow;
 use rand_pcg::Pcg32;
 use std::alloc::{AllocError, Global};
-use tt_search_watch::Watch;
+use tt_watch::Watch;
 
 /// A curriculum that a group can grow from, and the group once it has grown.
 #[derive(Drop)]

@@ -1,6 +1,6 @@
 //! The work that a search may still do.
 
-use tt_search_watch::Watch;
+use tt_watch::Watch;
 
 /// The number of steps after which the watch is asked again.
 const STEPS_BETWEEN: u64 = 1_048_576;

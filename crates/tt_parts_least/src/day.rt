@@ -4,8 +4,8 @@ use crate::allowance::Allowance;
 use crate::layout::Layout;
 use crate::sets::Set;
 use std::alloc::{AllocError, Global};
-use tt_instance_data::{ISOLATED_COST, MISSING_DAY_COST};
-use tt_search_watch::Watch;
+use tt_instance::{ISOLATED_COST, MISSING_DAY_COST};
+use tt_watch::Watch;
 
 /// The value of a place without an entry.
 pub const NONE: u8 = u8::MAX;

@@ -5,8 +5,8 @@ use crate::day::Table;
 use crate::layout::Layout;
 use crate::sets::Set;
 use std::alloc::{AllocError, Global};
-use tt_instance_data::Instance;
-use tt_search_watch::Watch;
+use tt_instance::Instance;
+use tt_watch::Watch;
 
 /// Tables, and the number of the table that each day has.
 #[derive(Drop)]

@@ -5,8 +5,8 @@ use crate::day::{NONE, Table, Vector};
 use crate::days::Days;
 use crate::layout::Layout;
 use std::alloc::{AllocError, Global};
-use tt_instance_data::MISSING_DAY_COST;
-use tt_search_watch::Watch;
+use tt_instance::MISSING_DAY_COST;
+use tt_watch::Watch;
 
 /// The maximum number of digits of further lectures.
 const DIGITS: usize = 16;

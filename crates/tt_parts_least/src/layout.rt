@@ -1,7 +1,7 @@
 //! The encoding of the lectures of a group.
 
 use std::alloc::{AllocError, Global};
-use tt_instance_data::{Instance, MISSING_DAY_COST};
+use tt_instance::{Instance, MISSING_DAY_COST};
 
 /// The maximum number of courses that a group concerns.
 const COURSES: usize = 16;

@@ -6,8 +6,8 @@ use crate::fold::{Fold, Width};
 use crate::layout::Layout;
 use crate::sets::{Set, sets_of};
 use std::alloc::{AllocError, Global};
-use tt_instance_data::Instance;
-use tt_search_watch::Watch;
+use tt_instance::Instance;
+use tt_watch::Watch;
 
 /// The maximum distance of a group's value above its base cost.
 const VALUE: u32 = 127;

@@ -2,7 +2,7 @@
 
 use crate::layout::{Course, Layout};
 use std::alloc::{AllocError, Global};
-use tt_instance_data::Instance;
+use tt_instance::Instance;
 
 /// The maximum number of sets.
 const SETS: usize = 4_096;

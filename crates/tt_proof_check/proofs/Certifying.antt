@@ -2,18 +2,18 @@
 use Rattle.std.proofs.Common.{◌≡◌, ℕ, zero, suc, ◌+◌, ◌<◌, ◌≤◌, Bool, true, false, if◌then◌else◌, List, Option, Some, None, Result, Ok, Err, IfOk, refl, sym, ap, subst, ◌∙◌, arith, inl, inr}
 use Rattle.std.specs.Prelude.{IfSome, ◌↔◌, IsTrue, ◌⊎◌}
 use Rattle.tt_text.specs.declared.feed.FeedFault.TheVariants as feed
-use Rattle.tt_instance_data.specs.Problem.{Problem}
-use Rattle.tt_instance_data.specs.Spelling.{Spells}
-use Rattle.tt_instance_data.specs.declared.cell.Cell.{Cell}
-use Rattle.tt_instance.specs.declared.fault.InstanceFault.{InstanceFault}
-use Rattle.tt_instance.specs.declared.fault.InstanceFault.TheVariants as instance
+use Rattle.tt_instance.specs.Problem.{Problem}
+use Rattle.tt_instance.specs.Spelling.{Spells}
+use Rattle.tt_instance.specs.declared.cell.Cell.{Cell}
+use Rattle.tt_instance_read.specs.declared.fault.InstanceFault.{InstanceFault}
+use Rattle.tt_instance_read.specs.declared.fault.InstanceFault.TheVariants as instance
 use Rattle.tt_table.specs.Spelling.{SpellsBoth, SpellsTable}
 use Rattle.tt_table.specs.declared.fault.SolutionFault.{SolutionFault}
 use Rattle.tt_table.specs.declared.fault.SolutionFault.TheVariants as solution
 use Rattle.tt_rules.specs.Score.{IsScore, IsFeasible, hard, cost}
 use Rattle.tt_rules.specs.declared.counts.Score.{Score}
 use Rattle.tt_rules.proofs.Scores.{hard_is, cost_is, feasible_is}
-use Rattle.tt_leaf_data.specs.declared.leaf.Bound.TheVariants.{AtLeast}
+use Rattle.tt_leaf.specs.declared.leaf.Bound.TheVariants.{AtLeast}
 use Rattle.tt_proof_read.specs.declared.fault.TextFault.TheVariants as text
 use Rattle.tt_proof_check.specs.Derives.{HoldsOfAll}
 use Rattle.tt_proof_check.specs.Faults as checks
@@ -28,7 +28,7 @@ use Rattle.tt_proof_check.specs.declared.fault.Verdict.TheVariants.{Yes, Breaks}
 use Rattle.tt_proof_check.specs.declared.fault.CertifyFault.{CertifyFault}
 use Rattle.tt_proof_check.specs.declared.fault.CertifyFault.TheVariants as fault
 use Rattle.tt_proof_check.proofs.Files.{FailsFiles, one_table, only_memory}
-use Rattle.tt_instance.proofs.Laws.{spelled_once}
+use Rattle.tt_instance_read.proofs.Laws.{spelled_once}
 
 -- ---- before the score is known
 

@@ -2,7 +2,7 @@
 use Rattle.std.proofs.Common.{◌≡◌, ℕ, suc, zero, ◌+◌, ◌<◌, List, [], ◌∷◌, ◌++◌, length, Result, Ok, refl, sym, ap, subst, ◌∙◌, arith, append_assoc, append-nil, ◌⊎◌, inl, inr}
 use Rattle.std.specs.Prelude.{slice_get}
 use Rattle.tt_text.specs.Feeds.{Stream}
-use Rattle.tt_leaf_data.specs.declared.leaf.Bound.{Bound}
+use Rattle.tt_leaf.specs.declared.leaf.Bound.{Bound}
 use Rattle.tt_proof_read.specs.Reads.{ReadsNodes}
 use Rattle.tt_proof_read.specs.Trees.{Tree, Tip, Fork, preorder, on_paths}
 use Rattle.tt_proof_read.specs.declared.fault.TextFault.{TextFault}

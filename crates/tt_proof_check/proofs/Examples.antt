@@ -6,13 +6,13 @@ use Rattle.tt_text.specs.Numbers.{number_of}
 use Rattle.tt_text.specs.Feeds.{Stream, fault_from, stream_from}
 use Rattle.tt_text.specs.CutShort.{cut_short}
 use Rattle.tt_text.specs.declared.feed.FeedFault.TheVariants.{Read}
-use Rattle.tt_instance_data.proofs.Examples.{gap}
-use Rattle.tt_facts_path.specs.declared.facts.Fact.{Fact}
-use Rattle.tt_facts_path.specs.declared.facts.Pattern.{Pattern}
-use Rattle.tt_leaf_data.specs.declared.leaf.Bound.TheVariants.{AtLeast}
-use Rattle.tt_leaf_data.specs.declared.leaf.Claim.TheVariants.{Capacity, Compact}
-use Rattle.tt_leaf_data.specs.declared.leaf.Leaf.{Leaf}
-use Rattle.tt_leaf_data.specs.declared.leaf.Leaf.TheVariants.{Clique, Cost}
+use Rattle.tt_instance.proofs.Examples.{gap}
+use Rattle.tt_path.specs.declared.facts.Fact.{Fact}
+use Rattle.tt_path.specs.declared.facts.Pattern.{Pattern}
+use Rattle.tt_leaf.specs.declared.leaf.Bound.TheVariants.{AtLeast}
+use Rattle.tt_leaf.specs.declared.leaf.Claim.TheVariants.{Capacity, Compact}
+use Rattle.tt_leaf.specs.declared.leaf.Leaf.{Leaf}
+use Rattle.tt_leaf.specs.declared.leaf.Leaf.TheVariants.{Clique, Cost}
 use Rattle.tt_leaf_rules.specs.declared.fault.RuleFault.TheVariants.{TooCheap}
 use Rattle.tt_leaf_rules.proofs.Examples.{when}
 use Rattle.tt_leaf_rules.proofs.Rightness.{right_of}

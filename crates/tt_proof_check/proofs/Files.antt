@@ -1,12 +1,12 @@
 -- The bytes of an instance and of a solution, and the results of reading them.
 use Rattle.std.proofs.Common.{◌≡◌, ℕ, List, Err, refl, subst}
-use Rattle.tt_instance_data.specs.Problem.{Problem}
-use Rattle.tt_instance.specs.Reading.{instance_of, Fails}
-use Rattle.tt_instance_data.specs.Spelling.{Spells}
-use Rattle.tt_instance_data.specs.declared.cell.Cell.{Cell}
-use Rattle.tt_instance.specs.declared.fault.InstanceFault.{InstanceFault}
-use Rattle.tt_instance.specs.declared.fault.InstanceFault.TheVariants as instance
-use Rattle.tt_instance.proofs.Laws.{is_read, spelled_instance, spelled_once}
+use Rattle.tt_instance.specs.Problem.{Problem}
+use Rattle.tt_instance_read.specs.Reading.{instance_of, Fails}
+use Rattle.tt_instance.specs.Spelling.{Spells}
+use Rattle.tt_instance.specs.declared.cell.Cell.{Cell}
+use Rattle.tt_instance_read.specs.declared.fault.InstanceFault.{InstanceFault}
+use Rattle.tt_instance_read.specs.declared.fault.InstanceFault.TheVariants as instance
+use Rattle.tt_instance_read.proofs.Laws.{is_read, spelled_instance, spelled_once}
 use Rattle.tt_table.specs.Reading.{solution_of, Fails as FailsTable}
 use Rattle.tt_table.specs.Spelling.{SpellsBoth, SpellsTable}
 use Rattle.tt_table.specs.declared.fault.SolutionFault.{SolutionFault}

@@ -4,10 +4,10 @@ use Rattle.std.specs.Prelude.{All, slice_get, IsOkUnless}
 use Rattle.std.specs.List.{AllByRecursion}
 use Rattle.std.proofs.lemmas.List.{take_all, take-append-drop, length-take-le}
 use Rattle.std.proofs.lemmas.List.Elements.{All-from_recursion, recursion_from_All}
-use Rattle.tt_instance_data.specs.Problem.{Problem}
-use Rattle.tt_facts_path.specs.declared.facts.Fact.{Fact}
-use Rattle.tt_facts_path.specs.declared.path.TheConstants.{MAX_FACTS}
-use Rattle.tt_leaf_data.specs.declared.leaf.Bound.{Bound}
+use Rattle.tt_instance.specs.Problem.{Problem}
+use Rattle.tt_path.specs.declared.facts.Fact.{Fact}
+use Rattle.tt_path.specs.declared.path.TheConstants.{MAX_FACTS}
+use Rattle.tt_leaf.specs.declared.leaf.Bound.{Bound}
 use Rattle.tt_leaf_rules.specs.declared.fault.RuleFault.{RuleFault}
 use Rattle.tt_leaf_rules.proofs.Rightness.{faultless}
 use Rattle.tt_proof_read.specs.Trees.{Tree, Tip, Fork, with_fact, preorder, OnPath, on_paths, IsPreorder, IsShallow}
@@ -23,7 +23,7 @@ use Rattle.tt_proof_check.proofs.Counting.{take_next, split_at}
 use Rattle.tt_proof_check.proofs.Reading.{whole_places}
 use Rattle.tt_proof_check.proofs.Soundness.{proof_sound}
 use Rattle.tt_proof_check.proofs.Walking.{Walked, walked_due, walked_next, walked_tree, fails_at, too_deep, deep_tree}
-use Rattle.tt_lists.proofs.Tested.{each_append}
+use Rattle.tt_list_laws.proofs.Tested.{each_append}
 
 -- whether the nodes before the one at i have been checked
 abbrev pub Midway : Problem → Bound → List Node → ℕ → List Fact → Type 0

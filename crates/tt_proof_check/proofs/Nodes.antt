@@ -1,6 +1,6 @@
 -- The nodes of a proof have the numbers of the instance.
 use Rattle.std.proofs.Common.{ℕ}
-use Rattle.tt_instance_data.specs.Problem.{Problem}
+use Rattle.tt_instance.specs.Problem.{Problem}
 use Rattle.tt_proof_read.specs.Spelling.{IsNode}
 use Rattle.tt_proof_read.specs.declared.node.Node.{Node}
 use Rattle.tt_proof_read.specs.declared.node.Node.TheVariants.{Split, Leaf}

@@ -6,17 +6,17 @@ use Rattle.std.proofs.lemmas.Bool.{cases_order}
 use Rattle.std.proofs.lemmas.List.{length-append}
 use Rattle.std.proofs.lemmas.List.Elements.{recursion_from_All}
 use Rattle.tt_text.specs.Feeds.{Stream}
-use Rattle.tt_instance_data.specs.Problem.{Problem}
-use Rattle.tt_instance.specs.Reading.{instance_of}
-use Rattle.tt_instance_data.specs.Spelling.{Spells}
-use Rattle.tt_instance.specs.declared.fault.InstanceFault.{InstanceFault}
-use Rattle.tt_instance.proofs.Laws.{is_read, spelled_once}
+use Rattle.tt_instance.specs.Problem.{Problem}
+use Rattle.tt_instance_read.specs.Reading.{instance_of}
+use Rattle.tt_instance.specs.Spelling.{Spells}
+use Rattle.tt_instance_read.specs.declared.fault.InstanceFault.{InstanceFault}
+use Rattle.tt_instance_read.proofs.Laws.{is_read, spelled_once}
 use Rattle.tt_table.specs.Reading.{solution_of}
 use Rattle.tt_table.specs.declared.fault.SolutionFault.{SolutionFault}
-use Rattle.tt_facts_path.specs.declared.facts.Fact.{Fact}
+use Rattle.tt_path.specs.declared.facts.Fact.{Fact}
 use Rattle.tt_leaf_rules.specs.Faults.{fault_of}
-use Rattle.tt_leaf_data.specs.declared.leaf.Bound.{Bound}
-use Rattle.tt_leaf_data.specs.declared.leaf.Leaf.{Leaf}
+use Rattle.tt_leaf.specs.declared.leaf.Bound.{Bound}
+use Rattle.tt_leaf.specs.declared.leaf.Leaf.{Leaf}
 use Rattle.tt_leaf_rules.specs.declared.fault.RuleFault.{RuleFault}
 use Rattle.tt_leaf_rules.proofs.Rightness.{faultless}
 use Rattle.tt_proof_read.specs.Faults.{is_environmental}

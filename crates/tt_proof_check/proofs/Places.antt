@@ -1,6 +1,6 @@
 -- The places that a path leaves open.
 use Rattle.std.proofs.Common.{◌≡◌, true, false, List, [], ◌∷◌, ◌++◌, sym, ap, ◌∙◌, append_assoc, append-nil}
-use Rattle.tt_facts_path.specs.declared.facts.Fact.{Fact}
+use Rattle.tt_path.specs.declared.facts.Fact.{Fact}
 use Rattle.tt_proof_read.specs.Trees.{with_fact}
 use Rattle.tt_proof_check.specs.Inner.Pending.{other_side, pending_after, pending}
 

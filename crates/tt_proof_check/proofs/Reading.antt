@@ -1,8 +1,8 @@
 -- Nodes in preorder, read with a stack of the paths whose nodes are not read yet.
 use Rattle.std.proofs.Common.{◌≡◌, ℕ, zero, suc, ◌≤◌, ◌<◌, true, false, List, [], ◌∷◌, ◌++◌, map, length, Option, Some, None, refl, sym, ap, ◌∙◌, arith, append_assoc, append-nil, le_of_suc-le-suc}
 use Rattle.std.specs.Prelude.{slice_get}
-use Rattle.tt_facts_path.specs.declared.facts.Fact.{Fact}
-use Rattle.tt_leaf_data.specs.declared.leaf.Leaf.TheVariants.{Many}
+use Rattle.tt_path.specs.declared.facts.Fact.{Fact}
+use Rattle.tt_leaf.specs.declared.leaf.Leaf.TheVariants.{Many}
 use Rattle.tt_proof_read.specs.Trees.{Tree, Tip, Fork, with_fact, preorder, OnPath, on_paths, IsPreorder}
 use Rattle.tt_proof_read.specs.declared.node.Node.{Node}
 use Rattle.tt_proof_read.specs.declared.node.Node.TheVariants.{Split, Leaf}

@@ -3,13 +3,13 @@ use Rattle.std.proofs.Common.{true, false, List, [], inl, inr}
 use Rattle.std.specs.List.{list_any}
 use Rattle.std.proofs.lemmas.List.Elements.{All-push, All-nil}
 use Rattle.std.proofs.lemmas.Bool.{cases_Bool}
-use Rattle.tt_instance_data.specs.Problem.{Problem}
-use Rattle.tt_instance_data.specs.declared.cell.Cell.{Cell}
+use Rattle.tt_instance.specs.Problem.{Problem}
+use Rattle.tt_instance.specs.declared.cell.Cell.{Cell}
 use Rattle.tt_rules.specs.Score.{IsFeasible, cost}
-use Rattle.tt_facts_path.specs.Facts.{matches, Holds, Fits}
-use Rattle.tt_facts_path.specs.declared.facts.Fact.{Fact}
+use Rattle.tt_path.specs.Facts.{matches, Holds, Fits}
+use Rattle.tt_path.specs.declared.facts.Fact.{Fact}
 use Rattle.tt_leaf_rules.specs.Bounds.{Respects}
-use Rattle.tt_leaf_data.specs.declared.leaf.Bound.{Bound}
+use Rattle.tt_leaf.specs.declared.leaf.Bound.{Bound}
 use Rattle.tt_leaf_rules.proofs.Soundness.{leaf_sound}
 use Rattle.tt_proof_read.specs.Trees.{Tree, Tip, Fork, with_fact}
 use Rattle.tt_proof_read.specs.declared.node.Node.{Node}

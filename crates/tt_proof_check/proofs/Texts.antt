@@ -2,9 +2,9 @@
 use Rattle.std.proofs.Common.{◌≡◌, ℕ, ◌+◌, ◌<◌, Bool, true, List, [], ◌∷◌, ◌++◌, length, Some, Option, Result, Ok, Err, IfOk, IfErr, refl, sym, ap, subst, ◌∙◌, arith, append_assoc, append-nil, ◌⊎◌, inl, inr, is_some}
 use Rattle.std.specs.Prelude.{slice_get, MatchResult}
 use Rattle.tt_text.specs.Feeds.{Stream, stream_at, fresh}
-use Rattle.tt_instance_data.specs.Problem.{Problem}
-use Rattle.tt_instance_data.specs.Limits.{IsInstance}
-use Rattle.tt_leaf_data.specs.declared.leaf.Bound.{Bound}
+use Rattle.tt_instance.specs.Problem.{Problem}
+use Rattle.tt_instance.specs.Limits.{IsInstance}
+use Rattle.tt_leaf.specs.declared.leaf.Bound.{Bound}
 use Rattle.tt_proof_read.specs.Reading.{header_at, node_at, end_at}
 use Rattle.tt_proof_read.specs.Reads.{ReadsNodes, Reads}
 use Rattle.tt_proof_read.specs.Spelling.{SpellsProof}

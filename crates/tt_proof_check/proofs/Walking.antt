@@ -3,10 +3,10 @@ use Rattle.std.proofs.Common.{◌≡◌, ◌≤◌, ◌<◌, Bool, true, false, 
 use Rattle.std.specs.Prelude.{All, slice_get}
 use Rattle.std.specs.List.{AllByRecursion}
 use Rattle.std.proofs.lemmas.List.Elements.{All-push, All-nil, recursion_from_All}
-use Rattle.tt_instance_data.specs.Problem.{Problem}
-use Rattle.tt_facts_path.specs.declared.facts.Fact.{Fact}
-use Rattle.tt_facts_path.specs.declared.path.TheConstants.{MAX_FACTS}
-use Rattle.tt_leaf_data.specs.declared.leaf.Bound.{Bound}
+use Rattle.tt_instance.specs.Problem.{Problem}
+use Rattle.tt_path.specs.declared.facts.Fact.{Fact}
+use Rattle.tt_path.specs.declared.path.TheConstants.{MAX_FACTS}
+use Rattle.tt_leaf.specs.declared.leaf.Bound.{Bound}
 use Rattle.tt_leaf_rules.specs.declared.fault.RuleFault.{RuleFault}
 use Rattle.tt_proof_read.specs.Trees.{Tree, Tip, Fork, with_fact, preorder, OnPath, on_paths, IsShallow}
 use Rattle.tt_proof_read.specs.declared.node.Node.{Node}
@@ -20,7 +20,7 @@ use Rattle.tt_proof_check.specs.Inner.Steps.{Steps, Stops}
 use Rattle.tt_proof_check.specs.Explains.{Passes, FailsAt, IsDeepAt}
 use Rattle.tt_proof_check.proofs.Places.{pending-push}
 use Rattle.tt_proof_check.proofs.Reading.{Stack, root, next_stack, stack_after, at, places_of, stack_after-push, places_of-push, length-places_of, whole_places, stack_whole, tree_goes_on, no_tree_goes_on, no_tree_yet, get-behind}
-use Rattle.tt_lists.proofs.Members.{each_of_append}
+use Rattle.tt_list_laws.proofs.Members.{each_of_append}
 
 -- the open places if the node of a path is due, or if none is
 abbrev pub stack_of : Bool → List Fact → Stack

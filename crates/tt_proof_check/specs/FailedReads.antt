@@ -3,9 +3,9 @@ use Rattle.std.specs.Prelude.{◌≡◌, ℕ, true, is_some, List, length, Optio
 use Rattle.std.specs.Io.KnownBytes.{Consumes}
 use Rattle.tt_text.specs.CutShort.{cut_short, rest_of, cut_at, MayFail}
 use Rattle.tt_text.specs.Feeds.{Stream, Fed}
-use Rattle.tt_instance_data.specs.Problem.{Problem}
-use Rattle.tt_instance_data.specs.Spelling.{Spells}
-use Rattle.tt_leaf_data.specs.declared.leaf.Bound.{Bound}
+use Rattle.tt_instance.specs.Problem.{Problem}
+use Rattle.tt_instance.specs.Spelling.{Spells}
+use Rattle.tt_leaf.specs.declared.leaf.Bound.{Bound}
 use Rattle.tt_proof_read.specs.Faults.{read_failed}
 use Rattle.tt_proof_read.specs.Reading.{header_at, node_at, end_at}
 use Rattle.tt_proof_check.specs.Streams.{stream_of, sizes_of, NodeFails, EndFails, HasHeader}

@@ -1,11 +1,11 @@
 -- The headline: the conditions under which the bytes of an instance, a solution and a proof certify a cost and a lower bound.
 use Rattle.std.specs.Prelude.{◌≡◌, ℕ, ◌<◌, List}
-use Rattle.tt_instance_data.specs.Problem.{Problem}
-use Rattle.tt_instance_data.specs.Spelling.{Spells}
-use Rattle.tt_instance_data.specs.declared.cell.Cell.{Cell}
+use Rattle.tt_instance.specs.Problem.{Problem}
+use Rattle.tt_instance.specs.Spelling.{Spells}
+use Rattle.tt_instance.specs.declared.cell.Cell.{Cell}
 use Rattle.tt_table.specs.Spelling.{SpellsBoth}
 use Rattle.tt_rules.specs.Score.{IsFeasible, hard, cost}
-use Rattle.tt_leaf_data.specs.declared.leaf.Bound.TheVariants.{AtLeast}
+use Rattle.tt_leaf.specs.declared.leaf.Bound.TheVariants.{AtLeast}
 use Rattle.tt_proof_check.specs.Derives.{HoldsOfAll}
 use Rattle.tt_proof_check.specs.Streams.{IsProved}
 

@@ -1,7 +1,7 @@
 -- Lists of nodes.
-use Rattle.tt_instance_data.specs.Problem.{Problem}
-use Rattle.tt_facts_path.specs.Facts.{IsPattern}
-use Rattle.tt_leaf_data.specs.Ranges.{IsLeafOf}
+use Rattle.tt_instance.specs.Problem.{Problem}
+use Rattle.tt_path.specs.Facts.{IsPattern}
+use Rattle.tt_leaf.specs.Ranges.{IsLeafOf}
 use Rattle.tt_proof_read.specs.declared.node.Node.{Node}
 use Rattle.tt_proof_read.specs.declared.node.Node.TheVariants.{Split, Leaf}
 

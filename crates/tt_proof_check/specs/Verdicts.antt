@@ -1,12 +1,12 @@
 -- The results of `certify`, and the results that are required.
 use Rattle.std.specs.Prelude.{◌≡◌, ℕ, ◌≤◌, ◌⊎◌, Bool, false, List, Option, Result, Ok, Err, IfSome, ⊤}
 use Rattle.tt_text.specs.declared.feed.FeedFault.TheVariants as feed
-use Rattle.tt_instance_data.specs.Problem.{Problem}
-use Rattle.tt_instance.specs.Reading.{instance_of}
-use Rattle.tt_instance_data.specs.Spelling.{Spells}
-use Rattle.tt_instance_data.specs.declared.cell.Cell.{Cell}
-use Rattle.tt_instance.specs.declared.fault.InstanceFault.{InstanceFault}
-use Rattle.tt_instance.specs.declared.fault.InstanceFault.TheVariants as instance
+use Rattle.tt_instance.specs.Problem.{Problem}
+use Rattle.tt_instance_read.specs.Reading.{instance_of}
+use Rattle.tt_instance.specs.Spelling.{Spells}
+use Rattle.tt_instance.specs.declared.cell.Cell.{Cell}
+use Rattle.tt_instance_read.specs.declared.fault.InstanceFault.{InstanceFault}
+use Rattle.tt_instance_read.specs.declared.fault.InstanceFault.TheVariants as instance
 use Rattle.tt_table.specs.Reading.{solution_of}
 use Rattle.tt_table.specs.declared.fault.SolutionFault.{SolutionFault}
 use Rattle.tt_table.specs.declared.fault.SolutionFault.TheVariants as solution

@@ -5,7 +5,7 @@ ghost use Rattle.tt_proof_check.specs.declared.fault.CheckFault.TheVariants.{Out
 
 use std::alloc::{AllocError, AllocFailed};
 use thiserror::Error;
-use tt_instance::InstanceFault;
+use tt_instance_read::InstanceFault;
 use tt_leaf_rules::RuleFault;
 use tt_proof_read::TextFault;
 use tt_rules::Score;

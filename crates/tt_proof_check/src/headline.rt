@@ -2,7 +2,7 @@
 
 ghost use Rattle.std.specs.Prelude.{◌≡◌, ◌↔◌, ℕ, List, Some, Ok, Err, true, false, if◌then◌else◌, IfOk, IfErr};
 ghost use Rattle.tt_rules.specs.Score.{IsFeasible};
-ghost use Rattle.tt_leaf_data.specs.declared.leaf.Bound.TheVariants.{AtLeast};
+ghost use Rattle.tt_leaf.specs.declared.leaf.Bound.TheVariants.{AtLeast};
 ghost use Rattle.tt_proof_check.specs.Derives.{HoldsOfAll};
 ghost use Rattle.tt_proof_check.specs.FailedReads.{IsCheckedUpToFailedRead, IsSpelledAndCheckedUpToFailedRead};
 ghost use Rattle.tt_text.specs.Failures.{is_err_and};
@@ -15,9 +15,9 @@ ghost use Rattle.tt_proof_check.specs.Verdicts.{IsVerdict, IsFirstFault, IsFileF
 use crate::fault::{CertifyFault, Verdict};
 use crate::stream::check_proof;
 use std::alloc::Global;
-use tt_instance::read_instance;
-use tt_instance_data::Instance;
-use tt_leaf_data::Bound;
+use tt_instance_read::read_instance;
+use tt_instance::Instance;
+use tt_leaf::Bound;
 use tt_rules::score;
 use tt_table::{Timetable, read_solution};
 use tt_text::Source;

@@ -2,9 +2,9 @@
 
 ghost use Rattle.std.specs.Prelude.{◌≡◌, ℕ, ◌⊎◌, List, Some};
 ghost use Rattle.tt_text.specs.Feeds.{Stream};
-ghost use Rattle.tt_instance_data.specs.Problem.{Problem};
-ghost use Rattle.tt_facts_path.specs.declared.facts.Fact.{Fact};
-ghost use Rattle.tt_leaf_data.specs.declared.leaf.Bound.{Bound};
+ghost use Rattle.tt_instance.specs.Problem.{Problem};
+ghost use Rattle.tt_path.specs.declared.facts.Fact.{Fact};
+ghost use Rattle.tt_leaf.specs.declared.leaf.Bound.{Bound};
 ghost use Rattle.tt_proof_read.specs.Trees.{Tree};
 ghost use Rattle.tt_proof_check.specs.Derives.{Derives, HoldsOn};
 ghost use Rattle.tt_proof_check.specs.Streams.{IsProofFault, IsEnvironmental};

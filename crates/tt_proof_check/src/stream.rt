@@ -1,8 +1,8 @@
 //! Proofs that are checked as they are read.
 
 ghost use Rattle.std.specs.Prelude.{◌≡◌, ◌<◌, ◌≤◌, ℕ, List, [], length, true, if◌then◌else◌, is_some, Some, None, Err, OnOk, IfOk, IfErr, MatchResult};
-ghost use Rattle.tt_facts_path.specs.declared.path.TheConstants.{MAX_FACTS};
-ghost use Rattle.tt_leaf_data.specs.declared.leaf.Bound.{Bound};
+ghost use Rattle.tt_path.specs.declared.path.TheConstants.{MAX_FACTS};
+ghost use Rattle.tt_leaf.specs.declared.leaf.Bound.{Bound};
 ghost use Rattle.tt_text.specs.Failures.{is_err_and};
 ghost use Rattle.tt_text.specs.Feeds.{stream_at, fresh};
 ghost use Rattle.tt_proof_read.specs.Answers.{StaysKnown};
@@ -22,10 +22,10 @@ use crate::fault::CheckFault;
 use crate::visitor::{NoVisitor, NodeVisitor};
 use crate::walk::{Stop, check_node};
 use std::alloc::Global;
-use tt_facts::TrailPath;
-use tt_facts_path::Path;
-use tt_instance_data::Instance;
-use tt_leaf_data::Bound;
+use tt_path_trail::TrailPath;
+use tt_path::Path;
+use tt_instance::Instance;
+use tt_leaf::Bound;
 use tt_proof_read::{Node, NodeReader};
 use tt_text::Source;
 

@@ -1,13 +1,13 @@
 //! Nodes in preorder, in turn. One path is the whole stack: the second child of each yes-fact on it is not read yet.
 
 ghost use Rattle.std.specs.Prelude.{◌≡◌, ◌≤◌, length, OnOk, IfErr, IsOkUnless};
-ghost use Rattle.tt_facts_path.specs.declared.path.TheConstants.{MAX_FACTS};
+ghost use Rattle.tt_path.specs.declared.path.TheConstants.{MAX_FACTS};
 ghost use Rattle.tt_proof_check.specs.Nodes.{IsNodeOf};
 ghost use Rattle.tt_proof_check.specs.Inner.Pending.{ContinuesWith};
 ghost use Rattle.tt_proof_check.specs.Inner.Steps.{Steps, Stops};
 
-use tt_facts_path::{Fact, Path, PathFault};
-use tt_leaf_data::Bound;
+use tt_path::{Fact, Path, PathFault};
+use tt_leaf::Bound;
 use tt_leaf_rules::{RuleFault, holds};
 use tt_proof_read::Node;
 

@@ -11,12 +11,12 @@ use Rattle.tt_text.specs.declared.feed.FeedFault.{FeedFault}
 use Rattle.tt_text.specs.declared.feed.FeedFault.TheVariants as feed
 use Rattle.tt_text.proofs.Feeding.{while-yes, while-no}
 use Rattle.tt_text.proofs.Unlimited.{unlimited}
-use Rattle.tt_instance_data.specs.Problem.{Problem}
-use Rattle.tt_instance_data.specs.Beginnings.{BeginsAs}
-use Rattle.tt_instance_data.specs.Limits.{IsInstance}
-use Rattle.tt_instance_data.proofs.Beginnings.{begins_shared, stands_or_none}
-use Rattle.tt_instance_data.proofs.Shared.{NoneAt, Shared, Apart, Next, other_offset}
-use Rattle.tt_leaf_data.specs.declared.leaf.Bound.{Bound}
+use Rattle.tt_instance.specs.Problem.{Problem}
+use Rattle.tt_instance.specs.Beginnings.{BeginsAs}
+use Rattle.tt_instance.specs.Limits.{IsInstance}
+use Rattle.tt_instance.proofs.Beginnings.{begins_shared, stands_or_none}
+use Rattle.tt_instance.proofs.Shared.{NoneAt, Shared, Apart, Next, other_offset}
+use Rattle.tt_leaf.specs.declared.leaf.Bound.{Bound}
 use Rattle.tt_proof_read.specs.Beginnings.{token_offset, FailsNext, NodesFail, ReadingFails}
 use Rattle.tt_proof_read.specs.Reading.{header_at, node_at, end_at}
 use Rattle.tt_proof_read.specs.Reads.{ReadsNodes, Reads, stream_of_bytes, open_after}

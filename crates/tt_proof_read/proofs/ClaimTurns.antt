@@ -2,7 +2,7 @@
 use Rattle.std.proofs.Common.{◌≡◌, ℕ, List, [], sym, subst}
 use Rattle.std.specs.List.{push}
 use Rattle.tt_text.specs.Feeds.{Stream}
-use Rattle.tt_leaf_data.specs.declared.leaf.Claim.{Claim}
+use Rattle.tt_leaf.specs.declared.leaf.Claim.{Claim}
 use Rattle.tt_proof_read.specs.Reading.{claim_at, claims_at}
 use Rattle.tt_proof_read.specs.declared.sizes.Sizes.{Sizes}
 use Rattle.tt_proof_read.proofs.Loops.{IsLeft, all_left}

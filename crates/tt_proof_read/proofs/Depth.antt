@@ -3,10 +3,10 @@ use Rattle.std.proofs.Common.{◌≡◌, ℕ, ◌+◌, ◌≤◌, true, false, L
 use Rattle.std.specs.Prelude.{All}
 use Rattle.std.specs.List.{AllByRecursion}
 use Rattle.std.proofs.lemmas.List.Elements.{All-from_recursion, recursion_from_All}
-use Rattle.tt_lists.proofs.Members.{each_of_append}
-use Rattle.tt_lists.proofs.Tested.{each_append}
-use Rattle.tt_facts_path.specs.declared.facts.Fact.{Fact}
-use Rattle.tt_leaf_data.specs.declared.leaf.Leaf.{Leaf}
+use Rattle.tt_list_laws.proofs.Members.{each_of_append}
+use Rattle.tt_list_laws.proofs.Tested.{each_append}
+use Rattle.tt_path.specs.declared.facts.Fact.{Fact}
+use Rattle.tt_leaf.specs.declared.leaf.Leaf.{Leaf}
 use Rattle.tt_proof_read.specs.Trees.{Tree, Tip, Fork, OnPath, AllLeaves, on_paths, with_fact}
 
 module _ (n : ℕ) where

@@ -3,9 +3,9 @@ use Rattle.std.proofs.Common.{◌≡◌, Bool, true, false, not, List, [], ◌�
 use Rattle.std.specs.List.{list_any}
 use Rattle.std.proofs.lemmas.Bool.{false_from_ne_true}
 use Rattle.std.proofs.lemmas.List.{length_push}
-use Rattle.tt_lists.specs.Words.{each_two, with_new, distinct}
-use Rattle.tt_lists.proofs.Distinct.{distinct_push, distinct_stays, each_two-distinct}
-use Rattle.tt_lists.proofs.Members.{each_two-of_append}
+use Rattle.tt_list_laws.specs.Words.{each_two, with_new, distinct}
+use Rattle.tt_list_laws.proofs.Distinct.{distinct_push, distinct_stays, each_two-distinct}
+use Rattle.tt_list_laws.proofs.Members.{each_two-of_append}
 
 -- adding an element that is like none of those before it
 pub each_two_push : {X : Type 0} (same : X → X → Bool) (xs : List X) (x : X) → each_two (λ a b. not (same a b)) xs ≡ true

@@ -6,10 +6,10 @@ use Rattle.tt_text.specs.Feeds.{Stream, fault_from, stream_from, stopped}
 use Rattle.tt_text.specs.declared.feed.TheConstants.{MAX_BYTES}
 use Rattle.tt_text.specs.CutShort.{cut_short}
 use Rattle.tt_text.specs.declared.feed.FeedFault.TheVariants.{Read}
-use Rattle.tt_facts_path.specs.declared.facts.Who.TheVariants.{Curriculum}
-use Rattle.tt_leaf_data.specs.declared.leaf.Bound.TheVariants.{AtLeast}
-use Rattle.tt_leaf_data.specs.declared.leaf.Claim.TheVariants as claim
-use Rattle.tt_leaf_data.specs.declared.leaf.Leaf.TheVariants as leaf
+use Rattle.tt_path.specs.declared.facts.Who.TheVariants.{Curriculum}
+use Rattle.tt_leaf.specs.declared.leaf.Bound.TheVariants.{AtLeast}
+use Rattle.tt_leaf.specs.declared.leaf.Claim.TheVariants as claim
+use Rattle.tt_leaf.specs.declared.leaf.Leaf.TheVariants as leaf
 use Rattle.tt_proof_read.specs.Faults.{read_failed}
 use Rattle.tt_proof_read.specs.Reading.{token_at, word_at, numbered_below, index_of, course_at, price_at, who_at, given_of, given_at, pattern_at, up_to_end, listed_at, list_at, pair_at, prices_at, claim_after_word, claim_at, claims_at, node_after_word, node_at, version_at, bound_of, bound_at, header_at, end_at}
 use Rattle.tt_proof_read.specs.declared.fault.TextFault.TheVariants as fault

@@ -1,11 +1,11 @@
 -- The three parts of the condition on a leaf of a proof: its numbers, its limits and its version.
 use Rattle.std.proofs.Common.{ℕ}
-use Rattle.tt_instance_data.specs.Problem.{Problem}
-use Rattle.tt_leaf_data.specs.Ranges.{IsClaimOf, IsLeafOf}
-use Rattle.tt_leaf_data.specs.declared.leaf.Claim.{Claim}
-use Rattle.tt_leaf_data.specs.declared.leaf.Claim.TheVariants.{Capacity, Days, Compact, Stable, Prices, Stacked}
-use Rattle.tt_leaf_data.specs.declared.leaf.Leaf.{Leaf}
-use Rattle.tt_leaf_data.specs.declared.leaf.Leaf.TheVariants.{Empty, Many, Clique, Slots, Cost}
+use Rattle.tt_instance.specs.Problem.{Problem}
+use Rattle.tt_leaf.specs.Ranges.{IsClaimOf, IsLeafOf}
+use Rattle.tt_leaf.specs.declared.leaf.Claim.{Claim}
+use Rattle.tt_leaf.specs.declared.leaf.Claim.TheVariants.{Capacity, Days, Compact, Stable, Prices, Stacked}
+use Rattle.tt_leaf.specs.declared.leaf.Leaf.{Leaf}
+use Rattle.tt_leaf.specs.declared.leaf.Leaf.TheVariants.{Empty, Many, Clique, Slots, Cost}
 use Rattle.tt_proof_read.specs.Limits.{IsShortClaim, IsShortLeaf, IsClaimIn, IsLeafIn}
 use Rattle.tt_proof_read.specs.Spelling.{IsClaim, IsLeaf}
 

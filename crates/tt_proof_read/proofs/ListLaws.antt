@@ -4,7 +4,7 @@ use Rattle.std.specs.Prelude.{map, fold}
 use Rattle.std.specs.List.{push}
 use Rattle.std.proofs.lemmas.List.{append-nil}
 use Rattle.std.proofs.lemmas.List.Elements.{All-nil, All-cons, All-head, All-tail}
-use Rattle.tt_lists.specs.Words.{each_two, has_number}
+use Rattle.tt_list_laws.specs.Words.{each_two, has_number}
 use Rattle.tt_text.specs.Tokens.{Placed}
 use Rattle.tt_text.specs.Texts.{is_text}
 use Rattle.tt_text.specs.Pieces.{Piece, Text, IsPiece}
@@ -12,7 +12,7 @@ use Rattle.tt_text.specs.Feeds.{Stream}
 use Rattle.tt_text.specs.Reading.{◌>>=◌}
 use Rattle.tt_text.proofs.Steps.{ok_is, bind_ok}
 use Rattle.tt_text.proofs.Fields.{text_is, is_text_of}
-use Rattle.tt_leaf_data.specs.Ranges.{AreBelow}
+use Rattle.tt_leaf.specs.Ranges.{AreBelow}
 use Rattle.tt_proof_read.specs.Spelling.{course_piece, listed_pieces, SpellsEach}
 use Rattle.tt_proof_read.specs.Reading.{index_of, new_number, listed_of, listed_at, list_at}
 use Rattle.tt_proof_read.specs.declared.fault.TextFault.{TextFault}

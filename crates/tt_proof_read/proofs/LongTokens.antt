@@ -7,8 +7,8 @@ use Rattle.std.proofs.lemmas.List.Folds.{length-prefix_len}
 use Rattle.tt_text.specs.Tokens.{is_separator, in_token, Placed, tokens_from, tokens_of}
 use Rattle.tt_text.specs.Feeds.{Fault, fault_from, stop_of, stream_from}
 use Rattle.tt_text.specs.declared.feed.FeedFault.TheVariants.{TokenTooLong, TooManyBytes}
-use Rattle.tt_instance_data.proofs.Shared.{NoneAt, Shared, Apart, Next}
-use Rattle.tt_instance_data.proofs.Beginnings.{any_later}
+use Rattle.tt_instance.proofs.Shared.{NoneAt, Shared, Apart, Next}
+use Rattle.tt_instance.proofs.Beginnings.{any_later}
 
 -- a token of more than 32 bytes lies at this offset
 abbrev pub HasLong : ℕ → List Placed → Type 0

@@ -9,13 +9,13 @@ use Rattle.tt_text.specs.Feeds.{Stream}
 use Rattle.tt_text.specs.Reading.{◌>>=◌}
 use Rattle.tt_text.proofs.Steps.{ok_is, bind_ok, test_ok}
 use Rattle.tt_text.proofs.Fields.{text_is}
-use Rattle.tt_instance_data.specs.Problem.{Problem}
-use Rattle.tt_facts_path.specs.Facts.{IsWho, IsPattern}
-use Rattle.tt_facts_path.specs.declared.facts.Who.{Who}
-use Rattle.tt_facts_path.specs.declared.facts.Who.TheVariants.{Course, Curriculum}
-use Rattle.tt_facts_path.specs.declared.facts.Pattern.{Pattern}
-use Rattle.tt_leaf_data.specs.Ranges.{AreBelow}
-use Rattle.tt_leaf_data.specs.declared.leaf.Leaf.TheVariants as leaf
+use Rattle.tt_instance.specs.Problem.{Problem}
+use Rattle.tt_path.specs.Facts.{IsWho, IsPattern}
+use Rattle.tt_path.specs.declared.facts.Who.{Who}
+use Rattle.tt_path.specs.declared.facts.Who.TheVariants.{Course, Curriculum}
+use Rattle.tt_path.specs.declared.facts.Pattern.{Pattern}
+use Rattle.tt_leaf.specs.Ranges.{AreBelow}
+use Rattle.tt_leaf.specs.declared.leaf.Leaf.TheVariants as leaf
 use Rattle.tt_proof_read.specs.Sizes.{AreSizes}
 use Rattle.tt_proof_read.specs.Spelling.{who_piece, given_piece, course_piece, pattern_pieces, listed_pieces, SpellsNode, IsNode}
 use Rattle.tt_proof_read.specs.Reading.{token_at, course_at, who_at, given_at, pattern_at, list_at, claims_at, node_word_of, node_after_word, counted, node_at}

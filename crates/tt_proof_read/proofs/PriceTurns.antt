@@ -2,11 +2,11 @@
 use Rattle.std.proofs.Common.{◌≡◌, ℕ, ◌<◌, ◌≤◌, ◌==◌, ◌||◌, false, List, [], ◌∷◌, ◌++◌, Option, Result, refl, sym, ap, subst, append_assoc, ◌∙◌}
 use Rattle.std.specs.Prelude.{map, All}
 use Rattle.std.specs.List.{list_any}
-use Rattle.tt_lists.specs.Words.{has_number}
+use Rattle.tt_list_laws.specs.Words.{has_number}
 use Rattle.std.proofs.lemmas.List.{map-append}
 use Rattle.std.proofs.lemmas.List.Elements.{All-nil, All-push, recursion_from_All}
-use Rattle.tt_lists.proofs.Members.{each_of_append}
-use Rattle.tt_leaf_data.specs.Ranges.{ArePrices, AreBelow}
+use Rattle.tt_list_laws.proofs.Members.{each_of_append}
+use Rattle.tt_leaf.specs.Ranges.{ArePrices, AreBelow}
 use Rattle.tt_text.specs.Feeds.{Stream}
 use Rattle.tt_proof_read.specs.Inner.Contract.{State, IsReading}
 use Rattle.tt_proof_read.specs.Inner.Pricing.{with_seen, IsUnseen, ArePriceLists}

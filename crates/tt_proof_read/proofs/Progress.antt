@@ -6,8 +6,8 @@ use Rattle.tt_text.specs.Feeds.{Stream}
 use Rattle.tt_text.specs.Numbers.{number_of}
 use Rattle.tt_text.specs.Reading.{◌>>=◌}
 use Rattle.tt_text.proofs.Steps.{ok_is, bind_ok}
-use Rattle.tt_leaf_data.specs.declared.leaf.Claim.{Claim}
-use Rattle.tt_leaf_data.specs.declared.leaf.Claim.TheVariants as claim
+use Rattle.tt_leaf.specs.declared.leaf.Claim.{Claim}
+use Rattle.tt_leaf.specs.declared.leaf.Claim.TheVariants as claim
 use Rattle.tt_proof_read.specs.Reading.{token_at, one_at, index_of, course_at, curriculum_at, priced_as, price_at, listed_of, listed_at, PriceLists, priced_of, with_price, seen_in, pair_at, next_pair_at, with_pair, prices_at, claim_word_of, claim_after_word, claim_then, claim_at}
 use Rattle.tt_proof_read.specs.declared.claims.ClaimWord.{ClaimWord}
 use Rattle.tt_proof_read.specs.declared.claims.ClaimWord.TheVariants as claim_word

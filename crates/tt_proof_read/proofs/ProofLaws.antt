@@ -9,9 +9,9 @@ use Rattle.tt_text.specs.declared.feed.TheConstants.{MAX_BYTES}
 use Rattle.tt_text.specs.declared.feed.FeedFault.{FeedFault}
 use Rattle.tt_text.proofs.Steps.{ok_is, bind_ok}
 use Rattle.tt_text.proofs.Unlimited.{unlimited, limited}
-use Rattle.tt_instance_data.specs.Problem.{Problem}
-use Rattle.tt_facts_path.specs.declared.path.TheConstants.{MAX_FACTS}
-use Rattle.tt_leaf_data.specs.declared.leaf.Bound.{Bound}
+use Rattle.tt_instance.specs.Problem.{Problem}
+use Rattle.tt_path.specs.declared.path.TheConstants.{MAX_FACTS}
+use Rattle.tt_leaf.specs.declared.leaf.Bound.{Bound}
 use Rattle.tt_proof_read.specs.Reads.{ReadsNodes, Reads, stream_of_bytes}
 use Rattle.tt_proof_read.specs.Sizes.{AreSizes}
 use Rattle.tt_proof_read.specs.Spelling.{version_text, bound_piece, SpellsEach, SpellsNode, IsBound, IsNode, SpellsProof}

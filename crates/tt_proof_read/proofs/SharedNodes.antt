@@ -7,7 +7,7 @@ use Rattle.tt_text.specs.Numbers.{number_of}
 use Rattle.tt_text.specs.Feeds.{Stream}
 use Rattle.tt_text.proofs.Steps.{ok_is}
 use Rattle.tt_text.specs.declared.feed.FeedFault.{FeedFault}
-use Rattle.tt_instance_data.proofs.Shared.{NoneAt, Shared, Apart, Next, other_offset}
+use Rattle.tt_instance.proofs.Shared.{NoneAt, Shared, Apart, Next, other_offset}
 use Rattle.tt_proof_read.specs.Reading.{word_at, index_of, course_at, curriculum_at, priced_as, price_at, who_in, who_at, given_of, given_at, pattern_at, listed_of, listed_at, list_at, Seen, seen_in, with_price, pair_at, next_pair_at, with_pair, prices_at, claim_after_word, claim_then, claim_at, claims_at, node_after_word, node_at, version_of, version_at, bound_of, bound_at, header_at, no_more, end_at}
 use Rattle.tt_proof_read.specs.Words.{word_text}
 use Rattle.tt_proof_read.specs.declared.fault.Word.{Word}

@@ -1,7 +1,7 @@
 -- The verdicts on a single token, compared with those on a token with the same text.
 use Rattle.std.proofs.Common.{◌≡◌, ◌≢◌, ℕ, Bool, true, false, cond, List, [], ◌∷◌, ◌==◌, Option, Some, None, Result, Ok, Err, refl, codes}
 use Rattle.std.specs.Prelude.{nat_lt, ◌&&◌}
-use Rattle.tt_lists.specs.Words.{has_number}
+use Rattle.tt_list_laws.specs.Words.{has_number}
 use Rattle.tt_text.specs.Tokens.{Placed}
 use Rattle.tt_text.specs.Texts.{is_text}
 use Rattle.tt_text.specs.Numbers.{number_of}
@@ -9,9 +9,9 @@ use Rattle.tt_text.specs.Reading.{◌>>=◌}
 use Rattle.tt_text.specs.declared.numbers.NumberFault.{NumberFault}
 use Rattle.tt_text.specs.declared.numbers.NumberFault.TheVariants as number
 use Rattle.tt_text.proofs.Steps.{bind_ok}
-use Rattle.tt_instance_data.proofs.Shared.{SameVerdict, other_offset}
-use Rattle.tt_facts_path.specs.declared.facts.Who.TheVariants as who
-use Rattle.tt_leaf_data.specs.declared.leaf.Bound.TheVariants as bound
+use Rattle.tt_instance.proofs.Shared.{SameVerdict, other_offset}
+use Rattle.tt_path.specs.declared.facts.Who.TheVariants as who
+use Rattle.tt_leaf.specs.declared.leaf.Bound.TheVariants as bound
 use Rattle.tt_proof_read.specs.Beginnings.{token_offset}
 use Rattle.tt_proof_read.specs.Reading.{numbered, below, numbered_below, index_in, index_of, new_number, priced_as, who_in, given_of, listed_of, Seen, priced_in, priced_of, claim_word_of, node_word_of, counted, version_of, bounded, bound_of}
 use Rattle.tt_proof_read.specs.declared.fault.TextFault.{TextFault}

@@ -5,7 +5,7 @@ use Rattle.tt_text.specs.Feeds.{Stream}
 use Rattle.tt_text.specs.Reading.{◌>>=◌}
 use Rattle.tt_text.specs.declared.feed.FeedFault.{FeedFault}
 use Rattle.tt_text.proofs.Steps.{ok_is, bind_ok}
-use Rattle.tt_instance_data.proofs.Shared.{NoneAt, Shared, Apart, Next, Stays, SameVerdict}
+use Rattle.tt_instance.proofs.Shared.{NoneAt, Shared, Apart, Next, Stays, SameVerdict}
 use Rattle.tt_proof_read.specs.Beginnings.{token_offset}
 use Rattle.tt_proof_read.specs.Reading.{ended_as, first_of, token_at, one_at, collected_then, up_to_end}
 use Rattle.tt_proof_read.specs.declared.fault.TextFault.{TextFault}

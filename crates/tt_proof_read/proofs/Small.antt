@@ -1,9 +1,9 @@
 -- Sizes that an index can reach, and the numbers below them.
 use Rattle.std.proofs.Common.{◌≤◌, ◌<◌, arith}
-use Rattle.tt_instance_data.specs.Problem.{Problem}
-use Rattle.tt_instance_data.specs.Limits.{IsInstance}
-use Rattle.tt_facts_path.specs.declared.facts.Who.{Who}
-use Rattle.tt_facts_path.specs.declared.facts.Who.TheVariants.{Course, Curriculum}
+use Rattle.tt_instance.specs.Problem.{Problem}
+use Rattle.tt_instance.specs.Limits.{IsInstance}
+use Rattle.tt_path.specs.declared.facts.Who.{Who}
+use Rattle.tt_path.specs.declared.facts.Who.TheVariants.{Course, Curriculum}
 use Rattle.tt_proof_read.specs.Sizes.{AreSizes}
 use Rattle.tt_proof_read.specs.declared.sizes.Sizes.{Sizes}
 

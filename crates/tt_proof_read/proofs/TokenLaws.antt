@@ -2,7 +2,7 @@
 use Rattle.std.proofs.Common.{◌≡◌, ℕ, ◌≤◌, ◌<◌, Bool, true, false, cond, List, [], ◌∷◌, Option, Some, None, Result, Ok, Err, refl, sym, ap, subst, ◌∙◌, arith, inl, inr, eqb-true, lit≤, codes}
 use Rattle.std.specs.Prelude.{◌==◌, nat_lt, IfSome}
 use Rattle.std.proofs.lemmas.Bool.{leb-true, le-leb, cases_eq, false_from_ne_true}
-use Rattle.tt_lists.specs.Words.{has_number}
+use Rattle.tt_list_laws.specs.Words.{has_number}
 use Rattle.tt_text.specs.Tokens.{Placed}
 use Rattle.tt_text.specs.Texts.{is_text}
 use Rattle.tt_text.specs.Numbers.{is_number_text, number_of}
@@ -13,10 +13,10 @@ use Rattle.tt_text.specs.declared.numbers.NumberFault.{NumberFault}
 use Rattle.tt_text.specs.declared.numbers.NumberFault.TheVariants as number
 use Rattle.tt_text.proofs.Steps.{ok_is, bind_ok, test_ok, refusal_ok}
 use Rattle.tt_text.proofs.Fields.{text_is, is_text_of, number_spelled, number_read}
-use Rattle.tt_facts_path.specs.declared.facts.Who.{Who}
-use Rattle.tt_facts_path.specs.declared.facts.Who.TheVariants.{Course, Curriculum}
-use Rattle.tt_leaf_data.specs.declared.leaf.Bound.{Bound}
-use Rattle.tt_leaf_data.specs.declared.leaf.Bound.TheVariants.{AtLeast, Nothing}
+use Rattle.tt_path.specs.declared.facts.Who.{Who}
+use Rattle.tt_path.specs.declared.facts.Who.TheVariants.{Course, Curriculum}
+use Rattle.tt_leaf.specs.declared.leaf.Bound.{Bound}
+use Rattle.tt_leaf.specs.declared.leaf.Bound.TheVariants.{AtLeast, Nothing}
 use Rattle.tt_proof_read.specs.Words.{word_text, fixed}
 use Rattle.tt_proof_read.specs.Spelling.{given_piece, course_piece, who_piece, bound_piece, version_text, IsBound}
 use Rattle.tt_proof_read.specs.Reading.{token_at, word_at, numbered, below, numbered_below, index_in, index_of, new_number, course_at, curriculum_at, priced_as, price_at, who_in, who_at, given_of, given_at, version_of, version_at, bounded, bound_of, bound_at}

@@ -1,8 +1,8 @@
--- How reading the bytes of a proof fails, and the token at which it fails (what that says of other bytes is said by `BeginsAs` of `tt_instance_data`).
+-- How reading the bytes of a proof fails, and the token at which it fails (what that says of other bytes is said by `BeginsAs` of `tt_instance`).
 use Rattle.std.specs.Prelude.{◌≡◌, ◌⊎◌, ℕ, zero, suc, ◌+◌, List, length, Option, Some, None, Ok, Err}
 use Rattle.tt_text.specs.Feeds.{Stream}
 use Rattle.tt_text.specs.declared.feed.FeedFault.TheVariants as feed
-use Rattle.tt_leaf_data.specs.declared.leaf.Bound.{Bound}
+use Rattle.tt_leaf.specs.declared.leaf.Bound.{Bound}
 use Rattle.tt_proof_read.specs.Reading.{header_at, node_at, end_at}
 use Rattle.tt_proof_read.specs.Reads.{ReadsNodes, open_after}
 use Rattle.tt_proof_read.specs.declared.fault.TextFault.{TextFault}

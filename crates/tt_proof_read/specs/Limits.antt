@@ -1,10 +1,10 @@
 -- The limits of a leaf, and the claims of a version, for users who need only these.
 use Rattle.std.specs.Prelude.{◌≡◌, ℕ, ◌≤◌, true, All, ⊤}
-use Rattle.tt_lists.specs.Words.{are_distinct}
-use Rattle.tt_leaf_data.specs.declared.leaf.Claim.{Claim}
-use Rattle.tt_leaf_data.specs.declared.leaf.Claim.TheVariants.{Capacity, Prices, Stacked}
-use Rattle.tt_leaf_data.specs.declared.leaf.Leaf.{Leaf}
-use Rattle.tt_leaf_data.specs.declared.leaf.Leaf.TheVariants.{Clique, Slots, Cost}
+use Rattle.tt_list_laws.specs.Words.{are_distinct}
+use Rattle.tt_leaf.specs.declared.leaf.Claim.{Claim}
+use Rattle.tt_leaf.specs.declared.leaf.Claim.TheVariants.{Capacity, Prices, Stacked}
+use Rattle.tt_leaf.specs.declared.leaf.Leaf.{Leaf}
+use Rattle.tt_leaf.specs.declared.leaf.Leaf.TheVariants.{Clique, Slots, Cost}
 use Rattle.tt_proof_read.specs.declared.format.TheConstants.{MAX_PRICE}
 
 -- No price is above 1,000,000; the courses of one `K` or `H` are distinct.

@@ -1,8 +1,8 @@
 -- The state of a reader of nodes, and the meaning of its results.
 use Rattle.std.specs.Prelude.{◌≡◌, ℕ, ◌+◌, ◌-◌, ◌<◌, true, is_some, List, Option, Some, None, Result, Ok, Err, ⊤}
-use Rattle.tt_instance_data.specs.Problem.{Problem}
-use Rattle.tt_leaf_data.specs.declared.leaf.Bound.{Bound}
-use Rattle.tt_leaf_data.specs.declared.leaf.Claim.{Claim}
+use Rattle.tt_instance.specs.Problem.{Problem}
+use Rattle.tt_leaf.specs.declared.leaf.Bound.{Bound}
+use Rattle.tt_leaf.specs.declared.leaf.Claim.{Claim}
 use Rattle.tt_text.specs.Feeds.{Fed, Stream, fresh}
 use Rattle.tt_text.specs.CutShort.{cut_at, MayFail}
 use Rattle.tt_text.specs.Reading.{FailsUnless}

@@ -2,7 +2,7 @@
 -- before the next token.
 use Rattle.std.specs.Prelude.{ℕ, zero, suc, ◌==◌, nat_lt, ◌&&◌, if◌then◌else◌, List, [], ◌∷◌, length, map, Option, Some, None, Result, Ok, Err, codes}
 use Rattle.std.specs.List.{push}
-use Rattle.tt_lists.specs.Words.{has_number}
+use Rattle.tt_list_laws.specs.Words.{has_number}
 use Rattle.tt_text.specs.Tokens.{Placed}
 use Rattle.tt_text.specs.Texts.{is_text}
 use Rattle.tt_text.specs.Numbers.{number_of}
@@ -11,14 +11,14 @@ use Rattle.tt_text.specs.Reading.{◌>>=◌}
 use Rattle.tt_text.specs.declared.feed.FeedFault.{FeedFault}
 use Rattle.tt_text.specs.declared.numbers.NumberFault.{NumberFault}
 use Rattle.tt_text.specs.declared.numbers.NumberFault.TheVariants as number
-use Rattle.tt_facts_path.specs.declared.facts.Who.{Who}
-use Rattle.tt_facts_path.specs.declared.facts.Who.TheVariants as who
-use Rattle.tt_facts_path.specs.declared.facts.Pattern.{Pattern}
-use Rattle.tt_leaf_data.specs.declared.leaf.Bound.{Bound}
-use Rattle.tt_leaf_data.specs.declared.leaf.Bound.TheVariants as bound
-use Rattle.tt_leaf_data.specs.declared.leaf.Claim.{Claim}
-use Rattle.tt_leaf_data.specs.declared.leaf.Claim.TheVariants as claim
-use Rattle.tt_leaf_data.specs.declared.leaf.Leaf.TheVariants as leaf
+use Rattle.tt_path.specs.declared.facts.Who.{Who}
+use Rattle.tt_path.specs.declared.facts.Who.TheVariants as who
+use Rattle.tt_path.specs.declared.facts.Pattern.{Pattern}
+use Rattle.tt_leaf.specs.declared.leaf.Bound.{Bound}
+use Rattle.tt_leaf.specs.declared.leaf.Bound.TheVariants as bound
+use Rattle.tt_leaf.specs.declared.leaf.Claim.{Claim}
+use Rattle.tt_leaf.specs.declared.leaf.Claim.TheVariants as claim
+use Rattle.tt_leaf.specs.declared.leaf.Leaf.TheVariants as leaf
 use Rattle.tt_proof_read.specs.Words.{word_text}
 use Rattle.tt_proof_read.specs.Faults.{fault_from_feed}
 use Rattle.tt_proof_read.specs.declared.fault.Word.{Word}

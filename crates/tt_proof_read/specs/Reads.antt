@@ -1,6 +1,6 @@
 -- A proof that a stream gives node by node.
 use Rattle.std.specs.Prelude.{◌≡◌, ℕ, zero, suc, ◌+◌, List, [], ◌∷◌, Option, Some, None, Ok}
-use Rattle.tt_leaf_data.specs.declared.leaf.Bound.{Bound}
+use Rattle.tt_leaf.specs.declared.leaf.Bound.{Bound}
 use Rattle.tt_text.specs.Feeds.{Stream, stream_from}
 use Rattle.tt_text.specs.declared.feed.TheConstants.{MAX_BYTES}
 use Rattle.tt_proof_read.specs.Reading.{header_at, node_at, end_at}

@@ -1,6 +1,6 @@
 -- The sizes of an instance.
 use Rattle.std.specs.Prelude.{◌≡◌, length}
-use Rattle.tt_instance_data.specs.Problem.{Problem}
+use Rattle.tt_instance.specs.Problem.{Problem}
 use Rattle.tt_proof_read.specs.declared.sizes.Sizes.{Sizes}
 
 -- The numbers are the problem's.

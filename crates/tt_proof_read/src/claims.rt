@@ -14,7 +14,7 @@ use crate::prices::read_prices;
 use crate::sizes::Sizes;
 use crate::tables::Tables;
 use std::alloc::Global;
-use tt_leaf_data::{Claim, PriceList};
+use tt_leaf::{Claim, PriceList};
 use tt_text::{Feed, Source};
 
 /// The first token of a claim.

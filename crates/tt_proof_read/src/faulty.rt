@@ -2,10 +2,10 @@
 
 ghost use Rattle.std.specs.Prelude.{◌≡◌, ℕ, List, Any, Some};
 ghost use Rattle.tt_text.specs.Tokens.{tokens_of};
-ghost use Rattle.tt_instance_data.specs.Beginnings.{BeginsAs};
-ghost use Rattle.tt_instance_data.specs.Limits.{IsInstance};
-ghost use Rattle.tt_instance_data.specs.Problem.{Problem};
-ghost use Rattle.tt_leaf_data.specs.declared.leaf.Bound.{Bound};
+ghost use Rattle.tt_instance.specs.Beginnings.{BeginsAs};
+ghost use Rattle.tt_instance.specs.Limits.{IsInstance};
+ghost use Rattle.tt_instance.specs.Problem.{Problem};
+ghost use Rattle.tt_leaf.specs.declared.leaf.Bound.{Bound};
 ghost use Rattle.tt_proof_read.specs.Beginnings.{token_offset, ReadingFails};
 ghost use Rattle.tt_proof_read.specs.Reads.{stream_of_bytes};
 ghost use Rattle.tt_proof_read.specs.Sizes.{AreSizes};

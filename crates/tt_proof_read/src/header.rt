@@ -8,7 +8,7 @@ ghost use Rattle.tt_proof_read.specs.Reading.{version_of, version_at, bound_of, 
 use crate::fault::{TextFault, Word};
 use crate::fields::{read_word, token};
 use crate::format::MAX_POINTS;
-use tt_leaf_data::Bound;
+use tt_leaf::Bound;
 use tt_text::{Feed, Source, Token, number};
 
 /// Returns the version in one token.

@@ -1,11 +1,11 @@
 //! The meaning of reading a proof node by node.
 
 ghost use Rattle.std.specs.Prelude.{◌≡◌, ◌≤◌, ◌↔◌, ℕ, List, [], length, Some};
-ghost use Rattle.tt_instance_data.specs.Limits.{IsInstance};
-ghost use Rattle.tt_instance_data.specs.Problem.{Problem};
-ghost use Rattle.tt_leaf_data.specs.Ranges.{IsLeafOf};
-ghost use Rattle.tt_leaf_data.specs.declared.leaf.Bound.{Bound};
-ghost use Rattle.tt_leaf_data.specs.declared.leaf.Leaf.{Leaf};
+ghost use Rattle.tt_instance.specs.Limits.{IsInstance};
+ghost use Rattle.tt_instance.specs.Problem.{Problem};
+ghost use Rattle.tt_leaf.specs.Ranges.{IsLeafOf};
+ghost use Rattle.tt_leaf.specs.declared.leaf.Bound.{Bound};
+ghost use Rattle.tt_leaf.specs.declared.leaf.Leaf.{Leaf};
 ghost use Rattle.tt_proof_read.specs.Limits.{IsShortLeaf, IsLeafIn};
 ghost use Rattle.tt_proof_read.specs.Reads.{Reads, open_after, stream_of_bytes};
 ghost use Rattle.tt_proof_read.specs.Sizes.{AreSizes};
@@ -13,7 +13,7 @@ ghost use Rattle.tt_proof_read.specs.Spelling.{IsLeaf, SpellsProof};
 ghost use Rattle.tt_proof_read.specs.Trees.{Tree, AllLeaves, IsPreorder};
 ghost use Rattle.tt_proof_read.specs.declared.node.Node.{Node};
 ghost use Rattle.tt_proof_read.specs.declared.sizes.Sizes.{Sizes};
-ghost use Rattle.tt_facts_path.specs.declared.path.TheConstants.{MAX_FACTS};
+ghost use Rattle.tt_path.specs.declared.path.TheConstants.{MAX_FACTS};
 
 /// If the stream of some bytes, read node by node, is a proof without a path longer than 65,536 facts, the bytes spell this proof;
 /// and each proof that they spell is read in this way.

@@ -1,7 +1,7 @@
 //! The nodes of a proof.
 
-use tt_facts_path::Pattern;
-use tt_leaf_data::Leaf;
+use tt_path::Pattern;
+use tt_leaf::Leaf;
 
 /// A node of a proof; a file has the nodes in preorder.
 #[derive(Debug, Drop)]

@@ -17,7 +17,7 @@ use crate::patterns::read_pattern;
 use crate::sizes::Sizes;
 use crate::tables::Tables;
 use std::alloc::Global;
-use tt_leaf_data::{ClaimList, CourseList, Leaf};
+use tt_leaf::{ClaimList, CourseList, Leaf};
 use tt_text::{Feed, Source};
 
 /// The first token of a node.

@@ -1,8 +1,8 @@
 //! Patterns.
 
 ghost use Rattle.std.specs.Prelude.{◌<◌, IfOk, IfSome};
-ghost use Rattle.tt_instance_data.specs.Problem.{Problem};
-ghost use Rattle.tt_facts_path.specs.Facts.{IsWho, IsPattern};
+ghost use Rattle.tt_instance.specs.Problem.{Problem};
+ghost use Rattle.tt_path.specs.Facts.{IsWho, IsPattern};
 ghost use Rattle.tt_proof_read.specs.Inner.Contract.{ReadsAs};
 ghost use Rattle.tt_proof_read.specs.Faults.{ReportsNoFailedRead, Gives};
 ghost use Rattle.tt_proof_read.specs.Sizes.{AreSizes};
@@ -12,7 +12,7 @@ use crate::fault::TextFault;
 use crate::fields::{index, number_below, token};
 use crate::format::{COURSE_LETTER, CURRICULUM_LETTER, DAY_LETTER, PERIOD_LETTER, ROOM_LETTER};
 use crate::sizes::Sizes;
-use tt_facts_path::{Pattern, Who};
+use tt_path::{Pattern, Who};
 use tt_text::{Feed, Source};
 
 /// Returns a course or a curriculum, in one token.

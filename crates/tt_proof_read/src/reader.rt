@@ -18,8 +18,8 @@ use crate::sizes::Sizes;
 use crate::tables::Tables;
 use std::alloc::Global;
 use std::marker::Model;
-use tt_instance_data::Instance;
-use tt_leaf_data::Bound;
+use tt_instance::Instance;
+use tt_leaf::Bound;
 use tt_text::{Feed, Source};
 
 /// Reads a proof from one source, node by node, without storing the nodes.

@@ -1,7 +1,7 @@
 //! Numbers that have been seen.
 
 ghost use Rattle.std.specs.Prelude.{◌≡◌, ◌<◌, ◌&&◌, ◌∷◌, ◌++◌, ℕ, not, false, [], length, slice_index_or, IfOk, OnOk, OnErr, All};
-ghost use Rattle.tt_lists.specs.Words.{has_number};
+ghost use Rattle.tt_list_laws.specs.Words.{has_number};
 
 use std::alloc::{AllocError, Global};
 use std::marker::Model;

@@ -1,6 +1,6 @@
 //! The numbers of courses, rooms and other things that a proof refers to by number.
 
-use tt_instance_data::Instance;
+use tt_instance::Instance;
 
 /// The numbers of courses, rooms and other things that a proof refers to by number.
 #[derive(Clone, Copy, Debug, Drop)]

@@ -1,7 +1,7 @@
 //! Tables of the courses and rooms that have been seen.
 
 ghost use Rattle.std.specs.Prelude.{◌≡◌, false, IfOk};
-ghost use Rattle.tt_lists.specs.Words.{has_number};
+ghost use Rattle.tt_list_laws.specs.Words.{has_number};
 ghost use Rattle.tt_proof_read.specs.Faults.{ReportsNoFailedRead, Gives};
 ghost use Rattle.tt_proof_read.specs.Reading.{new_number};
 

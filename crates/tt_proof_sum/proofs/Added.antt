@@ -5,15 +5,15 @@ use Rattle.std.specs.List.{list_any}
 use Rattle.std.proofs.lemmas.List.Folds.{list_any-append}
 use Rattle.std.proofs.lemmas.List.Sums.{sum_by-append}
 use Rattle.std.proofs.lemmas.Bool.{or_left, or_right, both_ways}
-use Rattle.tt_lists.proofs.Sums.{list_any-of_flat_map}
-use Rattle.tt_lists.proofs.Twos.{each_two-push, each_two-last}
-use Rattle.tt_lists.proofs.Tested.{all_at}
-use Rattle.tt_instance_data.specs.Problem.{Problem}
-use Rattle.tt_instance_data.specs.Limits.{IsInstance}
+use Rattle.tt_list_laws.proofs.Sums.{list_any-of_flat_map}
+use Rattle.tt_list_laws.proofs.Twos.{each_two-push, each_two-last}
+use Rattle.tt_list_laws.proofs.Tested.{all_at}
+use Rattle.tt_instance.specs.Problem.{Problem}
+use Rattle.tt_instance.specs.Limits.{IsInstance}
 use Rattle.tt_leaf_rules.specs.Claims.{Target}
 use Rattle.tt_leaf_rules.specs.Tests.{same_target}
-use Rattle.tt_leaf_data.specs.declared.leaf.Bound.{Bound}
-use Rattle.tt_leaf_data.specs.declared.leaf.Bound.TheVariants.{AtLeast, Nothing}
+use Rattle.tt_leaf.specs.declared.leaf.Bound.{Bound}
+use Rattle.tt_leaf.specs.declared.leaf.Bound.TheVariants.{AtLeast, Nothing}
 use Rattle.tt_proof_read.specs.Trees.{Tree, preorder}
 use Rattle.tt_proof_read.specs.declared.node.Node.{Node}
 use Rattle.tt_proof_check.proofs.Texts.{proved_silent, spelled_once}

@@ -1,15 +1,15 @@
 -- Files over different targets, whose bounds add up, and files that share one.
 use Rattle.std.proofs.Common.{◌≡◌, ℕ, List, true, false, [], ◌∷◌, refl}
-use Rattle.tt_lists.specs.Words.{each_two}
-use Rattle.tt_instance_data.proofs.Examples.{gap}
-use Rattle.tt_instance_data.specs.Cells.{slot, cell}
-use Rattle.tt_instance_data.specs.declared.cell.Cell.{Cell}
+use Rattle.tt_list_laws.specs.Words.{each_two}
+use Rattle.tt_instance.proofs.Examples.{gap}
+use Rattle.tt_instance.specs.Cells.{slot, cell}
+use Rattle.tt_instance.specs.declared.cell.Cell.{Cell}
 use Rattle.tt_leaf_rules.specs.Claims.{RoomCapacity, WorkingDays, Compactness, Stability}
-use Rattle.tt_leaf_data.specs.declared.leaf.Bound.{Bound}
-use Rattle.tt_leaf_data.specs.declared.leaf.Bound.TheVariants.{AtLeast, Nothing}
-use Rattle.tt_leaf_data.specs.declared.leaf.Claim.TheVariants.{Capacity, Days, Compact, Prices, Stacked}
-use Rattle.tt_leaf_data.specs.declared.leaf.Leaf.{Leaf}
-use Rattle.tt_leaf_data.specs.declared.leaf.Leaf.TheVariants.{Clique, Cost}
+use Rattle.tt_leaf.specs.declared.leaf.Bound.{Bound}
+use Rattle.tt_leaf.specs.declared.leaf.Bound.TheVariants.{AtLeast, Nothing}
+use Rattle.tt_leaf.specs.declared.leaf.Claim.TheVariants.{Capacity, Days, Compact, Prices, Stacked}
+use Rattle.tt_leaf.specs.declared.leaf.Leaf.{Leaf}
+use Rattle.tt_leaf.specs.declared.leaf.Leaf.TheVariants.{Clique, Cost}
 use Rattle.tt_leaf_rules.proofs.Examples.{when}
 use Rattle.tt_proof_read.specs.Trees.{Tree, Tip, Fork}
 use Rattle.tt_groups_read.specs.declared.claim.GroupClaim.{GroupClaim}

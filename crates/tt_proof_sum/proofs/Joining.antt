@@ -8,18 +8,18 @@ use Rattle.std.proofs.lemmas.Grind.{flat_map-append}
 use Rattle.std.proofs.lemmas.List.Folds.{list_any-append, list_all-append}
 use Rattle.std.proofs.lemmas.List.Elements.{recursion_from_All}
 use Rattle.std.proofs.lemmas.Bool.{leb-false, lt-leb, eq-eqb, eqb-true, both_ways, or_cases, or_left, or_right, and_from, not_from_false}
-use Rattle.tt_lists.specs.Words.{has_number}
-use Rattle.tt_lists.proofs.Members.{each_of_append}
-use Rattle.tt_lists.proofs.Tests.{test_turned}
-use Rattle.tt_lists.proofs.Twos.{list_all-swap}
-use Rattle.tt_instance_data.specs.Problem.{Problem}
-use Rattle.tt_instance_data.specs.Limits.{IsInstance}
+use Rattle.tt_list_laws.specs.Words.{has_number}
+use Rattle.tt_list_laws.proofs.Members.{each_of_append}
+use Rattle.tt_list_laws.proofs.Tests.{test_turned}
+use Rattle.tt_list_laws.proofs.Twos.{list_all-swap}
+use Rattle.tt_instance.specs.Problem.{Problem}
+use Rattle.tt_instance.specs.Limits.{IsInstance}
 use Rattle.tt_leaf_rules.specs.Claims.{Target, targets_of, claimed}
 use Rattle.tt_leaf_rules.specs.Inner.NumberSet.{place, places_of, IsPlaced}
 use Rattle.tt_leaf_rules.specs.Tests.{same_target}
-use Rattle.tt_leaf_data.specs.declared.leaf.Bound.{Bound}
-use Rattle.tt_leaf_data.specs.declared.leaf.Claim.{Claim}
-use Rattle.tt_leaf_data.specs.declared.leaf.Leaf.TheVariants.{Empty, Many, Clique, Slots, Cost}
+use Rattle.tt_leaf.specs.declared.leaf.Bound.{Bound}
+use Rattle.tt_leaf.specs.declared.leaf.Claim.{Claim}
+use Rattle.tt_leaf.specs.declared.leaf.Leaf.TheVariants.{Empty, Many, Clique, Slots, Cost}
 use Rattle.tt_leaf_rules.proofs.Totals.{same_target-true, same_target-itself}
 use Rattle.tt_leaf_rules.proofs.Meeting.{same_place, each_placed}
 use Rattle.tt_proof_read.specs.Spelling.{IsNode}

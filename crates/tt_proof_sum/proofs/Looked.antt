@@ -5,8 +5,8 @@ use Rattle.std.specs.Io.KnownBytes.{Consumes, Keeps}
 use Rattle.tt_text.specs.CutShort.{cut_short}
 use Rattle.tt_text.specs.Feeds.{Stream, stopped}
 use Rattle.tt_text.specs.declared.feed.FeedFault.TheVariants.{Read}
-use Rattle.tt_instance_data.specs.Problem.{Problem}
-use Rattle.tt_leaf_data.specs.declared.leaf.Bound.{Bound}
+use Rattle.tt_instance.specs.Problem.{Problem}
+use Rattle.tt_leaf.specs.declared.leaf.Bound.{Bound}
 use Rattle.tt_proof_read.specs.Faults.{read_failed}
 use Rattle.tt_proof_read.specs.Reading.{header_at, word_at, token_at}
 use Rattle.tt_proof_check.specs.Streams.{stream_of}

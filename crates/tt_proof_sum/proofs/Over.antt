@@ -4,25 +4,25 @@ use Rattle.std.specs.Prelude.{sum_by}
 use Rattle.std.specs.List.{list_any, list_all}
 use Rattle.std.proofs.lemmas.List.Elements.{All-push}
 use Rattle.std.proofs.lemmas.Bool.{cases_Bool, and_parts}
-use Rattle.tt_lists.specs.Words.{each_two}
-use Rattle.tt_lists.proofs.Sums.{sum_by-le, sum_by-of_flat_map, each_from_list_all}
-use Rattle.tt_lists.proofs.Members.{at_member}
-use Rattle.tt_lists.proofs.Below.{all_pass}
-use Rattle.tt_lists.proofs.Apart.{distinct_sum}
+use Rattle.tt_list_laws.specs.Words.{each_two}
+use Rattle.tt_list_laws.proofs.Sums.{sum_by-le, sum_by-of_flat_map, each_from_list_all}
+use Rattle.tt_list_laws.proofs.Members.{at_member}
+use Rattle.tt_list_laws.proofs.Below.{all_pass}
+use Rattle.tt_list_laws.proofs.Apart.{distinct_sum}
 use Rattle.std.proofs.lemmas.List.Folds.{list_all-append}
-use Rattle.tt_instance_data.specs.Problem.{Problem}
-use Rattle.tt_instance_data.specs.declared.cell.Cell.{Cell}
+use Rattle.tt_instance.specs.Problem.{Problem}
+use Rattle.tt_instance.specs.declared.cell.Cell.{Cell}
 use Rattle.tt_rules.specs.Score.{IsFeasible, cost}
-use Rattle.tt_facts_path.specs.Facts.{matches, Holds, Fits}
-use Rattle.tt_facts_path.specs.declared.facts.Fact.{Fact}
+use Rattle.tt_path.specs.Facts.{matches, Holds, Fits}
+use Rattle.tt_path.specs.declared.facts.Fact.{Fact}
 use Rattle.tt_leaf_rules.specs.Bounds.{Respects}
 use Rattle.tt_leaf_rules.specs.Claims.{Target, part, targets_of, value_of, claimed}
 use Rattle.tt_leaf_rules.specs.Leaves.{IsRight}
 use Rattle.tt_leaf_rules.specs.Tests.{same_target}
-use Rattle.tt_leaf_data.specs.declared.leaf.Bound.{Bound}
-use Rattle.tt_leaf_data.specs.declared.leaf.Bound.TheVariants.{AtLeast, Nothing}
-use Rattle.tt_leaf_data.specs.declared.leaf.Leaf.{Leaf}
-use Rattle.tt_leaf_data.specs.declared.leaf.Leaf.TheVariants.{Empty, Many, Clique, Slots, Cost}
+use Rattle.tt_leaf.specs.declared.leaf.Bound.{Bound}
+use Rattle.tt_leaf.specs.declared.leaf.Bound.TheVariants.{AtLeast, Nothing}
+use Rattle.tt_leaf.specs.declared.leaf.Leaf.{Leaf}
+use Rattle.tt_leaf.specs.declared.leaf.Leaf.TheVariants.{Empty, Many, Clique, Slots, Cost}
 use Rattle.tt_leaf_rules.proofs.Rightness.{targets_once}
 use Rattle.tt_leaf_rules.proofs.Soundness.{leaf_sound}
 use Rattle.tt_leaf_rules.proofs.Totals.{same_target-true, same_target-itself, each_claim_sound, parts_of_cost, target_there}

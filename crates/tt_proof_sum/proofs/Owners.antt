@@ -8,11 +8,11 @@ use Rattle.std.proofs.lemmas.List.{take_more, take-append-drop, map-append}
 use Rattle.std.proofs.lemmas.List.Elements.{All-nil, All-push, recursion_from_All}
 use Rattle.std.proofs.lemmas.List.Folds.{list_any-append, list_all-append}
 use Rattle.std.proofs.lemmas.Grind.{flat_map-append}
-use Rattle.tt_lists.specs.Words.{has_number}
-use Rattle.tt_lists.proofs.Below.{all_pass}
-use Rattle.tt_lists.proofs.Twos.{list_all-swap, each_two-push, neither}
-use Rattle.tt_instance_data.specs.Problem.{Problem}
-use Rattle.tt_instance_data.specs.Limits.{IsInstance}
+use Rattle.tt_list_laws.specs.Words.{has_number}
+use Rattle.tt_list_laws.proofs.Below.{all_pass}
+use Rattle.tt_list_laws.proofs.Twos.{list_all-swap, each_two-push, neither}
+use Rattle.tt_instance.specs.Problem.{Problem}
+use Rattle.tt_instance.specs.Limits.{IsInstance}
 use Rattle.tt_leaf_rules.specs.Claims.{Target, WorkingDays, Compactness}
 use Rattle.tt_leaf_rules.specs.Inner.NumberSet.{place}
 use Rattle.tt_groups.specs.Group.{Group, IsGroupBound}
@@ -23,7 +23,7 @@ use Rattle.tt_proof_sum.specs.GroupsFaults.{Pass, is_unclaimed, FirstClaimed, Is
 use Rattle.tt_proof_sum.specs.Sums.{is_among, are_apart, group_targets, targets_of_claims, Part, claims_of}
 use Rattle.tt_proof_sum.specs.Tables.{State, owner, first_claim, begun, group_places, first_owner, Marks, IsTableOf}
 use Rattle.tt_proof_sum.proofs.Joining.{has_place, claim_below, unclaimed, claims_it}
-use Rattle.tt_lists.proofs.All.{list_all-same}
+use Rattle.tt_list_laws.proofs.All.{list_all-same}
 
 -- ---- the first owner of places
 

@@ -7,18 +7,18 @@ use Rattle.tt_groups_check.specs.declared.fault.GroupFault.TheVariants as group
 use Rattle.std.specs.List.{list_all, list_any}
 use Rattle.std.proofs.lemmas.Bool.{both_ways, or_left, or_right}
 use Rattle.std.proofs.lemmas.List.Folds.{list_any-append}
-use Rattle.tt_lists.proofs.Members.{at_member, member_from_any, each_two-of_append}
-use Rattle.tt_lists.proofs.Sums.{list_any-of_flat_map, each_from_list_all}
-use Rattle.tt_lists.proofs.Tested.{all_at}
-use Rattle.tt_lists.proofs.Twos.{each_two-last}
-use Rattle.tt_instance_data.specs.Problem.{Problem}
-use Rattle.tt_instance_data.specs.Limits.{IsInstance}
+use Rattle.tt_list_laws.proofs.Members.{at_member, member_from_any, each_two-of_append}
+use Rattle.tt_list_laws.proofs.Sums.{list_any-of_flat_map, each_from_list_all}
+use Rattle.tt_list_laws.proofs.Tested.{all_at}
+use Rattle.tt_list_laws.proofs.Twos.{each_two-last}
+use Rattle.tt_instance.specs.Problem.{Problem}
+use Rattle.tt_instance.specs.Limits.{IsInstance}
 use Rattle.tt_text.specs.Feeds.{Stream}
 use Rattle.tt_text.specs.Pieces.{Piece, Text, Begins}
 use Rattle.tt_text.specs.Tokens.{Placed, tokens_of}
 use Rattle.tt_leaf_rules.specs.Claims.{Target}
 use Rattle.tt_leaf_rules.specs.Tests.{same_target}
-use Rattle.tt_leaf_data.specs.declared.leaf.Bound.{Bound}
+use Rattle.tt_leaf.specs.declared.leaf.Bound.{Bound}
 use Rattle.tt_leaf_rules.proofs.Totals.{same_target-itself}
 use Rattle.tt_proof_read.specs.Spelling.{version_text, bound_piece, SpellsProof}
 use Rattle.tt_proof_read.specs.Trees.{Tree}

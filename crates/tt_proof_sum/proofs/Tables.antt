@@ -5,11 +5,11 @@ use Rattle.std.specs.Option.{option_or}
 use Rattle.std.proofs.lemmas.List.Folds.{list_any-append}
 use Rattle.std.proofs.lemmas.Bool.{leb-false, eq-eqb, eqb-true, false_from_ne_true}
 use Rattle.std.proofs.lemmas.List.{take_more, map-append}
-use Rattle.tt_lists.specs.Words.{has_number}
+use Rattle.tt_list_laws.specs.Words.{has_number}
 use Rattle.std.proofs.lemmas.Grind.{flat_map-append}
 use Rattle.tt_leaf_rules.specs.Claims.{RoomCapacity, targets_of, claimed}
 use Rattle.tt_leaf_rules.specs.Inner.NumberSet.{place, places_of}
-use Rattle.tt_leaf_data.specs.declared.leaf.Claim.{Claim}
+use Rattle.tt_leaf.specs.declared.leaf.Claim.{Claim}
 use Rattle.tt_proof_read.specs.declared.node.Node.{Node}
 use Rattle.tt_proof_check.specs.Visited.{Visited}
 use Rattle.tt_proof_sum.specs.declared.table.Clash.{Clash}

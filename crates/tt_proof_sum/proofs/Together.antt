@@ -6,22 +6,22 @@ use Rattle.std.proofs.lemmas.List.Elements.{All-nil, Contains-append_right, recu
 use Rattle.std.proofs.lemmas.List.Folds.{list_any-append, list_all-append, list_all-map}
 use Rattle.std.proofs.lemmas.List.Sums.{sum_by-append}
 use Rattle.std.proofs.lemmas.Bool.{and_parts, cond-true, and_from, both_ways, not-true}
-use Rattle.tt_lists.specs.Words.{each_two}
-use Rattle.tt_lists.proofs.Sums.{sum_by-le, sum_by-plus, sum_by-of_map, each, each_from_list_all}
-use Rattle.tt_lists.proofs.Below.{all_pass}
-use Rattle.tt_lists.proofs.Twos.{each_two-append}
-use Rattle.tt_lists.proofs.Members.{at_member, each_member, member_from_any, any_member, each_two-of_map}
-use Rattle.tt_lists.proofs.Apart.{distinct_sum}
-use Rattle.tt_instance_data.specs.Problem.{Problem}
-use Rattle.tt_instance_data.specs.declared.cell.Cell.{Cell}
+use Rattle.tt_list_laws.specs.Words.{each_two}
+use Rattle.tt_list_laws.proofs.Sums.{sum_by-le, sum_by-plus, sum_by-of_map, each, each_from_list_all}
+use Rattle.tt_list_laws.proofs.Below.{all_pass}
+use Rattle.tt_list_laws.proofs.Twos.{each_two-append}
+use Rattle.tt_list_laws.proofs.Members.{at_member, each_member, member_from_any, any_member, each_two-of_map}
+use Rattle.tt_list_laws.proofs.Apart.{distinct_sum}
+use Rattle.tt_instance.specs.Problem.{Problem}
+use Rattle.tt_instance.specs.declared.cell.Cell.{Cell}
 use Rattle.tt_rules.specs.Score.{IsFeasible, cost}
-use Rattle.tt_facts_path.specs.Facts.{Holds, Fits}
-use Rattle.tt_facts_path.specs.declared.facts.Fact.{Fact}
+use Rattle.tt_path.specs.Facts.{Holds, Fits}
+use Rattle.tt_path.specs.declared.facts.Fact.{Fact}
 use Rattle.tt_leaf_rules.specs.Bounds.{Respects}
 use Rattle.tt_leaf_rules.specs.Claims.{Target, WorkingDays, Compactness, part}
 use Rattle.tt_leaf_rules.specs.Tests.{same_target}
-use Rattle.tt_leaf_data.specs.declared.leaf.Bound.{Bound}
-use Rattle.tt_leaf_data.specs.declared.leaf.Bound.TheVariants.{AtLeast, Nothing}
+use Rattle.tt_leaf.specs.declared.leaf.Bound.{Bound}
+use Rattle.tt_leaf.specs.declared.leaf.Bound.TheVariants.{AtLeast, Nothing}
 use Rattle.tt_leaf_rules.proofs.Totals.{same_target-true, same_target-itself, target_there}
 use Rattle.tt_proof_check.specs.Derives.{HoldsOfAll}
 use Rattle.tt_groups.specs.Group.{Group, group_cost, IsGroupBound}

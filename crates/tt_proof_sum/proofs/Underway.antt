@@ -5,15 +5,15 @@ use Rattle.std.specs.Bool.{OnFalse}
 use Rattle.std.specs.Io.KnownBytes.{Keeps}
 use Rattle.std.proofs.lemmas.Bool.{eq-eqb, ltb-true, ltb-false}
 use Rattle.std.proofs.lemmas.List.Sums.{sum_by-append}
-use Rattle.tt_lists.specs.Words.{has_number}
+use Rattle.tt_list_laws.specs.Words.{has_number}
 use Rattle.tt_text.specs.CutShort.{rest_of, cut_at}
 use Rattle.tt_text.specs.Feeds.{Stream, stream_at, fresh, room_of}
 use Rattle.tt_text.specs.declared.feed.FeedFault.TheVariants as feed
-use Rattle.tt_instance_data.specs.Problem.{Problem}
-use Rattle.tt_instance_data.specs.Limits.{IsInstance}
+use Rattle.tt_instance.specs.Problem.{Problem}
+use Rattle.tt_instance.specs.Limits.{IsInstance}
 use Rattle.tt_leaf_rules.specs.Inner.NumberSet.{place}
-use Rattle.tt_leaf_data.specs.declared.leaf.Bound.{Bound}
-use Rattle.tt_leaf_data.specs.declared.leaf.Bound.TheVariants.{AtLeast}
+use Rattle.tt_leaf.specs.declared.leaf.Bound.{Bound}
+use Rattle.tt_leaf.specs.declared.leaf.Bound.TheVariants.{AtLeast}
 use Rattle.tt_proof_read.specs.Answers.{StaysKnown}
 use Rattle.tt_proof_read.specs.Faults.{read_failed}
 use Rattle.tt_proof_read.specs.Sizes.{AreSizes}

@@ -2,8 +2,8 @@
 use Rattle.std.specs.Prelude.{◌≡◌, ℕ, ◌-◌, ◌<◌, ◌≤◌, Bool, true, false, not, ◌&&◌, List, ◌∷◌, ◌++◌, length, sum_by, slice_get, All, IsSomeAnd, Some, None, Ok, Err, ⊤, ◌⊎◌}
 use Rattle.std.specs.List.{list_all}
 use Rattle.tt_text.specs.Feeds.{Stream}
-use Rattle.tt_instance_data.specs.Problem.{Problem}
-use Rattle.tt_instance_data.specs.declared.cell.Cell.{Cell}
+use Rattle.tt_instance.specs.Problem.{Problem}
+use Rattle.tt_instance.specs.declared.cell.Cell.{Cell}
 use Rattle.tt_leaf_rules.specs.Claims.{Target}
 use Rattle.tt_proof_check.specs.Streams.{sizes_of}
 use Rattle.tt_proof_read.specs.declared.fault.TextFault.{TextFault}

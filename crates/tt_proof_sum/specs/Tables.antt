@@ -1,7 +1,7 @@
 -- A table of the targets that files have claimed.
 use Rattle.std.specs.Prelude.{◌≡◌, ℕ, ◌+◌, ◌<◌, ◌==◌, nat_le, Bool, not, ◌&&◌, ◌||◌, List, [], ◌∷◌, length, map, Option, Some, None, slice_index_or, if◌then◌else◌}
 use Rattle.std.specs.Option.{option_or}
-use Rattle.tt_lists.specs.Words.{has_number}
+use Rattle.tt_list_laws.specs.Words.{has_number}
 use Rattle.tt_leaf_rules.specs.Claims.{Target}
 use Rattle.tt_leaf_rules.specs.Inner.NumberSet.{place}
 use Rattle.tt_proof_read.specs.declared.node.Node.{Node}

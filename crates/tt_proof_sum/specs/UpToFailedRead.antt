@@ -1,7 +1,7 @@
 -- What is known of a file after a failed read.
 use Rattle.std.specs.Prelude.{◌≡◌, ℕ, true, List, [], Option, Err, ◌⊎◌}
 use Rattle.tt_text.specs.Feeds.{Stream}
-use Rattle.tt_instance_data.specs.Problem.{Problem}
+use Rattle.tt_instance.specs.Problem.{Problem}
 use Rattle.tt_proof_check.specs.FailedReads.{HoldsOfGiven, IsCheckedUpToFailedRead}
 use Rattle.tt_proof_check.specs.Streams.{sizes_of}
 use Rattle.tt_proof_read.specs.Faults.{read_failed}

@@ -5,7 +5,7 @@ ghost use Rattle.std.specs.Io.KnownBytes.{Keeps};
 ghost use Rattle.std.specs.declared.option.Option.{Option};
 ghost use Rattle.tt_groups.specs.Group.{IsGroupBound};
 ghost use Rattle.tt_groups_check.specs.Limits.{IsGroupOf};
-ghost use Rattle.tt_leaf_data.specs.declared.leaf.Bound.TheVariants.{AtLeast};
+ghost use Rattle.tt_leaf.specs.declared.leaf.Bound.TheVariants.{AtLeast};
 ghost use Rattle.tt_text_peek.specs.Fronts.{is_groups};
 ghost use Rattle.tt_proof_check.specs.FailedReads.{HoldsOfGiven};
 ghost use Rattle.tt_proof_sum.specs.Added.{Joins, IsOfKind};
@@ -24,8 +24,8 @@ use crate::table::Table;
 use std::alloc::Global;
 use tt_groups_check::{GroupFault, Work, check_group};
 use tt_groups_read::{GroupClaim, GroupReader, GroupTextFault};
-use tt_instance_data::Instance;
-use tt_leaf_data::Bound;
+use tt_instance::Instance;
+use tt_leaf::Bound;
 use tt_text::Source;
 
 /// Returns the fault of a group that has a target which this file or an earlier one claims.

@@ -1,13 +1,13 @@
 //! The meaning of bounds over disjoint targets.
 
 ghost use Rattle.std.specs.Prelude.{◌≡◌, true, List, [], ℕ, All};
-ghost use Rattle.tt_instance_data.specs.Problem.{Problem};
-ghost use Rattle.tt_instance_data.specs.declared.cell.Cell.{Cell};
+ghost use Rattle.tt_instance.specs.Problem.{Problem};
+ghost use Rattle.tt_instance.specs.declared.cell.Cell.{Cell};
 ghost use Rattle.tt_rules.specs.Score.{IsFeasible};
-ghost use Rattle.tt_facts_path.specs.declared.facts.Fact.{Fact};
+ghost use Rattle.tt_path.specs.declared.facts.Fact.{Fact};
 ghost use Rattle.tt_leaf_rules.specs.Claims.{Target};
-ghost use Rattle.tt_leaf_data.specs.declared.leaf.Bound.{Bound};
-ghost use Rattle.tt_leaf_data.specs.declared.leaf.Bound.TheVariants.{AtLeast};
+ghost use Rattle.tt_leaf.specs.declared.leaf.Bound.{Bound};
+ghost use Rattle.tt_leaf.specs.declared.leaf.Bound.TheVariants.{AtLeast};
 ghost use Rattle.tt_proof_read.specs.Trees.{Tree};
 ghost use Rattle.tt_proof_check.specs.Derives.{Derives, HoldsOn, HoldsOfAll};
 ghost use Rattle.tt_groups.specs.Group.{IsGroupBound};

@@ -11,8 +11,8 @@ use crate::fault::SumFault;
 use crate::one_more::take_file;
 use crate::table::Table;
 use std::alloc::{AllocError, Global};
-use tt_instance_data::Instance;
-use tt_leaf_data::Bound;
+use tt_instance::Instance;
+use tt_leaf::Bound;
 use tt_text_peek::Peek;
 
 /// Returns the sum of two bounds if it is below 2^64.

@@ -9,7 +9,7 @@ ghost use Rattle.tt_proof_sum.specs.Tables.{Claims, at_node, IsTableOf, owner, f
 use std::alloc::{AllocError, Global};
 use std::marker::Model;
 use tt_groups::Group;
-use tt_leaf_data::{Claim, Leaf};
+use tt_leaf::{Claim, Leaf};
 use tt_proof_check::NodeVisitor;
 use tt_proof_read::Node;
 

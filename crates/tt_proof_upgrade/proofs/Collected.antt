@@ -3,7 +3,7 @@ use Rattle.std.proofs.Common.{◌≡◌, ℕ, ◌+◌, ◌<◌, Bool, true, List
 use Rattle.std.specs.Prelude.{All}
 use Rattle.std.proofs.lemmas.List.Elements.{All-push}
 use Rattle.tt_text.specs.Feeds.{Stream}
-use Rattle.tt_leaf_data.specs.declared.leaf.Leaf.TheVariants.{Many}
+use Rattle.tt_leaf.specs.declared.leaf.Leaf.TheVariants.{Many}
 use Rattle.tt_proof_read.specs.Faults.{read_failed}
 use Rattle.tt_proof_read.specs.Reading.{node_at}
 use Rattle.tt_proof_read.specs.Readers.{Reader, IsNodeAt, IsReaderAfter, IsReadingOf}

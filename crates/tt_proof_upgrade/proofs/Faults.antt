@@ -3,8 +3,8 @@ use Rattle.std.proofs.Common.{◌≡◌, refl, Bool, false, ℕ, ◌≤◌, ◌<
 use Rattle.std.specs.Prelude.{slice_get}
 use Rattle.std.proofs.lemmas.Option.{slice_get_within}
 use Rattle.tt_text.specs.declared.feed.FeedFault.TheVariants as feed
-use Rattle.tt_instance_data.specs.Problem.{Problem}
-use Rattle.tt_leaf_data.specs.declared.leaf.Bound.{Bound}
+use Rattle.tt_instance.specs.Problem.{Problem}
+use Rattle.tt_leaf.specs.declared.leaf.Bound.{Bound}
 use Rattle.tt_proof_read.specs.Faults as read
 use Rattle.tt_proof_read.specs.Trees.{Tree, preorder, OnPath, on_paths, IsPreorder}
 use Rattle.tt_proof_read.specs.declared.fault.TextFault.{TextFault}

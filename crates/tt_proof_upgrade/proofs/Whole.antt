@@ -1,8 +1,8 @@
 -- Proofs that were read as a whole.
 use Rattle.std.proofs.Common.{◌≡◌, ℕ, Bool, true, List, Some, Option, Ok, Err, sym, ap, subst, inl, inr, is_some}
 use Rattle.tt_text.specs.Feeds.{Stream, stream_at, fresh}
-use Rattle.tt_instance_data.specs.Problem.{Problem}
-use Rattle.tt_leaf_data.specs.declared.leaf.Bound.{Bound}
+use Rattle.tt_instance.specs.Problem.{Problem}
+use Rattle.tt_leaf.specs.declared.leaf.Bound.{Bound}
 use Rattle.tt_proof_read.specs.Faults.{read_failed}
 use Rattle.tt_proof_read.specs.Reading.{header_at, end_at}
 use Rattle.tt_proof_read.specs.Reads.{ReadsNodes}

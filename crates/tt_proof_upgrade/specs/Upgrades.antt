@@ -1,8 +1,8 @@
 -- The meaning of an upgrade of a proof, and of a refusal.
 use Rattle.std.specs.Prelude.{◌≡◌, ℕ, ◌⊎◌, List, [], ⊤}
 use Rattle.tt_text.specs.Feeds.{Stream}
-use Rattle.tt_instance_data.specs.Problem.{Problem}
-use Rattle.tt_leaf_data.specs.declared.leaf.Bound.{Bound}
+use Rattle.tt_instance.specs.Problem.{Problem}
+use Rattle.tt_leaf.specs.declared.leaf.Bound.{Bound}
 use Rattle.tt_proof_read.specs.Reads.{Reads}
 use Rattle.tt_proof_read.specs.Spelling.{SpellsProof}
 use Rattle.tt_proof_read.specs.Trees.{Tree, preorder, IsShallow}
@@ -11,8 +11,8 @@ use Rattle.tt_proof_check.specs.Derives.{Derives}
 use Rattle.tt_proof_check.specs.Streams.{sizes_of}
 use Rattle.tt_proof_check.specs.Explains.{FailsAt, IsDeepAt}
 use Rattle.tt_proof_check.specs.declared.fault.CheckFault.TheVariants as check
-use Rattle.tt_proof_text.specs.Within.{FitsFile}
-use Rattle.tt_proof_text.specs.Written.{proof_text}
+use Rattle.tt_proof_write.specs.Within.{FitsFile}
+use Rattle.tt_proof_write.specs.Written.{proof_text}
 use Rattle.tt_proof_upgrade.specs.Faults.{read_failed}
 use Rattle.tt_proof_upgrade.specs.Texts.{IsTextFault}
 use Rattle.tt_proof_upgrade.specs.declared.fault.UpgradeFault.{UpgradeFault}

@@ -13,8 +13,8 @@ ghost use Rattle.tt_proof_check.specs.Streams.{stream_of};
 ghost use Rattle.tt_proof_upgrade.specs.Texts.{IsRead, AreNodesOf, IsCollected, NodeTextFails, NodeIsCutOff, IsTextFault, IsReadUpToFailedRead};
 
 use std::alloc::Global;
-use tt_instance_data::Instance;
-use tt_leaf_data::Bound;
+use tt_instance::Instance;
+use tt_leaf::Bound;
 use tt_proof_read::{Node, NodeReader, TextFault};
 use tt_text::Source;
 

@@ -1,7 +1,7 @@
 //! Proofs that are written again.
 
 ghost use Rattle.std.specs.Prelude.{◌≡◌, ◌≤◌, List, ℕ, length, All, true, if◌then◌else◌, Some, Err, IfOk, IfErr, OnOk, MatchResult};
-ghost use Rattle.tt_leaf_data.specs.declared.leaf.Bound.{Bound};
+ghost use Rattle.tt_leaf.specs.declared.leaf.Bound.{Bound};
 ghost use Rattle.tt_proof_read.specs.declared.format.TheConstants.{MAX_PROOF_NODES};
 ghost use Rattle.tt_proof_check.specs.Derives.{HoldsOfAll, Proves};
 ghost use Rattle.tt_text.specs.Failures.{is_err_and};
@@ -9,8 +9,8 @@ ghost use Rattle.tt_proof_read.specs.Spelling.{IsNode, SpellsProof};
 ghost use Rattle.tt_proof_read.specs.Trees.{Tree, preorder, IsPreorder};
 ghost use Rattle.tt_proof_check.specs.Nodes.{IsNodeOf};
 ghost use Rattle.tt_proof_check.specs.Streams.{IsProved, stream_of};
-ghost use Rattle.tt_proof_text.specs.Within.{Writes};
-ghost use Rattle.tt_instance_data.specs.Problem.{Problem};
+ghost use Rattle.tt_proof_write.specs.Within.{Writes};
+ghost use Rattle.tt_instance.specs.Problem.{Problem};
 ghost use Rattle.tt_proof_upgrade.specs.Faults.{read_failed, is_failed_read, IsNodesFault, IsWriteFault, OutOfMemoryIsOneFault};
 ghost use Rattle.tt_proof_upgrade.specs.Texts.{IsReadUpToFailedRead};
 ghost use Rattle.tt_proof_upgrade.specs.Upgrades.{IsUpgraded, IsEnvironmental, IsUpgradeFault};
@@ -18,11 +18,11 @@ ghost use Rattle.tt_proof_upgrade.specs.Upgrades.{IsUpgraded, IsEnvironmental, I
 use crate::fault::{UpgradeFault, node_fault};
 use crate::reading::parse_proof;
 use std::alloc::Global;
-use tt_instance_data::Instance;
-use tt_leaf_data::Bound;
+use tt_instance::Instance;
+use tt_leaf::Bound;
 use tt_proof_check::check_nodes;
 use tt_proof_read::Node;
-use tt_proof_text::{WriteFault, write_proof};
+use tt_proof_write::{WriteFault, write_proof};
 use tt_text::Source;
 
 /// The bound that a proof derives, and the text of the same proof in version 2.

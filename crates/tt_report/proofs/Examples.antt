@@ -1,8 +1,8 @@
 -- Reports of a small timetable.
 use Rattle.std.proofs.Common.{◌≡◌, List, [], ◌∷◌, refl, codes}
 use Rattle.tt_text.specs.Pieces.{Text, Number}
-use Rattle.tt_instance_data.specs.declared.cell.Cell.{Cell}
-use Rattle.tt_instance_data.proofs.Examples.{at, mini}
+use Rattle.tt_instance.specs.declared.cell.Cell.{Cell}
+use Rattle.tt_instance.proofs.Examples.{at, mini}
 use Rattle.tt_report.specs.Reports.{report_lines}
 use Rattle.tt_table.specs.declared.kind.Kind.TheVariants.{Room, Teacher, Curriculum}
 

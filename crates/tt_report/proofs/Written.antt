@@ -4,18 +4,18 @@ use Rattle.std.specs.Prelude.{flat_map, filter, Option}
 use Rattle.std.specs.Fmt.{decimal}
 use Rattle.std.proofs.lemmas.List.{append-nil, take_more, take_all}
 use Rattle.std.proofs.lemmas.Grind.{flat_map-append}
-use Rattle.tt_lists.specs.Words.{range_below}
-use Rattle.tt_lists.proofs.Below.{range_below_more}
+use Rattle.tt_list_laws.specs.Words.{range_below}
+use Rattle.tt_list_laws.proofs.Below.{range_below_more}
 use Rattle.tt_text.specs.Pieces.{Piece, Text, Number}
 use Rattle.tt_text.specs.Lines.{text_of, line_text, lines_text}
 use Rattle.tt_text_output.specs.Puts.{Puts}
 use Rattle.tt_text_output.specs.declared.output.Output.{Output}
 use Rattle.tt_text_output.proofs.Putting.{puts_both, puts_nothing}
-use Rattle.tt_instance_data.specs.Problem.{Problem}
-use Rattle.tt_instance_data.specs.Cells.{slot, all_slots, all_days, all_rooms, all_curricula, is_at}
-use Rattle.tt_instance_data.specs.Courses.{teachers}
-use Rattle.tt_instance_data.specs.declared.cell.Cell.{Cell}
-use Rattle.tt_instance_data.specs.declared.cell.Slot.{Slot}
+use Rattle.tt_instance.specs.Problem.{Problem}
+use Rattle.tt_instance.specs.Cells.{slot, all_slots, all_days, all_rooms, all_curricula, is_at}
+use Rattle.tt_instance.specs.Courses.{teachers}
+use Rattle.tt_instance.specs.declared.cell.Cell.{Cell}
+use Rattle.tt_instance.specs.declared.cell.Slot.{Slot}
 use Rattle.tt_report.specs.Inner.Blocks.{head_of, shown_in, belongs_to, next_texts, entries_text, slot_text, block_text}
 use Rattle.tt_report.specs.Reports.{course_text, room_text, course_and_room, is_taught_by, slot_line, block, report_text}
 use Rattle.tt_report.specs.declared.blocks.Block.{Block}

@@ -3,11 +3,11 @@ use Rattle.std.specs.Prelude.{ℕ, Bool, ◌&&◌, List, [], ◌∷◌, map, fla
 use Rattle.tt_text.specs.Pieces.{Piece, Text, Number}
 use Rattle.tt_text.specs.Lines.{lines_text}
 use Rattle.tt_text.specs.Texts.{is_same_text}
-use Rattle.tt_instance_data.specs.Problem.{Problem}
-use Rattle.tt_instance_data.specs.Cells.{all_rooms, all_curricula, all_slots, is_in, is_at}
-use Rattle.tt_instance_data.specs.Courses.{no_course, no_room, no_curriculum, course_teachers, teachers, in_curriculum}
-use Rattle.tt_instance_data.specs.declared.cell.Cell.{Cell}
-use Rattle.tt_instance_data.specs.declared.cell.Slot.{Slot}
+use Rattle.tt_instance.specs.Problem.{Problem}
+use Rattle.tt_instance.specs.Cells.{all_rooms, all_curricula, all_slots, is_in, is_at}
+use Rattle.tt_instance.specs.Courses.{no_course, no_room, no_curriculum, course_teachers, teachers, in_curriculum}
+use Rattle.tt_instance.specs.declared.cell.Cell.{Cell}
+use Rattle.tt_instance.specs.declared.cell.Slot.{Slot}
 use Rattle.tt_table.specs.declared.kind.Kind.{Kind as By}
 use Rattle.tt_table.specs.declared.kind.Kind.TheVariants.{Room, Teacher, Curriculum}
 

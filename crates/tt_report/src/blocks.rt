@@ -3,12 +3,12 @@
 ghost use Rattle.std.specs.Prelude.{◌≡◌, ◌<◌, [], ◌∷◌, length, slice_index_or};
 ghost use Rattle.tt_text.specs.Lines.{line_text};
 ghost use Rattle.tt_text.specs.Pieces.{Text};
-ghost use Rattle.tt_instance_data.specs.Cells.{InRange};
-ghost use Rattle.tt_instance_data.specs.Courses.{no_course, no_room, no_curriculum, teachers};
+ghost use Rattle.tt_instance.specs.Cells.{InRange};
+ghost use Rattle.tt_instance.specs.Courses.{no_course, no_room, no_curriculum, teachers};
 ghost use Rattle.tt_text_output.specs.Puts.{Puts};
 ghost use Rattle.tt_report.specs.Inner.Blocks.{IsBlock, head_of, shown_in, belongs_to, next_texts};
 
-use tt_instance_data::Instance;
+use tt_instance::Instance;
 use tt_table::Entry;
 use tt_text::Sink;
 use tt_text_output::Output;

@@ -2,10 +2,10 @@
 
 ghost use Rattle.std.specs.Prelude.{◌≡◌, ◌<◌, length, flat_map, All, OnOk, Err, true, if◌then◌else◌};
 ghost use Rattle.std.specs.Io.KnownBytes.{Appends};
-ghost use Rattle.tt_lists.specs.Words.{range_below};
+ghost use Rattle.tt_list_laws.specs.Words.{range_below};
 ghost use Rattle.tt_text.specs.Lines.{line_text};
-ghost use Rattle.tt_instance_data.specs.Cells.{InRange, slot};
-ghost use Rattle.tt_instance_data.specs.Courses.{teachers};
+ghost use Rattle.tt_instance.specs.Cells.{InRange, slot};
+ghost use Rattle.tt_instance.specs.Courses.{teachers};
 ghost use Rattle.tt_table.specs.Table.{IsTimetable};
 ghost use Rattle.tt_table.specs.declared.groups.GroupBy.TheVariants as group;
 ghost use Rattle.tt_report.specs.Inner.Blocks.{IsBlock, entries_text, slot_text, day_text, block_text};
@@ -20,7 +20,7 @@ ghost use Rattle.tt_report.specs.declared.fault.ReportFault.TheVariants as fault
 use crate::blocks::Block;
 use crate::fault::ReportFault;
 use std::alloc::Global;
-use tt_instance_data::Instance;
+use tt_instance::Instance;
 use tt_table::{Group, Groups, Kind as By, Timetable};
 use tt_text::Sink;
 use tt_text_output::Output;

@@ -1,8 +1,8 @@
 -- A week as an iCalendar file (RFC 5545): an event for each entry, in local time.
 use Rattle.std.specs.Prelude.{ℕ, ◌+◌, ◌/◌, ◌%◌, ◌==◌, Bool, nat_lt, ◌||◌, List, [], ◌∷◌, ◌++◌, flat_map, codes, slice_index_or, if◌then◌else◌}
 use Rattle.std.specs.Fmt.{decimal}
-use Rattle.tt_instance_data.specs.Problem.{Problem}
-use Rattle.tt_instance_data.specs.declared.cell.Cell.{Cell}
+use Rattle.tt_instance.specs.Problem.{Problem}
+use Rattle.tt_instance.specs.declared.cell.Cell.{Cell}
 use Rattle.tt_report_export.specs.Names.{course_name, teacher_name, room_name}
 use Rattle.tt_report_export.specs.Weeks.{belongs_to}
 use Rattle.tt_report_export.specs.declared.week.Week.{Week}

@@ -1,8 +1,8 @@
 -- The names of an entry as they are in the instance's file.
 use Rattle.std.specs.Prelude.{ℕ, List, slice_index_or}
-use Rattle.tt_instance_data.specs.Problem.{Problem}
-use Rattle.tt_instance_data.specs.Courses.{no_course, no_room}
-use Rattle.tt_instance_data.specs.declared.cell.Cell.{Cell}
+use Rattle.tt_instance.specs.Problem.{Problem}
+use Rattle.tt_instance.specs.Courses.{no_course, no_room}
+use Rattle.tt_instance.specs.declared.cell.Cell.{Cell}
 
 -- The name of a course's teacher.
 abbrev pub teacher_of : Problem → ℕ → List ℕ

@@ -1,9 +1,9 @@
 -- Which entries a week has.
 use Rattle.std.specs.Prelude.{◌≡◌, ℕ, ◌<◌, ◌==◌, Bool, List, [], length, Some, slice_get, slice_index_or}
 use Rattle.tt_text.specs.Texts.{is_text}
-use Rattle.tt_instance_data.specs.Problem.{Problem}
-use Rattle.tt_instance_data.specs.Courses.{room_ids, curriculum_ids, teachers, in_curriculum}
-use Rattle.tt_instance_data.specs.declared.cell.Cell.{Cell}
+use Rattle.tt_instance.specs.Problem.{Problem}
+use Rattle.tt_instance.specs.Courses.{room_ids, curriculum_ids, teachers, in_curriculum}
+use Rattle.tt_instance.specs.declared.cell.Cell.{Cell}
 use Rattle.tt_table.specs.declared.kind.Kind.{Kind as By}
 use Rattle.tt_table.specs.declared.kind.Kind.TheVariants.{Room, Teacher, Curriculum}
 use Rattle.tt_report_export.specs.Names.{teacher_name}

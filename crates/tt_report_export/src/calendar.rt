@@ -1,7 +1,7 @@
 //! A week as a calendar.
 
 ghost use Rattle.std.specs.Prelude.{◌≡◌, ◌++◌, flat_map, codes, IfOk, OnOk};
-ghost use Rattle.tt_instance_data.specs.Cells.{InRange};
+ghost use Rattle.tt_instance.specs.Cells.{InRange};
 ghost use Rattle.tt_table.specs.Table.{IsTimetable};
 ghost use Rattle.tt_report_export.specs.Calendars.{two_digits, clock, moment, identity, line, shown, times, names, event, event_in, calendar_text};
 ghost use Rattle.tt_report_export.specs.Weeks.{IsWeek};
@@ -12,7 +12,7 @@ use crate::names::{course_name, room_name, teacher_of};
 use crate::term::Term;
 use crate::week::Week;
 use std::alloc::{AllocError, Global};
-use tt_instance_data::Instance;
+use tt_instance::Instance;
 use tt_table::{Entry, Timetable};
 use tt_text::{put_number, put_token};
 

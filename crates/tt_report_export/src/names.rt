@@ -1,10 +1,10 @@
 //! The names of an entry.
 
 ghost use Rattle.std.specs.Prelude.{◌≡◌, ◌<◌, [], length, slice_index_or};
-ghost use Rattle.tt_instance_data.specs.Courses.{no_course, no_room, teachers};
+ghost use Rattle.tt_instance.specs.Courses.{no_course, no_room, teachers};
 ghost use Rattle.tt_report_export.specs.Names.{teacher_of};
 
-use tt_instance_data::Instance;
+use tt_instance::Instance;
 
 /// Returns the name of a course.
 pub fn course_name<'a>(instance: &Instance<'a>, course: u32) -> &'a [u8]

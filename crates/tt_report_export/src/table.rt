@@ -1,7 +1,7 @@
 //! A timetable as a table for spreadsheets.
 
 ghost use Rattle.std.specs.Prelude.{◌≡◌, ◌++◌, flat_map, IfOk, OnOk};
-ghost use Rattle.tt_instance_data.specs.Cells.{InRange};
+ghost use Rattle.tt_instance.specs.Cells.{InRange};
 ghost use Rattle.tt_table.specs.Table.{IsTimetable};
 ghost use Rattle.tt_report_export.specs.Tables.{field, place, row, table_text};
 
@@ -9,7 +9,7 @@ use crate::digits::put_digits;
 use crate::names::{course_name, room_name, teacher_of};
 use crate::quoting::put_quoted;
 use std::alloc::{AllocError, Global};
-use tt_instance_data::Instance;
+use tt_instance::Instance;
 use tt_table::{Entry, Timetable};
 use tt_text::put_token;
 

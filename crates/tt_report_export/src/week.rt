@@ -1,11 +1,11 @@
 //! The room, teacher or curriculum whose week is shown.
 
 ghost use Rattle.std.specs.Prelude.{◌≡◌, ◌<◌, ℕ, length, Some, slice_get, IfSome, IsNone};
-ghost use Rattle.tt_instance_data.specs.Cells.{InRange};
+ghost use Rattle.tt_instance.specs.Cells.{InRange};
 ghost use Rattle.tt_report_export.specs.Weeks.{IsWeek, IsWeekOf, names_by, belongs_to};
 
 use crate::names::{name_of_teacher, teacher_of};
-use tt_instance_data::Instance;
+use tt_instance::Instance;
 use tt_report::By;
 use tt_table::Entry;
 

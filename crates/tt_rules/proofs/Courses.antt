@@ -4,13 +4,13 @@ use Rattle.std.specs.Prelude.{◌==◌, sum_by, count_by}
 use Rattle.std.specs.List.{list_any, list_all}
 use Rattle.std.proofs.lemmas.Bool.{and_parts, not-true, cases_eq, ne_eqb, false≢true}
 use Rattle.std.proofs.lemmas.List.Sums.{sum_by-cons}
-use Rattle.tt_lists.specs.Words.{has_number, each_two}
-use Rattle.tt_lists.proofs.Sums.{one_if, sum_by-same, sum_by-plus, sum_by-nothing}
-use Rattle.tt_lists.proofs.Tests.{list_any-or, test_turned}
-use Rattle.tt_lists.proofs.Twos.{list_all-not}
-use Rattle.tt_lists.proofs.Tested.{list_any-same}
-use Rattle.tt_instance_data.specs.Cells.{is_of}
-use Rattle.tt_instance_data.specs.declared.cell.Cell.{Cell}
+use Rattle.tt_list_laws.specs.Words.{has_number, each_two}
+use Rattle.tt_list_laws.proofs.Sums.{one_if, sum_by-same, sum_by-plus, sum_by-nothing}
+use Rattle.tt_list_laws.proofs.Tests.{list_any-or, test_turned}
+use Rattle.tt_list_laws.proofs.Twos.{list_all-not}
+use Rattle.tt_list_laws.proofs.Tested.{list_any-same}
+use Rattle.tt_instance.specs.Cells.{is_of}
+use Rattle.tt_instance.specs.declared.cell.Cell.{Cell}
 
 module _ (test : Cell → Bool) (t : List Cell) where
   -- whether some entry of one of the courses passes

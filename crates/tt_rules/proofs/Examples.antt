@@ -1,8 +1,8 @@
 -- Scores of small timetables, as the definitions compute them.
 use Rattle.std.proofs.Common.{◌≡◌, ℕ, List, [], ◌∷◌, refl}
-use Rattle.tt_instance_data.specs.Problem.{Problem}
-use Rattle.tt_instance_data.specs.declared.cell.Cell.{Cell}
-use Rattle.tt_instance_data.proofs.Examples.{at, mini, long, trio, tour}
+use Rattle.tt_instance.specs.Problem.{Problem}
+use Rattle.tt_instance.specs.declared.cell.Cell.{Cell}
+use Rattle.tt_instance.proofs.Examples.{at, mini, long, trio, tour}
 use Rattle.tt_rules.specs.Hard.{lectures_count, conflicts_count, availability_count, occupancy_count}
 use Rattle.tt_rules.specs.Soft.{capacity_count, days_count, compactness_count, stability_count}
 

@@ -5,17 +5,17 @@ use Rattle.std.specs.List.{list_any, AllByRecursion}
 use Rattle.std.proofs.lemmas.List.{get_or_past}
 use Rattle.std.proofs.lemmas.List.Elements.{All-contains}
 use Rattle.std.proofs.lemmas.Bool.{and_parts, and_from, and_right, cases_lt}
-use Rattle.tt_instance_data.specs.Problem.{Problem}
-use Rattle.tt_instance_data.proofs.Exclusion.{eqb-turn, conflict-turn, conflict-itself}
-use Rattle.tt_instance_data.specs.Cells.{slot_of, all_slots, all_courses, all_rooms, InRange, is_of, is_at, is_in}
-use Rattle.tt_instance_data.specs.Courses.{no_course, lectures, conflict, unavailable}
-use Rattle.tt_instance_data.specs.declared.cell.Slot.{Slot}
+use Rattle.tt_instance.specs.Problem.{Problem}
+use Rattle.tt_instance.proofs.Exclusion.{eqb-turn, conflict-turn, conflict-itself}
+use Rattle.tt_instance.specs.Cells.{slot_of, all_slots, all_courses, all_rooms, InRange, is_of, is_at, is_in}
+use Rattle.tt_instance.specs.Courses.{no_course, lectures, conflict, unavailable}
+use Rattle.tt_instance.specs.declared.cell.Slot.{Slot}
 use Rattle.tt_rules.specs.Hard.{entries_of, periods_of, lectures_off, entries_in, collide}
 use Rattle.tt_rules.specs.Score.{IsFeasible}
-use Rattle.tt_instance_data.specs.declared.cell.Cell.{Cell}
-use Rattle.tt_lists.proofs.Sums.{one_if, sum_by-zero_each, sum_by-tight, each, each_weaker, one_if_any, one_if-le, spread_down, once_at_most, sum_by-le}
-use Rattle.tt_instance_data.proofs.Places.{count_slots, each_slot_at}
-use Rattle.tt_lists.proofs.Members.{none_passes, none_counted, no_two, each_below_at}
+use Rattle.tt_instance.specs.declared.cell.Cell.{Cell}
+use Rattle.tt_list_laws.proofs.Sums.{one_if, sum_by-zero_each, sum_by-tight, each, each_weaker, one_if_any, one_if-le, spread_down, once_at_most, sum_by-le}
+use Rattle.tt_instance.proofs.Places.{count_slots, each_slot_at}
+use Rattle.tt_list_laws.proofs.Members.{none_passes, none_counted, no_two, each_below_at}
 
 -- ---- entries that collide
 

@@ -3,8 +3,8 @@ use Rattle.std.proofs.Common.{◌≡◌, ℕ, Bool, false, ◌||◌, List, [], �
 use Rattle.std.specs.Prelude.{count_by}
 use Rattle.std.specs.List.{list_any}
 use Rattle.std.proofs.Math.Bool.{or_assoc, or-false}
-use Rattle.tt_lists.specs.Words.{range_below}
-use Rattle.tt_lists.proofs.Sums.{one_if, sum_by-same}
+use Rattle.tt_list_laws.specs.Words.{range_below}
+use Rattle.tt_list_laws.proofs.Sums.{one_if, sum_by-same}
 
 -- the marks set, together with those that the elements left will set, are the complete marks
 abbrev pub MarksTo : {X : Type 0} → (ℕ → X → Bool) → (ℕ → Bool) → List Bool → List X → Type 0

@@ -2,18 +2,18 @@
 use Rattle.std.proofs.Common.{◌≡◌, ℕ, ◌+◌, ◌-◌, ◌*◌, ◌<◌, ◌≤◌, Bool, true, false, not, ◌&&◌, ◌||◌, List, length, slice_index_or, refl, sym, ap, ◌∙◌, arith, mul-le-mul_left}
 use Rattle.std.specs.Prelude.{◌==◌, All, sum_by, count_by}
 use Rattle.std.specs.List.{list_any}
-use Rattle.tt_instance_data.specs.Problem.{Problem}
-use Rattle.tt_instance_data.specs.Cells.{InRange, slot_of, next_to, is_of}
-use Rattle.tt_instance_data.specs.Courses.{in_curriculum, members, no_curriculum}
-use Rattle.tt_instance_data.specs.Limits.{IsInstance}
-use Rattle.tt_instance_data.proofs.Limits.{members_below}
-use Rattle.tt_instance_data.specs.declared.cell.Cell.{Cell}
+use Rattle.tt_instance.specs.Problem.{Problem}
+use Rattle.tt_instance.specs.Cells.{InRange, slot_of, next_to, is_of}
+use Rattle.tt_instance.specs.Courses.{in_curriculum, members, no_curriculum}
+use Rattle.tt_instance.specs.Limits.{IsInstance}
+use Rattle.tt_instance.proofs.Limits.{members_below}
+use Rattle.tt_instance.specs.declared.cell.Cell.{Cell}
 use Rattle.tt_table.specs.Table.{IsTimetable}
 use Rattle.tt_rules.specs.Inner.Places.{place_of, is_alone}
 use Rattle.tt_rules.proofs.Courses.{any_of_courses, count_of_courses}
 use Rattle.tt_rules.specs.Soft.{is_isolated}
-use Rattle.tt_lists.proofs.Tests.{list_any-same_at, list_any-or, same_test}
-use Rattle.tt_lists.proofs.Counting.{count_by-same_at}
+use Rattle.tt_list_laws.proofs.Tests.{list_any-same_at, list_any-or, same_test}
+use Rattle.tt_list_laws.proofs.Counting.{count_by-same_at}
 use Rattle.tt_table.proofs.Numbering.{same_number, number_below_week}
 
 -- a place is below 2048

@@ -2,17 +2,17 @@
 use Rattle.std.proofs.Common.{◌≡◌, ℕ, zero, suc, ◌+◌, ◌*◌, ◌<◌, Bool, List, sym, ap, ◌∙◌, arith}
 use Rattle.std.specs.Prelude.{◌==◌, sum_by, count_by}
 use Rattle.std.specs.List.{list_any}
-use Rattle.tt_lists.specs.Words.{range_below}
-use Rattle.tt_lists.proofs.Numbers.{sum_more}
-use Rattle.tt_lists.proofs.Sums.{one_if, sum_by-same}
-use Rattle.tt_instance_data.specs.Problem.{Problem}
-use Rattle.tt_instance_data.specs.Cells.{InRange, slot, all_days, all_slots, is_at}
-use Rattle.tt_instance_data.specs.declared.cell.Cell.{Cell}
-use Rattle.tt_instance_data.specs.declared.cell.Slot.{Slot}
+use Rattle.tt_list_laws.specs.Words.{range_below}
+use Rattle.tt_list_laws.proofs.Numbers.{sum_more}
+use Rattle.tt_list_laws.proofs.Sums.{one_if, sum_by-same}
+use Rattle.tt_instance.specs.Problem.{Problem}
+use Rattle.tt_instance.specs.Cells.{InRange, slot, all_days, all_slots, is_at}
+use Rattle.tt_instance.specs.declared.cell.Cell.{Cell}
+use Rattle.tt_instance.specs.declared.cell.Slot.{Slot}
 use Rattle.tt_table.specs.Table.{IsTimetable}
 use Rattle.tt_table.proofs.Numbering.{same_number}
-use Rattle.tt_lists.proofs.Tests.{list_any-same_at, sum_by-same_below, sum_further}
-use Rattle.tt_instance_data.proofs.Places.{slots_summed}
+use Rattle.tt_list_laws.proofs.Tests.{list_any-same_at, sum_by-same_below, sum_further}
+use Rattle.tt_instance.proofs.Places.{slots_summed}
 
 -- a sum over the numbers of the week is a sum over days and periods
 sum_by_days : (f : ℕ → ℕ) (periods days : ℕ) → sum_by f (range_below (days * periods)) ≡ sum_by

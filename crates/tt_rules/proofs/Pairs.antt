@@ -2,14 +2,14 @@
 use Rattle.std.proofs.Common.{◌≡◌, ℕ, ◌+◌, ◌<◌, Bool, List, length, get_or, drop, ap, ◌∙◌, arith}
 use Rattle.std.specs.Prelude.{◌==◌, ◌&&◌, All, filter, count_by}
 use Rattle.std.proofs.lemmas.List.{drop_more}
-use Rattle.tt_lists.specs.Words.{count_pairs}
-use Rattle.tt_lists.proofs.Filters.{count_by-of_filter}
-use Rattle.tt_lists.proofs.Counting.{count_by-same_at}
-use Rattle.tt_lists.proofs.Tests.{test_turned}
-use Rattle.tt_instance_data.specs.Problem.{Problem}
-use Rattle.tt_instance_data.specs.Cells.{InRange}
-use Rattle.tt_instance_data.specs.Courses.{conflict}
-use Rattle.tt_instance_data.specs.declared.cell.Cell.{Cell}
+use Rattle.tt_list_laws.specs.Words.{count_pairs}
+use Rattle.tt_list_laws.proofs.Filters.{count_by-of_filter}
+use Rattle.tt_list_laws.proofs.Counting.{count_by-same_at}
+use Rattle.tt_list_laws.proofs.Tests.{test_turned}
+use Rattle.tt_instance.specs.Problem.{Problem}
+use Rattle.tt_instance.specs.Cells.{InRange}
+use Rattle.tt_instance.specs.Courses.{conflict}
+use Rattle.tt_instance.specs.declared.cell.Cell.{Cell}
 use Rattle.tt_rules.specs.Hard.{collide}
 use Rattle.tt_table.specs.Groups.{in_group, group_of}
 use Rattle.tt_table.specs.declared.groups.GroupBy.TheVariants.{Period}

@@ -4,14 +4,14 @@ use Rattle.std.specs.Prelude.{◌==◌, sum_by, count_by}
 use Rattle.std.specs.List.{list_any}
 use Rattle.std.proofs.lemmas.List.Elements.{recursion_from_All}
 use Rattle.std.proofs.lemmas.Bool.{and_from}
-use Rattle.tt_lists.proofs.Sums.{one_if, sum_by-plus, sum_by-same, each, each_weaker, spread_up, spread_down, once_at_least, once_at_most}
-use Rattle.tt_instance_data.specs.Problem.{Problem}
-use Rattle.tt_instance_data.specs.Cells.{InRange, all_slots, is_at}
-use Rattle.tt_instance_data.specs.declared.cell.Cell.{Cell}
-use Rattle.tt_instance_data.specs.declared.cell.Slot.{Slot}
-use Rattle.tt_instance_data.proofs.Places.{any_slot, count_slots}
+use Rattle.tt_list_laws.proofs.Sums.{one_if, sum_by-plus, sum_by-same, each, each_weaker, spread_up, spread_down, once_at_least, once_at_most}
+use Rattle.tt_instance.specs.Problem.{Problem}
+use Rattle.tt_instance.specs.Cells.{InRange, all_slots, is_at}
+use Rattle.tt_instance.specs.declared.cell.Cell.{Cell}
+use Rattle.tt_instance.specs.declared.cell.Slot.{Slot}
+use Rattle.tt_instance.proofs.Places.{any_slot, count_slots}
 use Rattle.tt_table.specs.Table.{IsTimetable}
-use Rattle.tt_lists.proofs.Tests.{first_and_others}
+use Rattle.tt_list_laws.proofs.Tests.{first_and_others}
 
 -- an entry in range is in one of them
 own_slot : (q : Problem) (e : Cell) → InRange q e → list_any (λ s. is_at s e) (all_slots q) ≡ true

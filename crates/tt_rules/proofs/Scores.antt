@@ -1,8 +1,8 @@
 -- The meaning of the sums of a score's parts.
 use Rattle.std.proofs.Common.{◌≡◌, ◌+◌, List, arith}
 use Rattle.std.specs.Prelude.{◌↔◌}
-use Rattle.tt_instance_data.specs.Problem.{Problem}
-use Rattle.tt_instance_data.specs.declared.cell.Cell.{Cell}
+use Rattle.tt_instance.specs.Problem.{Problem}
+use Rattle.tt_instance.specs.declared.cell.Cell.{Cell}
 use Rattle.tt_table.specs.Table.{IsTimetable}
 use Rattle.tt_rules.specs.Score.{IsScore, IsFeasible, hard, cost}
 use Rattle.tt_rules.specs.declared.counts.Score.{Score}

@@ -2,12 +2,12 @@
 -- and Room occupancy). A count is 0 exactly if the rule is respected; its number above 0 is this project's own choice.
 use Rattle.std.specs.Prelude.{ℕ, ◌+◌, ◌-◌, min, max, ◌==◌, Bool, ◌&&◌, List, sum_by, count_by}
 use Rattle.std.specs.List.{list_any}
-use Rattle.tt_lists.specs.Words.{count_pairs}
-use Rattle.tt_instance_data.specs.Problem.{Problem}
-use Rattle.tt_instance_data.specs.Cells.{all_courses, all_rooms, all_slots, is_of, is_at, is_in}
-use Rattle.tt_instance_data.specs.Courses.{lectures, conflict, unavailable}
-use Rattle.tt_instance_data.specs.declared.cell.Cell.{Cell}
-use Rattle.tt_instance_data.specs.declared.cell.Slot.{Slot}
+use Rattle.tt_list_laws.specs.Words.{count_pairs}
+use Rattle.tt_instance.specs.Problem.{Problem}
+use Rattle.tt_instance.specs.Cells.{all_courses, all_rooms, all_slots, is_of, is_at, is_in}
+use Rattle.tt_instance.specs.Courses.{lectures, conflict, unavailable}
+use Rattle.tt_instance.specs.declared.cell.Cell.{Cell}
+use Rattle.tt_instance.specs.declared.cell.Slot.{Slot}
 
 -- The number of entries that the course has in the timetable.
 abbrev pub entries_of : List Cell → ℕ → ℕ

@@ -2,11 +2,11 @@
 -- capacity, Minimum working days, Curriculum compactness, Room stability).
 use Rattle.std.specs.Prelude.{ℕ, ◌-◌, ◌*◌, Bool, not, ◌&&◌, List, sum_by, count_by}
 use Rattle.std.specs.List.{list_any}
-use Rattle.tt_instance_data.specs.declared.limit.TheConstants.{ISOLATED_COST, MISSING_DAY_COST}
-use Rattle.tt_instance_data.specs.Problem.{Problem}
-use Rattle.tt_instance_data.specs.Cells.{all_courses, all_rooms, all_curricula, all_days, slot_of, next_to, is_of, is_in, is_on}
-use Rattle.tt_instance_data.specs.Courses.{min_days, in_curriculum, excess}
-use Rattle.tt_instance_data.specs.declared.cell.Cell.{Cell}
+use Rattle.tt_instance.specs.declared.limit.TheConstants.{ISOLATED_COST, MISSING_DAY_COST}
+use Rattle.tt_instance.specs.Problem.{Problem}
+use Rattle.tt_instance.specs.Cells.{all_courses, all_rooms, all_curricula, all_days, slot_of, next_to, is_of, is_in, is_on}
+use Rattle.tt_instance.specs.Courses.{min_days, in_curriculum, excess}
+use Rattle.tt_instance.specs.declared.cell.Cell.{Cell}
 
 -- Room capacity: each student without a seat, in each entry.
 abbrev pub capacity_count : Problem → List Cell → ℕ

@@ -3,7 +3,7 @@
 ghost use Rattle.std.specs.Prelude.{◌≡◌, ◌≤◌, length};
 ghost use Rattle.tt_rules.specs.Hard.{availability_count};
 
-use tt_instance_data::Instance;
+use tt_instance::Instance;
 use tt_table::Entry;
 
 /// Counts the entries in a period that is unavailable for their course.

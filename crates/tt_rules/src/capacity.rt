@@ -1,14 +1,14 @@
 //! Room capacity: one for each student without a seat, in each entry.
 
 ghost use Rattle.std.specs.Prelude.{◌≡◌, ◌≤◌, length, All};
-ghost use Rattle.tt_instance_data.specs.Cells.{InRange};
-ghost use Rattle.tt_instance_data.specs.Courses.{excess};
+ghost use Rattle.tt_instance.specs.Cells.{InRange};
+ghost use Rattle.tt_instance.specs.Courses.{excess};
 ghost use Rattle.tt_table.specs.declared.table.TheConstants.{MAX_ENTRIES};
 ghost use Rattle.tt_rules.specs.Soft.{capacity_count};
 ghost use Rattle.tt_rules.specs.declared.limit.TheConstants.{MAX_COUNT};
-ghost use Rattle.tt_instance_data.specs.declared.limit.TheConstants.{MAX_SEATS};
+ghost use Rattle.tt_instance.specs.declared.limit.TheConstants.{MAX_SEATS};
 
-use tt_instance_data::Instance;
+use tt_instance::Instance;
 use tt_table::Entry;
 
 /// Counts the students of an entry's course for whom its room has no seat.

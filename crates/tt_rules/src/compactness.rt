@@ -2,18 +2,18 @@
 
 ghost use Rattle.std.specs.Prelude.{◌≡◌, ℕ, ◌+◌, ◌-◌, ◌*◌, ◌<◌, ◌≤◌, ◌==◌, ◌&&◌, ◌||◌, not, false, length, slice_index_or, sum_by, count_by, All};
 ghost use Rattle.std.specs.List.{list_any};
-ghost use Rattle.tt_instance_data.specs.Cells.{InRange, is_of};
-ghost use Rattle.tt_instance_data.specs.Courses.{in_curriculum};
+ghost use Rattle.tt_instance.specs.Cells.{InRange, is_of};
+ghost use Rattle.tt_instance.specs.Courses.{in_curriculum};
 ghost use Rattle.tt_rules.specs.Soft.{is_isolated, compactness_count};
 ghost use Rattle.tt_rules.specs.Inner.Places.{place_of, is_alone};
 ghost use Rattle.tt_table.specs.declared.groups.GroupBy.TheVariants as by;
 ghost use Rattle.tt_table.specs.declared.table.TheConstants.{MAX_ENTRIES};
-ghost use Rattle.tt_instance_data.specs.declared.limit.TheConstants.{MAX_COURSES, MAX_MEMBERS};
+ghost use Rattle.tt_instance.specs.declared.limit.TheConstants.{MAX_COURSES, MAX_MEMBERS};
 ghost use Rattle.tt_rules.specs.declared.marks.TheConstants.{PLACES};
 ghost use Rattle.tt_rules.specs.declared.limit.TheConstants.{MAX_COUNT, MAX_PLACE};
 
 use crate::marks::Marks;
-use tt_instance_data::{ISOLATED_COST, Instance};
+use tt_instance::{ISOLATED_COST, Instance};
 use tt_table::{Entry, Group, Groups};
 
 /// Returns the place of an entry's period, from 1: day by day, with one free place between two days, so
@@ -101,7 +101,7 @@ fn isolated(instance: &Instance<'_>, by_course: &Groups<'_>, curriculum: u32) ->
 }
 
 /// Returns the cost of all curricula.
-#[tactic(auto, using(tt_lists::proofs::Numbers::sum_more))]
+#[tactic(auto, using(tt_list_laws::proofs::Numbers::sum_more))]
 pub fn cost(instance: &Instance<'_>, by_course: &Groups<'_>) -> u64
     requires by { by_course.now.by ≡ by.Course }
     requires in_range { All (InRange instance.now) by_course.now.entries }

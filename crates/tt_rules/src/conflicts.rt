@@ -1,14 +1,14 @@
 //! Conflicts: no two entries of one period have courses that conflict.
 
 ghost use Rattle.std.specs.Prelude.{◌≡◌, ◌≤◌, ◌+◌, length, count_by, drop, All, Some, slice_get};
-ghost use Rattle.tt_instance_data.specs.Cells.{InRange};
-ghost use Rattle.tt_instance_data.specs.Courses.{conflict};
+ghost use Rattle.tt_instance.specs.Cells.{InRange};
+ghost use Rattle.tt_instance.specs.Courses.{conflict};
 ghost use Rattle.tt_rules.specs.Hard.{collide, conflicts_count};
 ghost use Rattle.tt_table.specs.declared.groups.GroupBy.TheVariants as by;
 ghost use Rattle.tt_table.specs.declared.table.TheConstants.{MAX_ENTRIES};
 ghost use Rattle.tt_rules.specs.declared.limit.TheConstants.{MAX_COUNT};
 
-use tt_instance_data::Instance;
+use tt_instance::Instance;
 use tt_table::{Entry, Group, Groups};
 
 /// Counts the entries of a group whose courses conflict with an entry's.

@@ -2,12 +2,12 @@
 
 ghost use Rattle.std.specs.Prelude.{◌≡◌, ◌≤◌, count_by, All};
 ghost use Rattle.std.specs.List.{list_any};
-ghost use Rattle.tt_instance_data.specs.Cells.{InRange, all_slots, all_days, all_rooms, is_at, is_on, is_in};
-ghost use Rattle.tt_instance_data.specs.declared.limit.TheConstants.{MAX_DAYS, MAX_ROOMS, MAX_SLOTS};
+ghost use Rattle.tt_instance.specs.Cells.{InRange, all_slots, all_days, all_rooms, is_at, is_on, is_in};
+ghost use Rattle.tt_instance.specs.declared.limit.TheConstants.{MAX_DAYS, MAX_ROOMS, MAX_SLOTS};
 
 use crate::marks::Marks;
 use crate::slots;
-use tt_instance_data::Instance;
+use tt_instance::Instance;
 use tt_table::Group;
 
 /// Counts the periods of the week that have some entry.

@@ -1,15 +1,15 @@
 //! Lectures: all lectures of a course are placed, in distinct periods.
 
 ghost use Rattle.std.specs.Prelude.{◌≡◌, ◌<◌, ◌≤◌, ◌*◌, length, All};
-ghost use Rattle.tt_instance_data.specs.Cells.{InRange};
+ghost use Rattle.tt_instance.specs.Cells.{InRange};
 ghost use Rattle.tt_rules.specs.Hard.{entries_of, periods_of, lectures_off, lectures_count};
-ghost use Rattle.tt_instance_data.specs.declared.limit.TheConstants.{MAX_SLOTS};
+ghost use Rattle.tt_instance.specs.declared.limit.TheConstants.{MAX_SLOTS};
 ghost use Rattle.tt_table.specs.declared.groups.GroupBy.TheVariants as by;
 ghost use Rattle.tt_table.specs.declared.table.TheConstants.{MAX_ENTRIES};
 ghost use Rattle.tt_rules.specs.declared.limit.TheConstants.{MAX_COUNT};
 
 use crate::distinct;
-use tt_instance_data::{Instance, MAX_COURSES};
+use tt_instance::{Instance, MAX_COURSES};
 use tt_table::Groups;
 
 /// Counts the entries of a course.
@@ -52,7 +52,7 @@ pub fn lectures_off(instance: &Instance<'_>, by_course: &Groups<'_>, course: u32
 }
 
 /// Returns how far the courses are from their lectures in total.
-#[tactic(auto, using(tt_lists::proofs::Numbers::sum_more))]
+#[tactic(auto, using(tt_list_laws::proofs::Numbers::sum_more))]
 pub fn count(instance: &Instance<'_>, by_course: &Groups<'_>) -> u64
     requires by { by_course.now.by ≡ by.Course }
     requires in_range { All (InRange instance.now) by_course.now.entries }

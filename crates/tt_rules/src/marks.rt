@@ -1,7 +1,7 @@
 //! Sets of places: of courses, of rooms, of days, or of periods of the week.
 
 ghost use Rattle.std.specs.Prelude.{◌≡◌, ℕ, ◌<◌, ◌≤◌, ◌==◌, ◌||◌, false, slice_index_or, count_by};
-ghost use Rattle.tt_lists.specs.Words.{range_below};
+ghost use Rattle.tt_list_laws.specs.Words.{range_below};
 
 use std::marker::Model;
 
@@ -49,7 +49,7 @@ impl Marks {
     }
 
     /// Counts the marked places below a bound.
-    #[tactic(auto, using(tt_lists::proofs::Numbers::count_more))]
+    #[tactic(auto, using(tt_list_laws::proofs::Numbers::count_more))]
     pub fn count(&self, bound: u32) -> u64
         requires { bound ≤ PLACES }
         ensures count { result

@@ -2,7 +2,7 @@
 
 ghost use Rattle.std.specs.Prelude.{◌≡◌, ◌<◌, ◌≤◌, ◌-◌, ◌&&◌, length, sum_by, count_by, All};
 ghost use Rattle.std.specs.List.{list_any};
-ghost use Rattle.tt_instance_data.specs.Cells.{InRange, all_slots, is_in, is_at};
+ghost use Rattle.tt_instance.specs.Cells.{InRange, all_slots, is_in, is_at};
 ghost use Rattle.tt_rules.specs.Hard.{entries_in, occupancy_count};
 ghost use Rattle.tt_table.specs.declared.groups.GroupBy.TheVariants as by;
 ghost use Rattle.tt_table.specs.declared.table.TheConstants.{MAX_ENTRIES};
@@ -10,7 +10,7 @@ ghost use Rattle.tt_table.specs.declared.groups.TheConstants.{GROUPS};
 ghost use Rattle.tt_rules.specs.declared.limit.TheConstants.{MAX_COUNT};
 
 use crate::distinct;
-use tt_instance_data::Instance;
+use tt_instance::Instance;
 use tt_table::Groups;
 
 /// Counts the entries in a room.
@@ -50,7 +50,7 @@ fn doubled(instance: &Instance<'_>, by_room: &Groups<'_>, room: u32) -> u64
 }
 
 /// Counts the entries of each room and period except the first, in total.
-#[tactic(auto, using(tt_lists::proofs::Numbers::sum_more))]
+#[tactic(auto, using(tt_list_laws::proofs::Numbers::sum_more))]
 pub fn count(instance: &Instance<'_>, by_room: &Groups<'_>) -> u64
     requires by { by_room.now.by ≡ by.Room }
     requires in_range { All (InRange instance.now) by_room.now.entries }

@@ -7,7 +7,7 @@ use crate::counts::Score;
 use crate::{
     availability, capacity, compactness, conflicts, lectures, occupancy, stability, working_days,
 };
-use tt_instance_data::Instance;
+use tt_instance::Instance;
 use tt_table::{Groups, Timetable};
 
 /// Returns the eight counts of a timetable whose entries are all in the instance's range.

@@ -1,10 +1,10 @@
 //! The periods of the week, numbered from 0, day by day.
 
 ghost use Rattle.std.specs.Prelude.{◌≡◌, ◌+◌, ◌*◌, ◌<◌, ◌≤◌};
-ghost use Rattle.tt_instance_data.specs.Cells.{InRange};
-ghost use Rattle.tt_instance_data.specs.declared.limit.TheConstants.{MAX_SLOTS};
+ghost use Rattle.tt_instance.specs.Cells.{InRange};
+ghost use Rattle.tt_instance.specs.declared.limit.TheConstants.{MAX_SLOTS};
 
-use tt_instance_data::Instance;
+use tt_instance::Instance;
 use tt_table::Entry;
 
 /// Returns how many periods the week has.

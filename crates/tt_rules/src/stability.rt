@@ -2,15 +2,15 @@
 
 ghost use Rattle.std.specs.Prelude.{◌≡◌, ◌<◌, ◌≤◌, ◌&&◌, count_by, All};
 ghost use Rattle.std.specs.List.{list_any};
-ghost use Rattle.tt_instance_data.specs.Cells.{InRange, all_rooms, is_of, is_in};
+ghost use Rattle.tt_instance.specs.Cells.{InRange, all_rooms, is_of, is_in};
 ghost use Rattle.tt_rules.specs.Soft.{stability_cost, stability_count};
 ghost use Rattle.tt_table.specs.declared.groups.GroupBy.TheVariants as by;
-ghost use Rattle.tt_instance_data.specs.declared.limit.TheConstants.{MAX_ROOMS};
+ghost use Rattle.tt_instance.specs.declared.limit.TheConstants.{MAX_ROOMS};
 ghost use Rattle.tt_table.specs.declared.groups.TheConstants.{GROUPS};
 ghost use Rattle.tt_rules.specs.declared.limit.TheConstants.{MAX_COUNT};
 
 use crate::distinct;
-use tt_instance_data::Instance;
+use tt_instance::Instance;
 use tt_table::Groups;
 
 /// Counts the rooms in which the course is taught.
@@ -38,7 +38,7 @@ pub fn other_rooms(instance: &Instance<'_>, by_course: &Groups<'_>, course: u32)
 }
 
 /// Returns the cost of all courses.
-#[tactic(auto, using(tt_lists::proofs::Numbers::sum_more))]
+#[tactic(auto, using(tt_list_laws::proofs::Numbers::sum_more))]
 pub fn cost(instance: &Instance<'_>, by_course: &Groups<'_>) -> u64
     requires by { by_course.now.by ≡ by.Course }
     requires in_range { All (InRange instance.now) by_course.now.entries }

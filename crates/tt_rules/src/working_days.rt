@@ -1,14 +1,14 @@
 //! Minimum working days: 5 for each day that a course is below its minimum.
 
 ghost use Rattle.std.specs.Prelude.{◌≡◌, ◌<◌, ◌≤◌, ◌*◌, length, All};
-ghost use Rattle.tt_instance_data.specs.Cells.{InRange};
+ghost use Rattle.tt_instance.specs.Cells.{InRange};
 ghost use Rattle.tt_rules.specs.Soft.{days_of, days_cost, days_count};
 ghost use Rattle.tt_table.specs.declared.groups.GroupBy.TheVariants as by;
-ghost use Rattle.tt_instance_data.specs.declared.limit.TheConstants.{MAX_DAYS, MAX_MIN_DAYS};
+ghost use Rattle.tt_instance.specs.declared.limit.TheConstants.{MAX_DAYS, MAX_MIN_DAYS};
 ghost use Rattle.tt_rules.specs.declared.limit.TheConstants.{MAX_COUNT};
 
 use crate::distinct;
-use tt_instance_data::{Instance, MAX_COURSES, MISSING_DAY_COST};
+use tt_instance::{Instance, MAX_COURSES, MISSING_DAY_COST};
 use tt_table::Groups;
 
 /// Counts the days on which the course is taught.
@@ -37,7 +37,7 @@ fn cost_of(instance: &Instance<'_>, by_course: &Groups<'_>, course: u32) -> u64
 }
 
 /// Returns the cost of all courses.
-#[tactic(auto, using(tt_lists::proofs::Numbers::sum_more))]
+#[tactic(auto, using(tt_list_laws::proofs::Numbers::sum_more))]
 pub fn cost(instance: &Instance<'_>, by_course: &Groups<'_>) -> u64
     requires by { by_course.now.by ≡ by.Course }
     requires in_range { All (InRange instance.now) by_course.now.entries }

@@ -1,11 +1,11 @@
 -- Another entry of a list moves to its place in another list with the same courses.
 use Rattle.std.proofs.Common.{◌≡◌, ℕ, ◌+◌, ◌<◌, List, ◌∷◌, [], ◌++◌, length, get_or, take, sym, ap, ◌∙◌, arith}
 use Rattle.std.proofs.lemmas.List.{take_more, take_more_set, length-map, get_or-map}
-use Rattle.tt_instance_data.specs.declared.cell.Cell.{Cell}
+use Rattle.tt_instance.specs.declared.cell.Cell.{Cell}
 use Rattle.tt_moves_descend.proofs.Descents.{courses-stepped}
 use Rattle.tt_moves.specs.Steps.{no_entry, entry_at, stepped}
 use Rattle.tt_moves.specs.declared.step.Step.TheVariants.{Move}
-use Rattle.tt_search_walk.specs.Improved.{courses_of}
+use Rattle.tt_walk.specs.Improved.{courses_of}
 
 -- lists with the same courses have the same length
 pub length_same : (t u : List Cell) → courses_of t ≡ courses_of u → length t ≡ length u

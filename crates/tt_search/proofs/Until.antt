@@ -1,7 +1,7 @@
 -- Runs of a search that nothing ends.
 use Rattle.std.proofs.Common.{ℕ, List, inl, inr, subst}
-use Rattle.tt_instance_data.specs.Problem.{Problem}
-use Rattle.tt_instance_data.specs.declared.cell.Cell.{Cell}
+use Rattle.tt_instance.specs.Problem.{Problem}
+use Rattle.tt_instance.specs.declared.cell.Cell.{Cell}
 use Rattle.tt_search.specs.Runs.{Runs, RunsUntil}
 
 -- if nothing can end the search, all runs were made

@@ -1,8 +1,8 @@
 -- Several improvements in turn.
 use Rattle.std.specs.Prelude.{◌≡◌, ℕ, zero, suc, ◌≤◌, ◌⊎◌, List}
-use Rattle.tt_instance_data.specs.Problem.{Problem}
-use Rattle.tt_instance_data.specs.declared.cell.Cell.{Cell}
-use Rattle.tt_search_walk.specs.Improved.{IsDescended}
+use Rattle.tt_instance.specs.Problem.{Problem}
+use Rattle.tt_instance.specs.declared.cell.Cell.{Cell}
+use Rattle.tt_walk.specs.Improved.{IsDescended}
 
 -- This many improvements, each with at most `draws` draws and `steps` steps, lead from the first timetable to the last.
 abbrev pub Runs : Problem → List Cell → ℕ → ℕ → ℕ → List Cell → Type 0

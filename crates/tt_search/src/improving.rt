@@ -1,23 +1,23 @@
 //! The improvement of a timetable.
 
 ghost use Rattle.std.specs.Prelude.{◌≡◌, ◌<◌, ◌≤◌, ◌-◌, ◌/◌, List, length, IfOk, OnOk};
-ghost use Rattle.tt_instance_data.specs.declared.cell.Cell.{Cell};
+ghost use Rattle.tt_instance.specs.declared.cell.Cell.{Cell};
 ghost use Rattle.tt_table.specs.Table.{IsTimetable};
-ghost use Rattle.tt_search_walk.specs.Improved.{IsNoWorse, LeadsWithin, IsDescended};
-ghost use Rattle.tt_search_walk.specs.Inner.Pairs.{IsBest};
+ghost use Rattle.tt_walk.specs.Improved.{IsNoWorse, LeadsWithin, IsDescended};
+ghost use Rattle.tt_walk.specs.Inner.Pairs.{IsBest};
 
 use crate::planning::walk_by_plans;
 use crate::restoring::restore;
 use rand_pcg::Pcg32;
 use std::alloc::{AllocError, Global};
-use tt_instance_data::Instance;
+use tt_instance::Instance;
 use tt_moves_descend::descend_in;
 use tt_occupancy::Occupied;
-use tt_search_replan::{Replanner, can_replan};
-use tt_search_walk::{
+use tt_replan::{Replanner, can_replan};
+use tt_walk::{
     Best, Cooling, Phase, Schedule, Span, Walker, is_settled, phases_for, samples, walk,
 };
-use tt_search_watch::Watch;
+use tt_watch::Watch;
 use tt_table::Timetable;
 
 /// Walks from the best timetable, and then returns to the best one so far. No memory is allocated.

@@ -1,16 +1,16 @@
 //! Walks by plans of a few courses.
 
 ghost use Rattle.std.specs.Prelude.{◌≡◌, ◌<◌, ◌≤◌, ◌+◌, ℕ, List, length};
-ghost use Rattle.tt_instance_data.specs.declared.cell.Cell.{Cell};
-ghost use Rattle.tt_search_walk.specs.Improved.{courses_of, LeadsWithin};
-ghost use Rattle.tt_search_walk.specs.Inner.Pairs.{IsBest};
+ghost use Rattle.tt_instance.specs.declared.cell.Cell.{Cell};
+ghost use Rattle.tt_walk.specs.Improved.{courses_of, LeadsWithin};
+ghost use Rattle.tt_walk.specs.Inner.Pairs.{IsBest};
 
 use rand_pcg::Pcg32;
 use tt_moves::{Step, apply, can_step};
 use tt_occupancy::Occupied;
-use tt_search_replan::Replanner;
-use tt_search_walk::{Best, Schedule, Span, entry_to_move};
-use tt_search_watch::Watch;
+use tt_replan::Replanner;
+use tt_walk::{Best, Schedule, Span, entry_to_move};
+use tt_watch::Watch;
 
 /// The number of plans between two reports to the watch, and between two questions whether the search is to end.
 const PLANS_BETWEEN: u64 = 32;

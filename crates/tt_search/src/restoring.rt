@@ -2,7 +2,7 @@
 
 ghost use Rattle.std.specs.Prelude.{◌≡◌};
 ghost use Rattle.tt_table.specs.Table.{IsTimetable};
-ghost use Rattle.tt_search_walk.specs.Improved.{courses_of};
+ghost use Rattle.tt_walk.specs.Improved.{courses_of};
 
 use tt_occupancy::Occupied;
 use tt_table::Entry;

@@ -2,13 +2,13 @@
 
 ghost use Rattle.std.specs.Prelude.{◌-◌, ◌/◌, IfOk};
 ghost use Rattle.tt_table.specs.Table.{IsTimetable};
-ghost use Rattle.tt_search_walk.specs.Improved.{IsNoWorse};
+ghost use Rattle.tt_walk.specs.Improved.{IsNoWorse};
 ghost use Rattle.tt_search.specs.Runs.{RunsUntil};
 
 use crate::improving::improve;
 use std::alloc::{AllocError, Global};
-use tt_instance_data::Instance;
-use tt_search_watch::Watch;
+use tt_instance::Instance;
+use tt_watch::Watch;
 use tt_table::Timetable;
 
 /// The seed of a search and its number of steps.

@@ -4,13 +4,13 @@ use Rattle.std.specs.Prelude.{◌==◌, slice_index_or}
 use Rattle.std.proofs.lemmas.Bool.{cases_eq}
 use Rattle.std.proofs.lemmas.List.{append-nil}
 use Rattle.std.proofs.lemmas.List.Sums.{sum_by_more, sum_by_more_le}
-use Rattle.tt_instance_data.specs.Problem.{Problem, Course}
-use Rattle.tt_instance_data.specs.Courses.{no_course, lectures}
-use Rattle.tt_instance_data.specs.Limits.{IsInstance}
-use Rattle.tt_instance_data.specs.declared.cell.Cell.{Cell}
+use Rattle.tt_instance.specs.Problem.{Problem, Course}
+use Rattle.tt_instance.specs.Courses.{no_course, lectures}
+use Rattle.tt_instance.specs.Limits.{IsInstance}
+use Rattle.tt_instance.specs.declared.cell.Cell.{Cell}
 use Rattle.tt_table.specs.Table.{IsTimetable}
 use Rattle.tt_rules.specs.Hard.{entries_of}
-use Rattle.tt_search_construct.specs.Inner.Filled.{HasMore}
+use Rattle.tt_construct.specs.Inner.Filled.{HasMore}
 use Rattle.tt_search_complete.specs.Completed.{IsCompleted}
 use Rattle.tt_search_complete.specs.Inner.Progress.{AreMissing, Begins, IsCompletedTo}
 

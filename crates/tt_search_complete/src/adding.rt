@@ -2,12 +2,12 @@
 
 ghost use Rattle.std.specs.Prelude.{◌+◌, ◌<◌, ◌≤◌, length, OnOk};
 ghost use Rattle.tt_table.specs.declared.table.TheConstants.{MAX_ENTRIES};
-ghost use Rattle.tt_search_construct.specs.Inner.Filled.{HasMore};
+ghost use Rattle.tt_construct.specs.Inner.Filled.{HasMore};
 ghost use Rattle.tt_search_complete.specs.Inner.Progress.{Begins};
 
 use crate::taken_places::TakenPlaces;
 use std::alloc::AllocError;
-use tt_instance_data::Instance;
+use tt_instance::Instance;
 use tt_table::Timetable;
 
 /// Adds lectures of a course at the places that suit it best, in turn.

@@ -13,7 +13,7 @@ use crate::fault::CompleteFault;
 use crate::missing::{count_missing, missing_at};
 use crate::taken_places::TakenPlaces;
 use std::alloc::{AllocError, Global};
-use tt_instance_data::{Instance, MAX_LECTURES};
+use tt_instance::{Instance, MAX_LECTURES};
 use tt_table::{MAX_ENTRIES, Timetable};
 
 /// The maximum number of entries of a timetable that is completed: all lectures of an instance may be missing.

@@ -1,7 +1,7 @@
 //! The lectures that a timetable lacks.
 
 ghost use Rattle.std.specs.Prelude.{◌≡◌, ◌+◌, ◌-◌, ◌<◌, ◌≤◌, length, slice_index_or, IfOk, OnOk};
-ghost use Rattle.tt_instance_data.specs.Courses.{lectures};
+ghost use Rattle.tt_instance.specs.Courses.{lectures};
 ghost use Rattle.tt_rules.specs.Hard.{entries_of};
 ghost use Rattle.tt_table.specs.Table.{IsTimetable};
 ghost use Rattle.tt_table.specs.declared.groups.GroupBy.TheVariants as by;
@@ -9,7 +9,7 @@ ghost use Rattle.tt_table.specs.declared.table.TheConstants.{MAX_ENTRIES};
 ghost use Rattle.tt_search_complete.specs.Inner.Progress.{AreMissing};
 
 use std::alloc::{AllocError, Global};
-use tt_instance_data::{Instance, MAX_COURSES};
+use tt_instance::{Instance, MAX_COURSES};
 use tt_rules::entries_of;
 use tt_table::{Groups, Timetable};
 

@@ -1,10 +1,10 @@
 //! The places that suit a course. Nothing is proved about the choice.
 
 ghost use Rattle.std.specs.Prelude.{◌≡◌, ◌<◌, length};
-ghost use Rattle.tt_instance_data.specs.Cells.{InRange};
+ghost use Rattle.tt_instance.specs.Cells.{InRange};
 
 use std::alloc::{AllocError, Global};
-use tt_instance_data::Instance;
+use tt_instance::Instance;
 use tt_table::Entry;
 
 /// The number of conflicts for which a period counts if the course is unavailable in it.

@@ -7,13 +7,13 @@ use Rattle.tt_text.specs.Numbers.{number_of}
 use Rattle.tt_text.specs.Reading.{◌>>=◌}
 use Rattle.tt_text.specs.declared.numbers.NumberFault.{NumberFault}
 use Rattle.tt_text.specs.declared.numbers.NumberFault.TheVariants as number
-use Rattle.tt_instance_data.specs.Problem.{Problem}
-use Rattle.tt_instance_data.specs.Courses.{course_ids, room_ids}
-use Rattle.tt_instance_data.specs.Limits.{IsWithinLimits}
-use Rattle.tt_instance_data.specs.Beginnings.{BeginsAs}
-use Rattle.tt_instance_data.specs.declared.cell.Cell.{Cell}
-use Rattle.tt_instance_data.proofs.Beginnings.{begins_shared, fault_at_token, fault_of_all}
-use Rattle.tt_instance_data.proofs.Shared.{NoneAt, Shared, Apart, Next, Stays, Joins, ReadsAlike, EndsAlike, SameVerdict, other_offset, stays_joins, ok_reads, on_condition, then_reads, then_verdict, then_token}
+use Rattle.tt_instance.specs.Problem.{Problem}
+use Rattle.tt_instance.specs.Courses.{course_ids, room_ids}
+use Rattle.tt_instance.specs.Limits.{IsWithinLimits}
+use Rattle.tt_instance.specs.Beginnings.{BeginsAs}
+use Rattle.tt_instance.specs.declared.cell.Cell.{Cell}
+use Rattle.tt_instance.proofs.Beginnings.{begins_shared, fault_at_token, fault_of_all}
+use Rattle.tt_instance.proofs.Shared.{NoneAt, Shared, Apart, Next, Stays, Joins, ReadsAlike, EndsAlike, SameVerdict, other_offset, stays_joins, ok_reads, on_condition, then_reads, then_verdict, then_token}
 use Rattle.tt_table.specs.declared.fault.SolutionFault.{SolutionFault}
 use Rattle.tt_table.specs.declared.fault.SolutionFault.TheVariants as fault
 use Rattle.tt_table.specs.declared.table.TheConstants.{MAX_ENTRIES}

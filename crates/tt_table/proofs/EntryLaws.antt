@@ -11,12 +11,12 @@ use Rattle.tt_text.specs.declared.numbers.NumberFault.{NumberFault}
 use Rattle.tt_text.specs.declared.numbers.NumberFault.TheVariants as number
 use Rattle.tt_text.proofs.Steps.{done, ok_is, bind_ok, Takes, takes_then}
 use Rattle.tt_text.proofs.Fields.{ReadsOn, takes_piece, has_piece, number_spelled, number_read}
-use Rattle.tt_instance_data.specs.Problem.{Problem}
-use Rattle.tt_instance_data.specs.Cells.{InRange}
-use Rattle.tt_instance_data.specs.Courses.{no_course, no_room, course_ids, room_ids}
-use Rattle.tt_instance_data.specs.Limits.{IsWithinLimits}
-use Rattle.tt_instance_data.specs.declared.cell.Cell.{Cell}
-use Rattle.tt_instance_data.proofs.FreshLaws.{found_is, index_is}
+use Rattle.tt_instance.specs.Problem.{Problem}
+use Rattle.tt_instance.specs.Cells.{InRange}
+use Rattle.tt_instance.specs.Courses.{no_course, no_room, course_ids, room_ids}
+use Rattle.tt_instance.specs.Limits.{IsWithinLimits}
+use Rattle.tt_instance.specs.declared.cell.Cell.{Cell}
+use Rattle.tt_instance.proofs.FreshLaws.{found_is, index_is}
 use Rattle.tt_table.specs.declared.fault.SolutionFault.{SolutionFault}
 use Rattle.tt_table.specs.declared.fault.SolutionFault.TheVariants as fault
 use Rattle.tt_table.proofs.Loops.{entries_none, entries_step}

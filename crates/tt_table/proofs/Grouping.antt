@@ -6,7 +6,7 @@ use Rattle.std.proofs.lemmas.Bool.{cases_eq, eq-eqb, ne_eqb, eqb-true}
 use Rattle.std.proofs.lemmas.List.{drop-drop, at_drop_more, get_or-set_other, get_or-replicate}
 use Rattle.std.proofs.lemmas.Grind.{get_or-set_at}
 use Rattle.std.proofs.lemmas.List.Sums.{prefix_len-drop_yes, prefix_len-drop_no, prefix_len-drop_all, length-filter, count_by-le-length}
-use Rattle.tt_instance_data.specs.declared.cell.Cell.{Cell}
+use Rattle.tt_instance.specs.declared.cell.Cell.{Cell}
 use Rattle.tt_table.specs.Groups.{group_of, in_group, led_group, first_at, nobody, NamesNext, NamesFirst, IsChained}
 use Rattle.tt_table.specs.declared.groups.GroupBy.{GroupBy}
 

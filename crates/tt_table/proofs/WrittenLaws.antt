@@ -10,11 +10,11 @@ use Rattle.tt_text.specs.Tokens.{IsToken, tokens_of}
 use Rattle.tt_text.specs.Pieces.{Piece, Begins}
 use Rattle.tt_text.specs.Lines.{line_text, all_pieces, LinesWritable}
 use Rattle.tt_text.proofs.Lines.{lines_begin}
-use Rattle.tt_instance_data.specs.Problem.{Course, Room, Problem}
-use Rattle.tt_instance_data.specs.Cells.{InRange}
-use Rattle.tt_instance_data.specs.Courses.{no_course, no_room, course_ids, room_ids}
-use Rattle.tt_instance_data.specs.Limits.{IsInstance}
-use Rattle.tt_instance_data.specs.declared.cell.Cell.{Cell}
+use Rattle.tt_instance.specs.Problem.{Course, Room, Problem}
+use Rattle.tt_instance.specs.Cells.{InRange}
+use Rattle.tt_instance.specs.Courses.{no_course, no_room, course_ids, room_ids}
+use Rattle.tt_instance.specs.Limits.{IsInstance}
+use Rattle.tt_instance.specs.declared.cell.Cell.{Cell}
 use Rattle.tt_table.specs.Table.{IsTimetable}
 use Rattle.tt_table.specs.Spelling.{entry_pieces, SpellsTable, solution_text}
 

@@ -1,4 +1,4 @@
--- The token of the first fault of a solution (`BeginsAs` of `tt_instance_data` defines which other solutions begin the same way).
+-- The token of the first fault of a solution (`BeginsAs` of `tt_instance` defines which other solutions begin the same way).
 use Rattle.std.specs.Prelude.{ℕ, Option, Some, None}
 use Rattle.tt_table.specs.declared.fault.SolutionFault.{SolutionFault}
 use Rattle.tt_table.specs.declared.fault.SolutionFault.TheVariants as fault

@@ -1,7 +1,7 @@
 -- The entries of a timetable in groups.
 use Rattle.std.specs.Prelude.{◌≡◌, ℕ, ◌+◌, ◌*◌, ◌<◌, ◌≤◌, ◌==◌, Bool, not, List, [], ◌∷◌, length, drop, filter, slice_index_or}
 use Rattle.std.specs.List.{prefix_len}
-use Rattle.tt_instance_data.specs.declared.cell.Cell.{Cell}
+use Rattle.tt_instance.specs.declared.cell.Cell.{Cell}
 use Rattle.tt_table.specs.declared.groups.TheConstants.{GROUPS}
 use Rattle.tt_table.specs.declared.groups.GroupBy.{GroupBy}
 use Rattle.tt_table.specs.declared.groups.GroupBy.TheVariants.{Course, Room, Period}

@@ -1,7 +1,7 @@
 -- The kinds of weeks: those of all rooms, of all teachers and of all curricula.
 use Rattle.std.specs.Prelude.{ℕ, List, [], length, codes, slice_index_or}
-use Rattle.tt_instance_data.specs.Problem.{Problem}
-use Rattle.tt_instance_data.specs.Courses.{no_room, no_curriculum, teachers}
+use Rattle.tt_instance.specs.Problem.{Problem}
+use Rattle.tt_instance.specs.Courses.{no_room, no_curriculum, teachers}
 use Rattle.tt_table.specs.declared.kind.Kind.{Kind}
 use Rattle.tt_table.specs.declared.kind.Kind.TheVariants.{Room, Teacher, Curriculum}
 

@@ -6,9 +6,9 @@ use Rattle.tt_text.specs.Numbers.{number_of}
 use Rattle.tt_text.specs.Reading.{◌>>=◌, FailsUnless, AgreesUnless, token_or}
 use Rattle.tt_text.specs.declared.numbers.NumberFault.{NumberFault}
 use Rattle.tt_text.specs.declared.numbers.NumberFault.TheVariants as number
-use Rattle.tt_instance_data.specs.Problem.{Problem}
-use Rattle.tt_instance_data.specs.Courses.{course_ids, room_ids}
-use Rattle.tt_instance_data.specs.declared.cell.Cell.{Cell}
+use Rattle.tt_instance.specs.Problem.{Problem}
+use Rattle.tt_instance.specs.Courses.{course_ids, room_ids}
+use Rattle.tt_instance.specs.declared.cell.Cell.{Cell}
 use Rattle.tt_table.specs.declared.fault.SolutionFault.{SolutionFault}
 use Rattle.tt_table.specs.declared.fault.SolutionFault.TheVariants as fault
 use Rattle.tt_table.specs.declared.table.TheConstants.{MAX_ENTRIES}

@@ -3,10 +3,10 @@ use Rattle.std.specs.Prelude.{◌≤◌, ℕ, List, [], ◌∷◌, length, map, 
 use Rattle.tt_text.specs.Tokens.{tokens_of}
 use Rattle.tt_text.specs.Pieces.{Piece, Text, Number, Begins}
 use Rattle.tt_text.specs.Lines.{lines_text}
-use Rattle.tt_instance_data.specs.Problem.{Problem}
-use Rattle.tt_instance_data.specs.Courses.{no_room}
-use Rattle.tt_instance_data.specs.Spelling.{Spells, named}
-use Rattle.tt_instance_data.specs.declared.cell.Cell.{Cell}
+use Rattle.tt_instance.specs.Problem.{Problem}
+use Rattle.tt_instance.specs.Courses.{no_room}
+use Rattle.tt_instance.specs.Spelling.{Spells, named}
+use Rattle.tt_instance.specs.declared.cell.Cell.{Cell}
 use Rattle.tt_table.specs.Table.{IsTimetable}
 use Rattle.tt_table.specs.declared.table.TheConstants.{MAX_ENTRIES}
 

@@ -2,10 +2,10 @@
 
 ghost use Rattle.std.specs.Prelude.{◌≡◌, ℕ, List, Any, Some, Err};
 ghost use Rattle.tt_text.specs.Tokens.{tokens_of};
-ghost use Rattle.tt_instance_data.specs.Beginnings.{BeginsAs};
-ghost use Rattle.tt_instance_data.specs.Limits.{IsInstance};
-ghost use Rattle.tt_instance_data.specs.Problem.{Problem};
-ghost use Rattle.tt_instance_data.specs.declared.cell.Cell.{Cell};
+ghost use Rattle.tt_instance.specs.Beginnings.{BeginsAs};
+ghost use Rattle.tt_instance.specs.Limits.{IsInstance};
+ghost use Rattle.tt_instance.specs.Problem.{Problem};
+ghost use Rattle.tt_instance.specs.declared.cell.Cell.{Cell};
 ghost use Rattle.tt_table.specs.Beginnings.{token_offset};
 ghost use Rattle.tt_table.specs.Reading.{solution_of};
 ghost use Rattle.tt_table.specs.Spelling.{SpellsTable};

@@ -1,13 +1,13 @@
 //! The entries of a timetable by course, by room or by period, each group in the timetable's order.
 
 ghost use Rattle.std.specs.Prelude.{◌≡◌, ◌+◌, ◌<◌, ◌≤◌, length, filter, drop, All, Some, slice_get, IfSome};
-ghost use Rattle.tt_instance_data.specs.Cells.{InRange, is_of, is_in, is_at, slot};
+ghost use Rattle.tt_instance.specs.Cells.{InRange, is_of, is_in, is_at, slot};
 ghost use Rattle.tt_table.specs.declared.groups.GroupBy.TheVariants as by;
 ghost use Rattle.tt_table.specs.Groups.{group_of, in_group, first_at, IsLinked, Grouped};
 
 use crate::table::MAX_ENTRIES;
 use std::marker::Model;
-use tt_instance_data::{Cell as Entry, Instance, MAX_COURSES, MAX_ROOMS};
+use tt_instance::{Cell as Entry, Instance, MAX_COURSES, MAX_ROOMS};
 
 /// At least the number of courses, of rooms, and of periods of the week.
 pub const GROUPS: usize = 2048;
@@ -199,7 +199,7 @@ pub struct Group<'g> {
 
 impl<'g> Model for Group<'g> {
     ghost use Rattle.std.specs.Prelude.{List, drop};
-    ghost use Rattle.tt_instance_data.specs.declared.cell.Cell.{Cell};
+    ghost use Rattle.tt_instance.specs.declared.cell.Cell.{Cell};
     ghost use Rattle.tt_table.specs.Groups.{led_group, IsChained};
 
     ghost Value = { List Cell };

@@ -1,10 +1,10 @@
 //! The kinds of weeks: those of rooms, of teachers and of curricula.
 
 ghost use Rattle.std.specs.Prelude.{◌≡◌, ◌<◌, [], length, slice_index_or};
-ghost use Rattle.tt_instance_data.specs.Courses.{no_room, no_curriculum, teachers};
+ghost use Rattle.tt_instance.specs.Courses.{no_room, no_curriculum, teachers};
 ghost use Rattle.tt_table.specs.Kinds.{count_of, name_of, word_of};
 
-use tt_instance_data::Instance;
+use tt_instance::Instance;
 
 /// The word for a room.
 const ROOM_WORD: &str = "room";

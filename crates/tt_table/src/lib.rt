@@ -15,5 +15,5 @@ pub use groups::{Group, GroupBy, Groups};
 pub use kind::Kind;
 pub use reading::read_solution;
 pub use table::{MAX_ENTRIES, Timetable};
-pub use tt_instance_data::Cell as Entry;
+pub use tt_instance::Cell as Entry;
 pub use writing::write_solution;

@@ -2,7 +2,7 @@
 
 ghost use Rattle.std.specs.Prelude.{◌≡◌, ◌<◌, ◌-◌, List, Ok, IfOk, length};
 ghost use Rattle.tt_text.specs.Tokens.{place};
-ghost use Rattle.tt_instance_data.specs.declared.cell.Cell.{Cell};
+ghost use Rattle.tt_instance.specs.declared.cell.Cell.{Cell};
 ghost use Rattle.tt_table.specs.Reading.{Gives, token_at, index_at, entry_at, solution_of};
 ghost use Rattle.tt_table.specs.Spelling.{SpellsTable};
 ghost use Rattle.tt_table.specs.Table.{IsTimetable};
@@ -10,7 +10,7 @@ ghost use Rattle.tt_table.specs.Table.{IsTimetable};
 use crate::fault::SolutionFault;
 use crate::table::{MAX_ENTRIES, Timetable};
 use std::alloc::Global;
-use tt_instance_data::{Cell as Entry, Instance};
+use tt_instance::{Cell as Entry, Instance};
 use tt_text::{NumberFault, Token, Tokens, number};
 
 /// Reads the next token of a text of `end` bytes.

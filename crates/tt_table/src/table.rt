@@ -1,13 +1,13 @@
 //! Lists of entries.
 
 ghost use Rattle.std.specs.Prelude.{◌≡◌, ◌<◌, ◌≤◌, ◌↔◌, [], ◌∷◌, ◌++◌, length, slice_get, slice_set, Some, IsTrue, All, IfOk, OnOk, OnErr, IsErrOf, IsOkUnless};
-ghost use Rattle.tt_instance_data.specs.Cells.{InRange};
+ghost use Rattle.tt_instance.specs.Cells.{InRange};
 ghost use Rattle.tt_table.specs.Table.{IsTimetable};
 
 use crate::fault::PushFault;
 use std::alloc::{AllocError, Global};
 use std::marker::Model;
-use tt_instance_data::{Cell as Entry, Instance};
+use tt_instance::{Cell as Entry, Instance};
 
 /// The maximum number of entries of a timetable.
 pub const MAX_ENTRIES: usize = 16_384;
@@ -20,7 +20,7 @@ pub struct Timetable {
 
 impl Model for Timetable {
     ghost use Rattle.std.specs.Prelude.{List, length, ◌≤◌};
-    ghost use Rattle.tt_instance_data.specs.declared.cell.Cell.{Cell};
+    ghost use Rattle.tt_instance.specs.declared.cell.Cell.{Cell};
     ghost use Rattle.tt_table.specs.declared.table.TheConstants.{MAX_ENTRIES};
 
     ghost Value = { List Cell };

@@ -2,13 +2,13 @@
 
 ghost use Rattle.std.specs.Prelude.{◌≡◌, ◌<◌, ◌++◌, IfOk, OnOk, length};
 ghost use Rattle.tt_text.specs.Lines.{line_text};
-ghost use Rattle.tt_instance_data.specs.Cells.{InRange};
+ghost use Rattle.tt_instance.specs.Cells.{InRange};
 ghost use Rattle.tt_table.specs.Spelling.{SpellsTable, entry_pieces, solution_text};
 ghost use Rattle.tt_table.specs.Table.{IsTimetable};
 
 use crate::table::Timetable;
 use std::alloc::{AllocError, Global};
-use tt_instance_data::{Cell as Entry, Instance};
+use tt_instance::{Cell as Entry, Instance};
 use tt_text::{put_line_end, put_next_number, put_next_token, put_token};
 
 /// Appends one line: course, room, day and period.

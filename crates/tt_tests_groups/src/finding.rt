@@ -3,10 +3,10 @@
 use std::alloc::Global;
 use std::test::Fail;
 use tt_groups_read::GroupReader;
-use tt_instance::read_instance;
-use tt_instance_data::Instance;
+use tt_instance_read::read_instance;
+use tt_instance::Instance;
 use tt_parts_groups::{GroupSearch, find_groups, write_groups};
-use tt_search_watch::Unwatched;
+use tt_watch::Unwatched;
 use tt_table::Entry;
 use tt_text::Pieces;
 

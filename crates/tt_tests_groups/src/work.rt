@@ -3,8 +3,8 @@
 use std::alloc::Global;
 use std::test::Fail;
 use tt_groups_check::GroupFault;
-use tt_instance::read_instance;
-use tt_leaf_data::Bound;
+use tt_instance_read::read_instance;
+use tt_leaf::Bound;
 use tt_proof_sum::{GroupsFault, SumFault, sum_proofs};
 use tt_text::Pieces;
 use tt_text_peek::Peeked;

@@ -2,9 +2,9 @@
 
 use std::alloc::Global;
 use std::test::Fail;
-use tt_tests_files::{MemoryFiles, Refusal};
-use tt_tests_runs::{Outcome, run_on};
-use tt_tests_samples::{GAP, MINI, edited};
+use tt_testing_files::{MemoryFiles, Refusal};
+use tt_testing_runs::{Outcome, run_on};
+use tt_testing_samples::{GAP, MINI, edited};
 
 /// Returns the outcome of `improve` for a solution, and the file that it writes.
 fn completed(

@@ -2,12 +2,12 @@
 
 use std::alloc::Global;
 use std::test::Fail;
-use tt_instance::read_instance;
+use tt_instance_read::read_instance;
 use tt_rules::score;
 use tt_table::read_solution;
-use tt_tests_files::{MemoryFiles, Refusal};
-use tt_tests_runs::{Outcome, run_on};
-use tt_tests_samples::{FLAT, FLAT_SOLUTION, MINI, MINI_SOLUTION, edited};
+use tt_testing_files::{MemoryFiles, Refusal};
+use tt_testing_runs::{Outcome, run_on};
+use tt_testing_samples::{FLAT, FLAT_SOLUTION, MINI, MINI_SOLUTION, edited};
 
 /// Returns the outcome of `improve` for an instance and a solution on a memory.
 fn improved(alloc: Global, memory: &MemoryFiles, seed: &str, steps: &str) -> Result<Outcome, Fail> {

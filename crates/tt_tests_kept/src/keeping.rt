@@ -2,9 +2,9 @@
 
 use std::alloc::Global;
 use std::test::Fail;
-use tt_tests_files::{MemoryFiles, Refusal};
-use tt_tests_runs::run_on;
-use tt_tests_samples::{GAP, MINI, MINI_SOLUTION};
+use tt_testing_files::{MemoryFiles, Refusal};
+use tt_testing_runs::run_on;
+use tt_testing_samples::{GAP, MINI, MINI_SOLUTION};
 
 /// A clock by which each look takes two seconds, so that a second is over at the first look.
 const LONG: u64 = 2_000;

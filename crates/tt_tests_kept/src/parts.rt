@@ -2,9 +2,9 @@
 
 use std::alloc::Global;
 use std::test::Fail;
-use tt_tests_files::{MemoryFiles, Refusal};
-use tt_tests_runs::{Outcome, run_on};
-use tt_tests_samples::{FLAT, GAP};
+use tt_testing_files::{MemoryFiles, Refusal};
+use tt_testing_runs::{Outcome, run_on};
+use tt_testing_samples::{FLAT, GAP};
 
 fn parted(alloc: Global, memory: &MemoryFiles) -> Result<Outcome, Fail> {
     let words = ["parts", "a.ctt", "found", "--nodes", "100"];

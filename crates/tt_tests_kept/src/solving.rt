@@ -2,9 +2,9 @@
 
 use std::alloc::Global;
 use std::test::Fail;
-use tt_tests_files::{MemoryFiles, Refusal};
-use tt_tests_runs::{Outcome, run_on};
-use tt_tests_samples::{APART, GAP, MINI, SAME, TRIO, WIDE, edited};
+use tt_testing_files::{MemoryFiles, Refusal};
+use tt_testing_runs::{Outcome, run_on};
+use tt_testing_samples::{APART, GAP, MINI, SAME, TRIO, WIDE, edited};
 
 fn filled(alloc: Global, instance: &str, refusal: Refusal) -> Result<MemoryFiles, Fail> {
     let memory = MemoryFiles::new(alloc, refusal);

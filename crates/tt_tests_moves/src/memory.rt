@@ -4,13 +4,13 @@
 use crate::timetables::occupied;
 use std::alloc::Global;
 use std::test::Fail;
-use tt_instance::read_instance;
+use tt_instance_read::read_instance;
 use tt_moves_chain::{Chain, ChainFault, chain};
 use tt_occupancy::{Occupied, Refused};
 use tt_rules::score;
 use tt_search::{Unwatched, construct, descend, improve};
 use tt_table::{Entry, read_solution};
-use tt_tests_samples::{MARK, MINI, MINI_SOLUTION};
+use tt_testing_samples::{MARK, MINI, MINI_SOLUTION};
 
 /// The entries of Mini's solution.
 const ENTRIES: [Entry; 2] = [

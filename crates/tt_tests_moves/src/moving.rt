@@ -3,11 +3,11 @@
 use crate::timetables::{occupied, text_of};
 use std::alloc::Global;
 use std::test::Fail;
-use tt_instance::read_instance;
+use tt_instance_read::read_instance;
 use tt_moves::{Change, Step, apply, can_step, change, change_within, hard_change, lowers, undo};
 use tt_moves_chain::{ChainFault, chain, swap_chain};
 use tt_occupancy::Occupied;
-use tt_tests_samples::{MINI, MINI_SOLUTION, TOUR, edited};
+use tt_testing_samples::{MINI, MINI_SOLUTION, TOUR, edited};
 
 /// Two courses that do not conflict, two rooms and two periods.
 const PAIR: &str =

@@ -5,10 +5,10 @@ ghost use Rattle.std.specs.Prelude.{◌<◌, ◌↔◌, IsTrue};
 use crate::timetables::{occupied, text_of};
 use std::alloc::Global;
 use std::test::Fail;
-use tt_instance::read_instance;
-use tt_instance_data::Instance;
+use tt_instance_read::read_instance;
+use tt_instance::Instance;
 use tt_occupancy::Occupied;
-use tt_tests_samples::{MINI, MINI_SOLUTION};
+use tt_testing_samples::{MINI, MINI_SOLUTION};
 
 /// Returns the hard count and the cost.
 fn pair(occupied: &Occupied<'_, '_>) -> (u64, u64) {

@@ -2,11 +2,11 @@
 
 use std::alloc::Global;
 use std::test::Fail;
-use tt_instance::read_instance;
+use tt_instance_read::read_instance;
 use tt_rules::score;
 use tt_search::{Unwatched, construct, descend, improve};
 use tt_table::{Timetable, read_solution, write_solution};
-use tt_tests_samples::{FLAT, FLAT_SOLUTION, MINI, MINI_SOLUTION, WIDE, edited};
+use tt_testing_samples::{FLAT, FLAT_SOLUTION, MINI, MINI_SOLUTION, WIDE, edited};
 
 /// Returns the number of entries of a course.
 fn lectures_of(table: &Timetable, course: u32) -> usize {

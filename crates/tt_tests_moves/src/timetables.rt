@@ -2,7 +2,7 @@
 
 use std::alloc::Global;
 use std::test::Fail;
-use tt_instance_data::Instance;
+use tt_instance::Instance;
 use tt_occupancy::Occupied;
 use tt_table::{read_solution, write_solution};
 

@@ -2,13 +2,13 @@
 
 use std::alloc::Global;
 use std::test::Fail;
-use tt_instance::read_instance;
-use tt_leaf_data::Bound;
+use tt_instance_read::read_instance;
+use tt_leaf::Bound;
 use tt_parts::{Effort, add_up, copy_texts, find_parts};
 use tt_proof_sum::sum_proofs;
-use tt_search_watch::{Progress, Unwatched, Watch};
+use tt_watch::{Progress, Unwatched, Watch};
 use tt_table::Entry;
-use tt_tests_samples::{GAP, MINI, WIDE};
+use tt_testing_samples::{GAP, MINI, WIDE};
 use tt_text::Pieces;
 use tt_text_peek::Peeked;
 

@@ -2,12 +2,12 @@
 //! without a refusal, or that memory ran out.
 
 use std::test::Fail;
-use tt_instance::read_instance;
-use tt_leaf_data::Bound;
+use tt_instance_read::read_instance;
+use tt_leaf::Bound;
 use tt_parts::{Effort, find_parts};
 use tt_proof_sum::sum_proofs;
-use tt_search_watch::Unwatched;
-use tt_tests_samples::{GAP, GAP_PROOF, MARK};
+use tt_watch::Unwatched;
+use tt_testing_samples::{GAP, GAP_PROOF, MARK};
 use tt_text::Pieces;
 use tt_text_peek::Peeked;
 

@@ -4,7 +4,7 @@ use crate::counting::Counting;
 use std::alloc::{AllocError, Global};
 use std::test::Fail;
 use tt_app::{AppFault, BestAnswer, BestSearch, best};
-use tt_tests_samples::{GAP, GAP_PROOF, MINI_SOLUTION};
+use tt_testing_samples::{GAP, GAP_PROOF, MINI_SOLUTION};
 
 /// A number of questions that no search in this file reaches.
 const PATIENT: u64 = u64::MAX;

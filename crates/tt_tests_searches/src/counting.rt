@@ -2,7 +2,7 @@
 
 use std::alloc::Global;
 use tt_app::{BestAnswer, WatchBest};
-use tt_search_watch::{Progress, Watch};
+use tt_watch::{Progress, Watch};
 use tt_table::Entry;
 
 /// Ends its search after some questions, and counts what it is shown.

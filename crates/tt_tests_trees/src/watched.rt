@@ -3,12 +3,12 @@
 use std::alloc::Global;
 use std::test::Fail;
 use tt_branch::solve;
-use tt_instance::read_instance;
-use tt_leaf_data::Bound;
+use tt_instance_read::read_instance;
+use tt_leaf::Bound;
 use tt_proof_check::check_proof;
-use tt_search_watch::{Progress, Watch};
+use tt_watch::{Progress, Watch};
 use tt_table::Entry;
-use tt_tests_samples::GAP;
+use tt_testing_samples::GAP;
 use tt_text::Pieces;
 
 /// A proof on the way, with the bound that its watch was shown.

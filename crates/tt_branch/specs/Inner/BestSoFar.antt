@@ -1,7 +1,7 @@
 -- The best timetable of a search, and what a better one preserves.
 use Rattle.std.specs.Prelude.{◌≡◌, List, Option, IfSome, option_map}
-use Rattle.tt_instance_data.specs.Problem.{Problem}
-use Rattle.tt_instance_data.specs.declared.cell.Cell.{Cell}
+use Rattle.tt_instance.specs.Problem.{Problem}
+use Rattle.tt_instance.specs.declared.cell.Cell.{Cell}
 use Rattle.tt_rules.specs.Score.{IsFeasible, cost}
 use Rattle.tt_branch.specs.declared.best.Best.{Best}
 use Rattle.tt_branch.specs.declared.tree_node.TreeNode.{TreeNode}

@@ -1,14 +1,14 @@
 -- A tree that grows: its nodes in preorder, each with a mark and its place among the links.
 use Rattle.std.specs.Prelude.{◌≡◌, ℕ, ◌≤◌, Bool, true, false, List, [], length, map, Option, Some, count_by, slice_get, ⊤}
 use Rattle.std.specs.List.{AllZip, filter_map}
-use Rattle.tt_instance_data.specs.Problem.{Problem}
-use Rattle.tt_instance_data.specs.declared.cell.Cell.{Cell}
-use Rattle.tt_facts_path.specs.declared.facts.Fact.{Fact}
+use Rattle.tt_instance.specs.Problem.{Problem}
+use Rattle.tt_instance.specs.declared.cell.Cell.{Cell}
+use Rattle.tt_path.specs.declared.facts.Fact.{Fact}
 use Rattle.tt_proof_read.specs.Trees.{Tree, OnPath, on_paths}
 use Rattle.tt_proof_read.specs.declared.node.Node.{Node}
 use Rattle.tt_proof_read.specs.declared.node.Node.TheVariants as node
-use Rattle.tt_leaf.specs.Best.{best_leaf}
-use Rattle.tt_leaf.specs.Found.{Closes, ArePatterns}
+use Rattle.tt_leaf_find.specs.Best.{best_leaf}
+use Rattle.tt_leaf_find.specs.Found.{Closes, ArePatterns}
 use Rattle.tt_branch.specs.declared.tree_node.NodeState.{NodeState}
 use Rattle.tt_branch.specs.declared.tree_node.NodeState.TheVariants.{Split, Closed, Opened, Unopened}
 use Rattle.tt_branch.specs.declared.tree_node.TreeNode.{TreeNode}

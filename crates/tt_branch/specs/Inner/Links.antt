@@ -1,7 +1,7 @@
 -- Paths by links to the parent: each fact comes after the facts of its parent.
 use Rattle.std.specs.Prelude.{◌≡◌, ℕ, zero, suc, ◌≤◌, Bool, true, false, List, [], ◌∷◌, ◌++◌, Some, None, slice_get}
-use Rattle.tt_facts_path.specs.declared.facts.Fact.{Fact}
-use Rattle.tt_facts_path.specs.declared.facts.Pattern.{Pattern}
+use Rattle.tt_path.specs.declared.facts.Fact.{Fact}
+use Rattle.tt_path.specs.declared.facts.Pattern.{Pattern}
 use Rattle.tt_branch.specs.declared.links.Link.{Link}
 
 -- The facts of the node at a place. The place is 0 for the root, and the number of its link plus 1 for another node. The first number limits how

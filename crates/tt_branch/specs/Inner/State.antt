@@ -1,8 +1,8 @@
 -- The state of a search.
 use Rattle.std.specs.Prelude.{◌≡◌, ℕ, ◌+◌, ◌*◌, ◌≤◌, Bool, true, false, List, ◌∷◌, ◌++◌, length}
 use Rattle.std.specs.List.{list_any}
-use Rattle.tt_instance_data.specs.Problem.{Problem}
-use Rattle.tt_facts_path.specs.declared.facts.Pattern.{Pattern}
+use Rattle.tt_instance.specs.Problem.{Problem}
+use Rattle.tt_path.specs.declared.facts.Pattern.{Pattern}
 use Rattle.tt_branch.specs.declared.tree_node.NodeState.TheVariants.{Opened, Unopened}
 use Rattle.tt_branch.specs.declared.tree_node.TreeNode.{TreeNode}
 use Rattle.tt_branch.specs.declared.search.Search.{Search}

@@ -1,11 +1,11 @@
 -- The steps of a search, in the order in which the code makes them.
 use Rattle.std.specs.Prelude.{◌≡◌, ℕ, ◌+◌, List, length, map, flat_map, Option, Some, None}
-use Rattle.tt_lists.specs.Words.{range_below}
-use Rattle.tt_instance_data.specs.Problem.{Problem}
-use Rattle.tt_instance_data.specs.Cells.{slot, cell, all_days, all_rooms}
-use Rattle.tt_instance_data.specs.declared.cell.Cell.{Cell}
-use Rattle.tt_facts_path.specs.Live.{least_with}
-use Rattle.tt_facts_path.specs.declared.facts.Pattern.{Pattern}
+use Rattle.tt_list_laws.specs.Words.{range_below}
+use Rattle.tt_instance.specs.Problem.{Problem}
+use Rattle.tt_instance.specs.Cells.{slot, cell, all_days, all_rooms}
+use Rattle.tt_instance.specs.declared.cell.Cell.{Cell}
+use Rattle.tt_path.specs.Live.{least_with}
+use Rattle.tt_path.specs.declared.facts.Pattern.{Pattern}
 use Rattle.tt_branch.specs.declared.tree_node.NodeState.TheVariants.{Split, Unopened}
 use Rattle.tt_branch.specs.declared.tree_node.TreeNode.{TreeNode}
 use Rattle.tt_branch.specs.declared.links.Link.{Link}

@@ -1,7 +1,7 @@
 -- Nodes of the tree that can be written as nodes of a proof.
 use Rattle.std.specs.Prelude.{◌≡◌, ℕ, ◌≤◌, Bool, true, List, ◌++◌, length, reverse, Option, ⊤}
-use Rattle.tt_facts_path.specs.Live.{least}
-use Rattle.tt_instance_data.specs.Problem.{Problem}
+use Rattle.tt_path.specs.Live.{least}
+use Rattle.tt_instance.specs.Problem.{Problem}
 use Rattle.tt_leaf_rules.specs.Outcomes.{IsClaimedOnce}
 use Rattle.tt_proof_read.specs.declared.node.Node.{Node}
 use Rattle.tt_proof_read.specs.declared.node.Node.TheVariants as node
@@ -10,7 +10,7 @@ use Rattle.tt_branch.specs.declared.tree_node.TreeNode.{TreeNode}
 use Rattle.tt_branch.specs.declared.links.Link.{Link}
 use Rattle.tt_branch.specs.Inner.Growing.{node_at, nodes_of, worths_of}
 use Rattle.tt_branch.specs.Inner.Links.{path_at}
-use Rattle.tt_facts_path.specs.declared.path.TheConstants.{MAX_FACTS}
+use Rattle.tt_path.specs.declared.path.TheConstants.{MAX_FACTS}
 
 -- The node exists, and its facts fit on a path.
 pub record IsReached (links : List Link) (place : ℕ) : Type 0 where

@@ -1,6 +1,6 @@
 -- The links of an instance.
 use Rattle.std.specs.Prelude.{◌≡◌, ℕ, ◌<◌, List, [], length, slice_index_or}
-use Rattle.tt_instance_data.specs.Problem.{Problem}
+use Rattle.tt_instance.specs.Problem.{Problem}
 use Rattle.tt_instance_links.specs.Inner.Links.{curricula_of, conflicts_of}
 
 -- The list has, for each course, the list of its curricula.

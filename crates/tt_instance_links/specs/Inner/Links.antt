@@ -1,8 +1,8 @@
 -- The curricula that a course is in, and the courses that conflict with it.
 use Rattle.std.specs.Prelude.{ℕ, List, filter}
-use Rattle.tt_instance_data.specs.Problem.{Problem}
-use Rattle.tt_instance_data.specs.Cells.{all_courses, all_curricula}
-use Rattle.tt_instance_data.specs.Courses.{in_curriculum, conflict}
+use Rattle.tt_instance.specs.Problem.{Problem}
+use Rattle.tt_instance.specs.Cells.{all_courses, all_curricula}
+use Rattle.tt_instance.specs.Courses.{in_curriculum, conflict}
 
 -- Each curriculum of the course once, in ascending order.
 abbrev pub curricula_of : Problem → ℕ → List ℕ

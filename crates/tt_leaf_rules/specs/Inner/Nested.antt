@@ -1,20 +1,20 @@
 -- The leaf rules one number at a time, in the order in which the code goes through them.
 use Rattle.std.specs.Prelude.{◌≡◌, ℕ, ◌+◌, ◌-◌, ◌*◌, ◌<◌, nat_lt, nat_le, sum_by, count_by, All, Bool, true, not, ◌&&◌, ◌||◌, List, length, Option, Some, None}
 use Rattle.std.specs.List.{list_any, list_all}
-use Rattle.tt_lists.specs.Words.{each_two}
+use Rattle.tt_list_laws.specs.Words.{each_two}
 use Rattle.tt_bits.specs.Inner.Bits.{each_bit}
-use Rattle.tt_instance_data.specs.Problem.{Problem}
-use Rattle.tt_instance_data.specs.Cells.{slot, cell, all_rooms, all_slots}
-use Rattle.tt_instance_data.specs.Courses.{lectures}
-use Rattle.tt_instance_data.specs.declared.cell.Slot.{Slot}
-use Rattle.tt_facts_path.specs.Facts.{agrees}
-use Rattle.tt_facts_path.specs.Live.{is_dead, is_live, live_period, least_excess, pinned, pinned_room}
-use Rattle.tt_facts_path.specs.declared.facts.Who.TheVariants.{Curriculum}
-use Rattle.tt_facts_path.specs.declared.facts.Pattern.{Pattern}
-use Rattle.tt_facts_path.specs.declared.facts.Fact.{Fact}
+use Rattle.tt_instance.specs.Problem.{Problem}
+use Rattle.tt_instance.specs.Cells.{slot, cell, all_rooms, all_slots}
+use Rattle.tt_instance.specs.Courses.{lectures}
+use Rattle.tt_instance.specs.declared.cell.Slot.{Slot}
+use Rattle.tt_path.specs.Facts.{agrees}
+use Rattle.tt_path.specs.Live.{is_dead, is_live, live_period, least_excess, pinned, pinned_room}
+use Rattle.tt_path.specs.declared.facts.Who.TheVariants.{Curriculum}
+use Rattle.tt_path.specs.declared.facts.Pattern.{Pattern}
+use Rattle.tt_path.specs.declared.facts.Fact.{Fact}
 use Rattle.tt_leaf_rules.specs.Claims.{Target, targets_of, is_alone, open_in, is_covered}
 use Rattle.tt_leaf_rules.specs.Tests.{same_target}
-use Rattle.tt_leaf_data.specs.declared.leaf.Claim.{Claim}
+use Rattle.tt_leaf.specs.declared.leaf.Claim.{Claim}
 
 -- ---- dead cells
 

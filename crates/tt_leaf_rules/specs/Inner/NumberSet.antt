@@ -1,9 +1,9 @@
 -- Sets of the numbers of targets.
 use Rattle.std.specs.Prelude.{ℕ, ◌+◌, ◌*◌, ◌<◌, Bool, false, not, ◌&&◌, List, map, slice_index_or, All}
 use Rattle.std.specs.List.{list_all}
-use Rattle.tt_lists.specs.Words.{are_distinct}
+use Rattle.tt_list_laws.specs.Words.{are_distinct}
 use Rattle.tt_leaf_rules.specs.Claims.{Target, RoomCapacity, WorkingDays, Compactness, Stability, targets_of}
-use Rattle.tt_leaf_data.specs.declared.leaf.Claim.{Claim}
+use Rattle.tt_leaf.specs.declared.leaf.Claim.{Claim}
 use Rattle.tt_leaf_rules.specs.declared.number_set.TheConstants.{PLACES}
 
 -- The number is marked.

@@ -1,9 +1,9 @@
 -- A timetable without an entry.
 use Rattle.std.specs.Prelude.{◌≡◌, ℕ, ◌+◌, Bool, true, cond, ◌&&◌, List, count_by}
 use Rattle.std.specs.Borrow.{Bor}
-use Rattle.tt_instance_data.specs.Cells.{InRange, slot, is_of, is_at}
-use Rattle.tt_instance_data.specs.Courses.{in_curriculum}
-use Rattle.tt_instance_data.specs.declared.cell.Cell.{Cell}
+use Rattle.tt_instance.specs.Cells.{InRange, slot, is_of, is_at}
+use Rattle.tt_instance.specs.Courses.{in_curriculum}
+use Rattle.tt_instance.specs.declared.cell.Cell.{Cell}
 use Rattle.tt_table.specs.Table.{IsTimetable}
 use Rattle.tt_occupancy.specs.Filled.{Filled, entry_at}
 use Rattle.tt_moves.specs.declared.rest.WithoutEntry.{WithoutEntry}

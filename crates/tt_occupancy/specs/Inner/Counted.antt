@@ -1,13 +1,13 @@
 -- The tables and the score of a list of entries.
 use Rattle.std.specs.Prelude.{◌≤◌, List, length}
-use Rattle.tt_instance_data.specs.Problem.{Problem}
-use Rattle.tt_instance_data.specs.Limits.{IsInstance}
-use Rattle.tt_instance_data.specs.declared.cell.Cell.{Cell}
+use Rattle.tt_instance.specs.Problem.{Problem}
+use Rattle.tt_instance.specs.Limits.{IsInstance}
+use Rattle.tt_instance.specs.declared.cell.Cell.{Cell}
 use Rattle.tt_table.specs.Table.{IsTimetable}
 use Rattle.tt_rules.specs.Score.{IsScore}
 use Rattle.tt_rules.specs.declared.counts.Score.{Score}
-use Rattle.tt_occupancy_tallies.specs.Inner.Tables.{AreTables}
-use Rattle.tt_occupancy_tallies.specs.declared.tables.Tables.{Tables}
+use Rattle.tt_tallies.specs.Inner.Tables.{AreTables}
+use Rattle.tt_tallies.specs.declared.tables.Tables.{Tables}
 use Rattle.tt_table.specs.declared.table.TheConstants.{MAX_ENTRIES}
 
 -- the tables and the score of a timetable of an instance

@@ -1,15 +1,15 @@
 -- The meaning of a weight, and the conditions for updating a score by weights.
 use Rattle.std.specs.Prelude.{◌≡◌, ℕ, ◌+◌, ◌*◌, ◌<◌, ◌≤◌, List, ◌∷◌, length, cond}
-use Rattle.tt_instance_data.specs.Problem.{Problem}
-use Rattle.tt_instance_data.specs.Cells.{InRange}
-use Rattle.tt_instance_data.specs.Courses.{excess}
-use Rattle.tt_instance_data.specs.Limits.{IsInstance}
-use Rattle.tt_instance_data.specs.declared.cell.Cell.{Cell}
+use Rattle.tt_instance.specs.Problem.{Problem}
+use Rattle.tt_instance.specs.Cells.{InRange}
+use Rattle.tt_instance.specs.Courses.{excess}
+use Rattle.tt_instance.specs.Limits.{IsInstance}
+use Rattle.tt_instance.specs.declared.cell.Cell.{Cell}
 use Rattle.tt_rules.specs.Soft.{days_cost, stability_cost}
 use Rattle.tt_rules.specs.Score.{IsScore}
 use Rattle.tt_rules.specs.declared.counts.Score.{Score}
 use Rattle.tt_rules.specs.declared.limit.TheConstants.{MAX_COUNT}
-use Rattle.tt_occupancy_tallies.specs.Weight.{repeats, against, barred, shares, alone, all_joined}
+use Rattle.tt_tallies.specs.Weight.{repeats, against, barred, shares, alone, all_joined}
 use Rattle.tt_occupancy.specs.declared.weight.Weight.{Weight}
 use Rattle.tt_table.specs.declared.table.TheConstants.{MAX_ENTRIES}
 

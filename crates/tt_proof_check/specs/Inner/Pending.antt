@@ -1,6 +1,6 @@
 -- The places that a path leaves open.
 use Rattle.std.specs.Prelude.{◌≡◌, ◌⊎◌, false, List, [], ◌∷◌, ◌++◌, if◌then◌else◌}
-use Rattle.tt_facts_path.specs.declared.facts.Fact.{Fact}
+use Rattle.tt_path.specs.declared.facts.Fact.{Fact}
 use Rattle.tt_proof_read.specs.Trees.{with_fact}
 
 -- the second child of the split that added the fact, if its first child is on the path

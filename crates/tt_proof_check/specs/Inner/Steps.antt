@@ -1,19 +1,19 @@
 -- The change of a path by one node.
 use Rattle.std.specs.Prelude.{◌≡◌, true, List, length, Some, ⊤}
-use Rattle.tt_instance_data.specs.Problem.{Problem}
-use Rattle.tt_facts_path.specs.declared.facts.Fact.{Fact}
-use Rattle.tt_facts_path.specs.declared.path.PathFault.{PathFault}
-use Rattle.tt_facts_path.specs.declared.path.PathFault.TheVariants as path
+use Rattle.tt_instance.specs.Problem.{Problem}
+use Rattle.tt_path.specs.declared.facts.Fact.{Fact}
+use Rattle.tt_path.specs.declared.path.PathFault.{PathFault}
+use Rattle.tt_path.specs.declared.path.PathFault.TheVariants as path
 use Rattle.tt_leaf_rules.specs.Faults.{fault_of}
 use Rattle.tt_leaf_rules.specs.Leaves.{IsRight}
-use Rattle.tt_leaf_data.specs.declared.leaf.Bound.{Bound}
+use Rattle.tt_leaf.specs.declared.leaf.Bound.{Bound}
 use Rattle.tt_proof_read.specs.Trees.{with_fact}
 use Rattle.tt_proof_read.specs.declared.node.Node.{Node}
 use Rattle.tt_proof_read.specs.declared.node.Node.TheVariants.{Split, Leaf}
 use Rattle.tt_proof_check.specs.declared.walk.Stop.{Stop}
 use Rattle.tt_proof_check.specs.declared.walk.Stop.TheVariants.{Rule, TooDeep, OutOfMemory}
 use Rattle.tt_proof_check.specs.Inner.Pending.{ContinuesWith}
-use Rattle.tt_facts_path.specs.declared.path.TheConstants.{MAX_FACTS}
+use Rattle.tt_path.specs.declared.path.TheConstants.{MAX_FACTS}
 
 -- a split leads down to its first child, and a right leaf to the next place
 abbrev pub Steps : Problem → Bound → List Fact → Node → List Fact → Type 0

@@ -1,6 +1,6 @@
 -- Numbers that have been seen.
 use Rattle.std.specs.Prelude.{◌≡◌, ℕ, ◌<◌, Bool, false, List, length, slice_index_or, All}
-use Rattle.tt_lists.specs.Words.{has_number}
+use Rattle.tt_list_laws.specs.Words.{has_number}
 
 -- Numbers below a count.
 pub record Listed : Type 0 where

@@ -1,7 +1,7 @@
 -- The prices that a claim lists.
 use Rattle.std.specs.Prelude.{◌≡◌, ℕ, ◌<◌, ◌≤◌, false, [], ◌∷◌, ◌++◌, All}
-use Rattle.tt_lists.specs.Words.{has_number}
-use Rattle.tt_leaf_data.specs.Ranges.{ArePrices}
+use Rattle.tt_list_laws.specs.Words.{has_number}
+use Rattle.tt_leaf.specs.Ranges.{ArePrices}
 use Rattle.tt_proof_read.specs.declared.format.TheConstants.{MAX_PRICE}
 use Rattle.tt_proof_read.specs.Reading.{PriceLists, Seen}
 use Rattle.tt_proof_read.specs.declared.prices.Priced.{Priced}

@@ -1,13 +1,13 @@
 -- The blocks of a report, one by one.
 use Rattle.std.specs.Prelude.{ℕ, ◌<◌, Bool, List, [], ◌∷◌, ◌++◌, filter, length, flat_map, codes, slice_index_or}
-use Rattle.tt_lists.specs.Words.{range_below}
+use Rattle.tt_list_laws.specs.Words.{range_below}
 use Rattle.tt_text.specs.Pieces.{Piece, Text}
 use Rattle.tt_text.specs.Lines.{text_of, line_text}
-use Rattle.tt_instance_data.specs.Problem.{Problem}
-use Rattle.tt_instance_data.specs.Cells.{all_days, slot, is_in}
-use Rattle.tt_instance_data.specs.Courses.{no_room, no_curriculum, teachers, in_curriculum}
-use Rattle.tt_instance_data.specs.declared.cell.Cell.{Cell}
-use Rattle.tt_instance_data.specs.declared.cell.Slot.{Slot}
+use Rattle.tt_instance.specs.Problem.{Problem}
+use Rattle.tt_instance.specs.Cells.{all_days, slot, is_in}
+use Rattle.tt_instance.specs.Courses.{no_room, no_curriculum, teachers, in_curriculum}
+use Rattle.tt_instance.specs.declared.cell.Cell.{Cell}
+use Rattle.tt_instance.specs.declared.cell.Slot.{Slot}
 use Rattle.tt_report.specs.Reports.{course_text, course_and_room, is_taught_by, slot_line}
 use Rattle.tt_report.specs.declared.blocks.Block.{Block}
 use Rattle.tt_report.specs.declared.blocks.Block.TheVariants as of

@@ -1,7 +1,7 @@
 -- The places of a week with one free place between two days, so that days do not join.
 use Rattle.std.specs.Prelude.{ℕ, ◌+◌, ◌-◌, ◌*◌, Bool, false, not, ◌||◌, List, slice_index_or}
-use Rattle.tt_instance_data.specs.Problem.{Problem}
-use Rattle.tt_instance_data.specs.declared.cell.Cell.{Cell}
+use Rattle.tt_instance.specs.Problem.{Problem}
+use Rattle.tt_instance.specs.declared.cell.Cell.{Cell}
 
 -- The place of an entry's period, from 1.
 abbrev pub place_of : Problem → Cell → ℕ

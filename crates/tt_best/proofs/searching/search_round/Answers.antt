@@ -1,6 +1,6 @@
 use Rattle.std.proofs.Common.{◌≡◌, List, sym, subst}
 use Rattle.std.proofs.lemmas.Result.{IfOk-weaker}
-use Rattle.tt_instance_data.specs.declared.cell.Cell.{Cell}
+use Rattle.tt_instance.specs.declared.cell.Cell.{Cell}
 use Rattle.tt_best.specs.Weeks.{IsNoHigher}
 use Rattle.tt_best.proofs.searching.search_round.Goals as goal
 

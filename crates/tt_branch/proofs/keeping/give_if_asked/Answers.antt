@@ -1,6 +1,6 @@
 use Rattle.std.proofs.Common.{List, refl, sym, subst, arith}
 use Rattle.std.specs.Prelude.{All}
-use Rattle.tt_instance_data.specs.Limits.{IsInstance}
+use Rattle.tt_instance.specs.Limits.{IsInstance}
 use Rattle.tt_branch.specs.declared.links.Link.{Link}
 use Rattle.tt_branch.specs.Inner.BestSoFar.{table_of}
 use Rattle.tt_branch.specs.Inner.Links.{AreLinks}

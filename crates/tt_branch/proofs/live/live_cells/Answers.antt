@@ -1,7 +1,7 @@
-use Rattle.tt_facts_path.specs.Live.{is_live}
+use Rattle.tt_path.specs.Live.{is_live}
 use Rattle.std.proofs.Common.{◌++◌, sym, ap, ◌∙◌}
 use Rattle.std.specs.Prelude.{filter}
-use Rattle.tt_lists.proofs.Growing.{kept_more}
+use Rattle.tt_list_laws.proofs.Growing.{kept_more}
 use Rattle.tt_branch.specs.Inner.Steps.{cells_of}
 use Rattle.tt_branch.proofs.live.live_cells.Goals as goal
 

@@ -1,7 +1,7 @@
 use Rattle.std.proofs.Common.{◌≡◌}
 use Rattle.std.specs.Prelude.{filter, flat_map}
-use Rattle.tt_lists.specs.Words.{range_below}
-use Rattle.tt_facts_path.specs.Live.{is_live}
+use Rattle.tt_list_laws.specs.Words.{range_below}
+use Rattle.tt_path.specs.Live.{is_live}
 use Rattle.tt_branch.specs.Inner.Steps.{cells_of}
 use Rattle.tt_branch.proofs.live.live_cells.Given as goal
 

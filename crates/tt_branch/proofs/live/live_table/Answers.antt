@@ -1,7 +1,7 @@
 use Rattle.std.proofs.Common.{◌≡◌, ◌≤◌, length, sym, ap, ◌∙◌, subst}
 use Rattle.std.specs.Prelude.{List, filter, IfOk}
-use Rattle.tt_instance_data.specs.declared.cell.Cell.{Cell}
-use Rattle.tt_facts_path.specs.Live.{is_live}
+use Rattle.tt_instance.specs.declared.cell.Cell.{Cell}
+use Rattle.tt_path.specs.Live.{is_live}
 use Rattle.tt_branch.proofs.LiveTables.{cells_nested}
 use Rattle.tt_branch.proofs.live.live_table.Goals as goal
 

@@ -1,5 +1,5 @@
-use Rattle.tt_lists.proofs.Growing.{pushed_more, kept_more}
-use Rattle.tt_facts_path.specs.Live.{is_live}
+use Rattle.tt_list_laws.proofs.Growing.{pushed_more, kept_more}
+use Rattle.tt_path.specs.Live.{is_live}
 use Rattle.tt_branch.specs.Inner.Steps.{cells_on}
 use Rattle.tt_branch.proofs.live.push_live_in.Goals as goal
 

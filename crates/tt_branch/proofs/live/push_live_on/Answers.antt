@@ -1,6 +1,6 @@
-use Rattle.tt_lists.proofs.Growing.{pushed_more, kept_one_more}
-use Rattle.tt_facts_path.specs.Live.{is_live}
-use Rattle.tt_instance_data.specs.Cells.{cell, slot}
+use Rattle.tt_list_laws.proofs.Growing.{pushed_more, kept_one_more}
+use Rattle.tt_path.specs.Live.{is_live}
+use Rattle.tt_instance.specs.Cells.{cell, slot}
 use Rattle.tt_branch.proofs.live.push_live_on.Goals as goal
 
 pub loop-period-preserved : goal.loop-period-preserved

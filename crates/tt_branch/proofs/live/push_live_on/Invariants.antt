@@ -1,8 +1,8 @@
 use Rattle.std.proofs.Common.{◌≡◌, ◌++◌, map}
 use Rattle.std.specs.Prelude.{filter}
-use Rattle.tt_lists.specs.Words.{range_below}
-use Rattle.tt_facts_path.specs.Live.{is_live}
-use Rattle.tt_instance_data.specs.Cells.{cell, slot}
+use Rattle.tt_list_laws.specs.Words.{range_below}
+use Rattle.tt_path.specs.Live.{is_live}
+use Rattle.tt_instance.specs.Cells.{cell, slot}
 use Rattle.tt_branch.proofs.live.push_live_on.Given as goal
 
 abbrev pub invariant-loop-period : goal.invariant-loop-period

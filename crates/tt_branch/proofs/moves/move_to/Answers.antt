@@ -1,6 +1,6 @@
 use Rattle.std.proofs.Common.{◌≡◌, ◌-◌, ◌++◌, List, length, take, ap, ◌∙◌, subst}
 use Rattle.std.specs.Prelude.{reverse, OnOk}
-use Rattle.tt_facts_path.specs.declared.facts.Fact.{Fact}
+use Rattle.tt_path.specs.declared.facts.Fact.{Fact}
 use Rattle.tt_branch.proofs.Moving.{joined}
 use Rattle.tt_branch.proofs.moves.move_to.Goals as goal
 

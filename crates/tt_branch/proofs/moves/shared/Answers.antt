@@ -1,5 +1,5 @@
 use Rattle.std.proofs.Common.{sym, ◌∙◌, arith}
-use Rattle.tt_facts_path.proofs.Same.{same_fact}
+use Rattle.tt_path.proofs.Same.{same_fact}
 use Rattle.tt_branch.proofs.Moving.{one_more}
 use Rattle.tt_branch.proofs.moves.shared.Goals as goal
 

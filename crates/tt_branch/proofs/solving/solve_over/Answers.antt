@@ -1,6 +1,6 @@
 use Rattle.std.proofs.Common.{Option, refl, sym, ◌∙◌, subst, arith}
 use Rattle.std.proofs.lemmas.Result.{IfOk-weaker}
-use Rattle.tt_instance_data.specs.Problem.{Problem}
+use Rattle.tt_instance.specs.Problem.{Problem}
 use Rattle.tt_branch.specs.declared.best.Best.{Best}
 use Rattle.tt_branch.specs.Inner.BestSoFar.{table_of, Advances}
 use Rattle.tt_branch.specs.Outcomes.{BeginsWell, IsOutcome, IsOutcomeUntil}

@@ -1,7 +1,7 @@
 use Rattle.std.proofs.Common.{refl, sym, subst}
 use Rattle.tt_leaf_rules.specs.Outcomes.{IsClaimedOnce}
-use Rattle.tt_leaf_data.specs.declared.leaf.Claim.TheVariants.{Days}
-use Rattle.tt_leaf.proofs.Claims.{once}
+use Rattle.tt_leaf.specs.declared.leaf.Claim.TheVariants.{Days}
+use Rattle.tt_leaf_find.proofs.Claims.{once}
 use Rattle.tt_branch.proofs.visit.best_worth.Goals as goal
 
 pub leaf_value-requires : goal.leaf_value-requires

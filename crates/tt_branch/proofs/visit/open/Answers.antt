@@ -1,6 +1,6 @@
 use Rattle.std.proofs.Common.{rules, subst, Option}
 use Rattle.std.specs.Prelude.{IfSome, IsNone}
-use Rattle.tt_facts_path.specs.declared.facts.Pattern.{Pattern}
+use Rattle.tt_path.specs.declared.facts.Pattern.{Pattern}
 use Rattle.tt_branch_split.specs.Choice.{IsNewSplit}
 use Rattle.tt_branch.proofs.Opening.{splits_on}
 use Rattle.tt_branch.proofs.visit.open.Goals as goal

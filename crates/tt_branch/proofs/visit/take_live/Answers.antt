@@ -1,14 +1,14 @@
 use Rattle.std.proofs.Common.{List, refl, sym, ◌∙◌, subst, arith}
 use Rattle.std.specs.Prelude.{All}
-use Rattle.tt_instance_data.specs.Problem.{Problem}
-use Rattle.tt_instance_data.specs.Limits.{IsInstance}
-use Rattle.tt_instance_data.specs.Cells.{InRange}
-use Rattle.tt_instance_data.specs.declared.cell.Cell.{Cell}
+use Rattle.tt_instance.specs.Problem.{Problem}
+use Rattle.tt_instance.specs.Limits.{IsInstance}
+use Rattle.tt_instance.specs.Cells.{InRange}
+use Rattle.tt_instance.specs.declared.cell.Cell.{Cell}
 use Rattle.tt_rules.specs.Score.{IsScore, IsFeasible, cost}
 use Rattle.tt_rules.proofs.Scores.{cost_is}
-use Rattle.tt_facts_path.proofs.LiveCells.{live_cells}
-use Rattle.tt_leaf_data.specs.declared.leaf.Bound.TheVariants.{AtLeast}
-use Rattle.tt_leaf.specs.Found.{Closes}
+use Rattle.tt_path.proofs.LiveCells.{live_cells}
+use Rattle.tt_leaf.specs.declared.leaf.Bound.TheVariants.{AtLeast}
+use Rattle.tt_leaf_find.specs.Found.{Closes}
 use Rattle.tt_branch.specs.Inner.BestSoFar.{table_of}
 use Rattle.tt_branch.specs.Outcomes.{final_bound}
 use Rattle.tt_branch.proofs.Advancing.{advance_to}

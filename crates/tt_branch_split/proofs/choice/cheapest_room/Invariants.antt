@@ -1,4 +1,4 @@
-use Rattle.tt_instance_data.specs.Cells.{InRange}
+use Rattle.tt_instance.specs.Cells.{InRange}
 use Rattle.tt_branch_split.specs.Choice.{IsFree}
 use Rattle.tt_branch_split.proofs.choice.cheapest_room.Given as goal
 

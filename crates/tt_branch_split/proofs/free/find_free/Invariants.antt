@@ -1,5 +1,5 @@
 use Rattle.std.proofs.Common.{ℕ, ◌<◌, length}
-use Rattle.tt_instance_data.specs.Cells.{cell, slot}
+use Rattle.tt_instance.specs.Cells.{cell, slot}
 use Rattle.tt_branch_split.specs.Choice.{IsFree}
 use Rattle.tt_branch_split.proofs.free.find_free.Given as goal
 

@@ -1,5 +1,5 @@
 use Rattle.std.proofs.Common.{◌≡◌, ℕ, ◌<◌}
-use Rattle.tt_instance_data.specs.Courses.{unavailable}
+use Rattle.tt_instance.specs.Courses.{unavailable}
 use Rattle.tt_groups_check.proofs.availability.is_same_for.Given as goal
 
 abbrev pub invariant-loop-period : goal.invariant-loop-period

@@ -6,7 +6,7 @@ use Rattle.tt_groups.specs.Places.{group_sizes}
 use Rattle.tt_groups_week.specs.Fold.{AreReady}
 use Rattle.tt_groups_week.specs.WeekLists.{Suits, AreReached}
 use Rattle.std.proofs.lemmas.List.Elements.{Contains-get_or}
-use Rattle.tt_instance_data.specs.Courses.{lectures}
+use Rattle.tt_instance.specs.Courses.{lectures}
 use Rattle.tt_groups_check.specs.CoursesAndSizes.{AreCoursesAndSizes}
 use Rattle.tt_groups_check.specs.Lists.{AreOfDays}
 use Rattle.tt_groups_week.specs.declared.moves.Move.{Move}

@@ -1,6 +1,6 @@
 use Rattle.std.proofs.Common.{◌≡◌, ℕ, List, [], ◌∷◌, ◌++◌, length, sym, ap, ◌∙◌, subst, arith}
 use Rattle.std.specs.Prelude.{filter}
-use Rattle.tt_lists.specs.Words.{range_below}
+use Rattle.tt_list_laws.specs.Words.{range_below}
 use Rattle.tt_groups.specs.Group.{concerns}
 use Rattle.tt_groups.specs.Listed.{AreCourses}
 use Rattle.tt_groups_check.specs.Limits.{courses_of}
@@ -8,7 +8,7 @@ use Rattle.tt_groups_check.proofs.CoursesAndSizes.{are_courses, concerned_below,
 use Rattle.tt_groups_day.specs.Found.{AreDistinct}
 use Rattle.tt_groups_check.proofs.courses.courses_of.Goals as goal
 use Rattle.tt_groups_check.proofs.courses.courses_of.Goals.{then-is_concerned+in_ok-push, else-is_concerned}
-use Rattle.tt_lists.proofs.Below.{filter_more-passing, filter_more-failing}
+use Rattle.tt_list_laws.proofs.Below.{filter_more-passing, filter_more-failing}
 
 pub loop-course-preserved : goal.loop-course-preserved
 loop-course-preserved c =

@@ -1,6 +1,6 @@
 use Rattle.std.proofs.Common.{◌≡◌, ◌*◌, ◌-◌, ◌≤◌, take}
 use Rattle.std.specs.Prelude.{sum_by}
-use Rattle.tt_instance_data.specs.Courses.{lectures, min_days}
+use Rattle.tt_instance.specs.Courses.{lectures, min_days}
 use Rattle.tt_groups_check.proofs.width.base_cost.Given as goal
 
 abbrev pub invariant-loop-course : goal.invariant-loop-course

@@ -1,6 +1,6 @@
 use Rattle.std.proofs.Common.{sym, ◌∙◌, arith}
-use Rattle.tt_lists.proofs.Numbers.{count_more}
-use Rattle.tt_lists.proofs.Sums.{one_if_true, one_if_false}
+use Rattle.tt_list_laws.proofs.Numbers.{count_more}
+use Rattle.tt_list_laws.proofs.Sums.{one_if_true, one_if_false}
 use Rattle.tt_groups.specs.Group.{concerns}
 use Rattle.tt_groups_check.proofs.width.courses_count.Goals as goal
 use Rattle.tt_groups_check.proofs.width.courses_count.Goals.{then-is_concerned, else-is_concerned}

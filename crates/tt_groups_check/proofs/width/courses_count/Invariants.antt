@@ -1,6 +1,6 @@
 use Rattle.std.proofs.Common.{◌≡◌, ◌≤◌}
 use Rattle.std.specs.Prelude.{count_by}
-use Rattle.tt_lists.specs.Words.{range_below}
+use Rattle.tt_list_laws.specs.Words.{range_below}
 use Rattle.tt_groups.specs.Group.{concerns}
 use Rattle.tt_groups_check.proofs.width.courses_count.Given as goal
 

@@ -1,8 +1,8 @@
 use Rattle.std.proofs.Common.{◌&&◌, sym, ◌∙◌, arith, lt-ltb}
 use Rattle.std.specs.Prelude.{nat_lt}
 use Rattle.std.proofs.lemmas.Bool.{and_from, and_left, and_right, le-ltb}
-use Rattle.tt_lists.proofs.Below.{any_more, any_stops}
-use Rattle.tt_instance_data.specs.Courses.{lectures}
+use Rattle.tt_list_laws.proofs.Below.{any_more, any_stops}
+use Rattle.tt_instance.specs.Courses.{lectures}
 use Rattle.tt_groups.specs.Group.{concerns}
 use Rattle.tt_groups_check.proofs.width.has_long_course.Goals as goal
 use Rattle.tt_groups_check.proofs.width.has_long_course.Goals.{else-is_concerned-via-then-is_concerned+else-lectures-gt-GROUP_LECTURES, else-is_concerned-via-else-is_concerned}

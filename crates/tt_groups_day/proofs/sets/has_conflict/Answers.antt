@@ -1,9 +1,9 @@
 use Rattle.std.proofs.Common.{sym, ap, ◌∙◌, ◌&&◌, eq-eqb, ne_eqb}
 use Rattle.std.specs.Prelude.{slice_index}
 use Rattle.std.proofs.lemmas.Bool.{and_from, and_right}
-use Rattle.tt_lists.proofs.Below.{any_more}
-use Rattle.tt_lists.proofs.Numbers.{any_below}
-use Rattle.tt_instance_data.specs.Courses.{conflict}
+use Rattle.tt_list_laws.proofs.Below.{any_more}
+use Rattle.tt_list_laws.proofs.Numbers.{any_below}
+use Rattle.tt_instance.specs.Courses.{conflict}
 use Rattle.tt_groups_day.specs.Sets.{has_course}
 use Rattle.tt_groups_day.proofs.sets.has_conflict.Goals as goal
 use Rattle.tt_groups_day.proofs.sets.has_conflict.Goals.{else-set-other-eq1-via-then-set-other-eq1+else-conflict, else-set-other-eq1-via-else-set-other-eq1}

@@ -1,8 +1,8 @@
 use Rattle.std.proofs.Common.{◌≡◌, ◌&&◌, false}
 use Rattle.std.specs.Prelude.{slice_index}
 use Rattle.std.specs.List.{list_any}
-use Rattle.tt_lists.specs.Words.{range_below}
-use Rattle.tt_instance_data.specs.Courses.{conflict}
+use Rattle.tt_list_laws.specs.Words.{range_below}
+use Rattle.tt_instance.specs.Courses.{conflict}
 use Rattle.tt_groups_day.specs.Sets.{has_course}
 use Rattle.tt_groups_day.proofs.sets.has_conflict.Given as goal
 

@@ -7,7 +7,7 @@ use Rattle.tt_groups_day.specs.Sets.{ArePeriodsOf}
 use Rattle.tt_groups_day.specs.declared.search.Period.{Period}
 use Rattle.tt_groups_day.proofs.Starting.{zeros, morning-start}
 use Rattle.tt_groups_day.proofs.table.day_table.Goals as goal
-use Rattle.tt_lists.proofs.Beginnings.{take_written}
+use Rattle.tt_list_laws.proofs.Beginnings.{take_written}
 
 pub try_days-requires-clause-at_most : goal.try_days-requires-clause-at_most
 try_days-requires-clause-at_most c = omega (arith, ap length c.deref.ensures.value, c.in_ok-periods.ensures.at_most)

@@ -1,6 +1,6 @@
 use Rattle.std.proofs.Common.{◌≡◌, ℕ, ◌<◌, length}
 use Rattle.std.specs.Prelude.{slice_index}
-use Rattle.tt_instance_data.specs.Courses.{lectures}
+use Rattle.tt_instance.specs.Courses.{lectures}
 use Rattle.tt_groups_day.proofs.table.lectures_of.Given as goal
 
 abbrev pub invariant-loop-i : goal.invariant-loop-i

@@ -1,7 +1,7 @@
 use Rattle.std.proofs.Common.{◌≡◌, ℕ, ◌<◌, Bool, true, false, List, length, get_or-set_same, get_or-set_other, below_more, sym, ap, ◌∙◌, arith}
 use Rattle.std.specs.Prelude.{slice_index}
 use Rattle.std.proofs.Math.ListN.{length-set}
-use Rattle.tt_instance_data.specs.Courses.{unavailable}
+use Rattle.tt_instance.specs.Courses.{unavailable}
 use Rattle.tt_groups_day.proofs.table.period_of.Goals as goal
 use Rattle.tt_groups_day.proofs.table.period_of.Goals.{then-not-unavailable, else-not-unavailable}
 

@@ -1,6 +1,6 @@
 use Rattle.std.proofs.Common.{◌≡◌, ℕ, ◌<◌, ◌≤◌, true, false, length}
 use Rattle.std.specs.Prelude.{slice_index}
-use Rattle.tt_instance_data.specs.Courses.{unavailable}
+use Rattle.tt_instance.specs.Courses.{unavailable}
 use Rattle.tt_groups_day.proofs.table.period_of.Given as goal
 
 abbrev pub invariant-loop-i : goal.invariant-loop-i

@@ -1,8 +1,8 @@
 use Rattle.std.proofs.Common.{◌≡◌, ◌≤◌, true, not}
 use Rattle.std.specs.Prelude.{◌==◌}
 use Rattle.std.specs.List.{push}
-use Rattle.tt_lists.specs.Words.{each_two}
-use Rattle.tt_leaf_data.specs.Ranges.{AreBelow}
+use Rattle.tt_list_laws.specs.Words.{each_two}
+use Rattle.tt_leaf.specs.Ranges.{AreBelow}
 use Rattle.tt_text.specs.Feeds.{room_of}
 use Rattle.tt_proof_read.specs.Inner.Contract.{state_of}
 use Rattle.tt_groups_read.specs.Reading.{listed_at, list_at}

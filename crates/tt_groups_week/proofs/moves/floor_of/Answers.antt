@@ -1,5 +1,5 @@
 use Rattle.std.proofs.Common.{◌≤◌, ◌≤◌, arith}
-use Rattle.tt_lists.proofs.Numbers.{sum_more}
+use Rattle.tt_list_laws.proofs.Numbers.{sum_more}
 use Rattle.tt_groups_week.specs.Fold.{floor_at}
 use Rattle.tt_groups_week.proofs.moves.floor_of.Goals as goal
 

@@ -1,6 +1,6 @@
 use Rattle.std.proofs.Common.{◌≡◌, ◌*◌, ◌≤◌}
 use Rattle.std.specs.Prelude.{sum_by}
-use Rattle.tt_lists.specs.Words.{range_below}
+use Rattle.tt_list_laws.specs.Words.{range_below}
 use Rattle.tt_groups_week.specs.Fold.{floor_at}
 use Rattle.tt_groups_week.proofs.moves.floor_of.Given as goal
 

@@ -1,6 +1,6 @@
 use Rattle.std.proofs.Common.{◌*◌, ◌≤◌, ap, ◌∙◌, arith, mul-le-mul_right}
 use Rattle.std.specs.Prelude.{slice_index}
-use Rattle.tt_lists.proofs.Numbers.{sum_more}
+use Rattle.tt_list_laws.proofs.Numbers.{sum_more}
 use Rattle.tt_groups_week.proofs.moves.index_of.Goals as goal
 
 pub loop-j-preserved : goal.loop-j-preserved

@@ -1,9 +1,9 @@
 use Rattle.std.proofs.Common.{◌≡◌, ℕ, sym, ap, refl, ◌∙◌, arith, rules, ◌&&◌}
 use Rattle.std.specs.List.{list_all}
-use Rattle.tt_lists.specs.Words.{range_below}
+use Rattle.tt_list_laws.specs.Words.{range_below}
 use Rattle.tt_groups_week.specs.Fold.{is_under}
 use Rattle.tt_groups_week.proofs.state.fits.Goals as goal
-use Rattle.tt_lists.proofs.Below.{list_all-more}
+use Rattle.tt_list_laws.proofs.Below.{list_all-more}
 
 pub loop-j-init : goal.loop-j-init
 loop-j-init c = record { value = refl; bytes = λ h k. absurd (omega arith) }

@@ -1,7 +1,7 @@
 use Rattle.std.proofs.Common.{◌≡◌, ◌*◌, ◌≤◌, ◌<◌, length, ap, ◌∙◌, arith, mul-le-mul_right}
 use Rattle.std.specs.Prelude.{slice_index}
 use Rattle.std.proofs.Math.ListN.{length-set}
-use Rattle.tt_lists.proofs.Numbers.{sum_more}
+use Rattle.tt_list_laws.proofs.Numbers.{sum_more}
 use Rattle.tt_groups_week.specs.Digits.{digit}
 use Rattle.tt_groups_week.proofs.Fitting.{set-more}
 use Rattle.tt_groups_week.proofs.state.state_at.Goals as goal

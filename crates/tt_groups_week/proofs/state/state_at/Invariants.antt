@@ -1,6 +1,6 @@
 use Rattle.std.proofs.Common.{◌≡◌, ℕ, length, ◌*◌, ◌<◌, ◌≤◌}
 use Rattle.std.specs.Prelude.{slice_index, sum_by}
-use Rattle.tt_lists.specs.Words.{range_below}
+use Rattle.tt_list_laws.specs.Words.{range_below}
 use Rattle.tt_groups_week.specs.Digits.{digit}
 use Rattle.tt_groups_week.proofs.state.state_at.Given as goal
 

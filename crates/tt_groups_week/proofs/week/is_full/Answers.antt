@@ -1,6 +1,6 @@
 use Rattle.std.proofs.Common.{◌-◌, sym, ap, ◌∙◌, eq-eqb, ne_eqb}
 use Rattle.std.specs.Prelude.{◌==◌, slice_index}
-use Rattle.tt_lists.proofs.Below.{all_more, all_stops}
+use Rattle.tt_list_laws.proofs.Below.{all_more, all_stops}
 use Rattle.tt_groups_week.specs.Digits.{digit}
 use Rattle.tt_groups_week.proofs.week.is_full.Goals as goal
 

@@ -12,7 +12,7 @@ use Rattle.tt_groups_week.proofs.Relaxing.{Relaxed}
 use Rattle.tt_groups_week.proofs.Suiting.{suits_start, suits_next, suits_end, suits_reached, suits_fails, low_at_first}
 use Rattle.tt_groups_week.proofs.Weights.{places_positive}
 use Rattle.tt_groups_week.proofs.week.week_holds.Goals as goal
-use Rattle.tt_lists.proofs.Beginnings.{take_written}
+use Rattle.tt_list_laws.proofs.Beginnings.{take_written}
 
 pub index_mut-requires : goal.index_mut-requires
 index_mut-requires c =

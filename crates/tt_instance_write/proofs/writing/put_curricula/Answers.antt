@@ -1,6 +1,6 @@
-use Rattle.tt_instance.specs.declared.fault.Word.TheVariants as word
-use Rattle.tt_instance_data.specs.Spelling.{curriculum_pieces}
-use Rattle.tt_instance_data.specs.Seen.{curriculum_seen, courses_seen}
+use Rattle.tt_instance_read.specs.declared.fault.Word.TheVariants as word
+use Rattle.tt_instance.specs.Spelling.{curriculum_pieces}
+use Rattle.tt_instance.specs.Seen.{curriculum_seen, courses_seen}
 use Rattle.tt_instance_write.proofs.Texts.{section_done}
 use Rattle.tt_instance_write.proofs.writing.put_curricula.Goals as goal
 

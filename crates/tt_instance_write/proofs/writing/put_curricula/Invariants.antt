@@ -1,8 +1,8 @@
 use Rattle.std.proofs.Common.{◌≡◌, ◌++◌, take}
 use Rattle.std.specs.List.{flat_map}
 use Rattle.tt_text.specs.Lines.{line_text}
-use Rattle.tt_instance_data.specs.Spelling.{curriculum_pieces}
-use Rattle.tt_instance_data.specs.Seen.{courses_seen, curriculum_seen}
+use Rattle.tt_instance.specs.Spelling.{curriculum_pieces}
+use Rattle.tt_instance.specs.Seen.{courses_seen, curriculum_seen}
 use Rattle.tt_instance_write.proofs.writing.put_curricula.Given as goal
 
 abbrev pub invariant-loop-row : goal.invariant-loop-row

@@ -1,6 +1,6 @@
 use Rattle.std.proofs.Common.{ap, length, arith}
 use Rattle.std.proofs.lemmas.Result.{IfOk-equal}
-use Rattle.tt_instance_data.specs.Seen.{courses_seen}
+use Rattle.tt_instance.specs.Seen.{courses_seen}
 use Rattle.tt_instance_write.proofs.Texts.{curriculum_done}
 use Rattle.tt_instance_write.proofs.writing.put_curriculum.Goals as goal
 

@@ -1,7 +1,7 @@
 use Rattle.std.proofs.Common.{◌≡◌, ◌∷◌, ◌++◌, take, slice_index_or}
 use Rattle.std.specs.List.{flat_map}
-use Rattle.tt_instance_data.specs.Courses.{no_course}
-use Rattle.tt_instance_data.specs.Seen.{courses_seen}
+use Rattle.tt_instance.specs.Courses.{no_course}
+use Rattle.tt_instance.specs.Seen.{courses_seen}
 use Rattle.tt_instance_write.proofs.writing.put_curriculum.Given as goal
 
 abbrev pub invariant-loop-member : goal.invariant-loop-member

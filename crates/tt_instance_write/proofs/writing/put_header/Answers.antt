@@ -3,9 +3,9 @@ use Rattle.std.proofs.lemmas.Result.{IfOk-equal}
 use Rattle.std.proofs.lemmas.List.{length-map}
 use Rattle.tt_text.specs.Pieces.{Text}
 use Rattle.tt_text.specs.Lines.{line_text}
-use Rattle.tt_instance.specs.declared.fault.Word.TheVariants as word
-use Rattle.tt_instance.specs.Words.{fixed}
-use Rattle.tt_instance_data.specs.Seen.{name_seen, course_seen, room_seen, curriculum_seen, unavailability_seen, problem_seen}
+use Rattle.tt_instance_read.specs.declared.fault.Word.TheVariants as word
+use Rattle.tt_instance_read.specs.Words.{fixed}
+use Rattle.tt_instance.specs.Seen.{name_seen, course_seen, room_seen, curriculum_seen, unavailability_seen, problem_seen}
 use Rattle.tt_instance_write.proofs.Texts.{header_done}
 use Rattle.tt_instance_write.proofs.writing.put_header.Goals as goal
 

@@ -1,8 +1,8 @@
 use Rattle.std.proofs.Common.{◌∙◌, ap, List, ℕ, Bor, ◌++◌}
 use Rattle.std.proofs.lemmas.Result.{IfOk-equal}
 use Rattle.tt_text.specs.Pieces.{Text}
-use Rattle.tt_instance.specs.declared.fault.Word.TheVariants as word
-use Rattle.tt_instance.specs.Words.{fixed}
+use Rattle.tt_instance_read.specs.declared.fault.Word.TheVariants as word
+use Rattle.tt_instance_read.specs.Words.{fixed}
 use Rattle.tt_instance_write.proofs.Texts.{line_done}
 use Rattle.tt_instance_write.proofs.writing.put_name.Goals as goal
 

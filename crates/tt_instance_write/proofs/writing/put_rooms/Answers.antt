@@ -1,6 +1,6 @@
-use Rattle.tt_instance.specs.declared.fault.Word.TheVariants as word
-use Rattle.tt_instance_data.specs.Spelling.{room_pieces}
-use Rattle.tt_instance_data.specs.Seen.{room_seen}
+use Rattle.tt_instance_read.specs.declared.fault.Word.TheVariants as word
+use Rattle.tt_instance.specs.Spelling.{room_pieces}
+use Rattle.tt_instance.specs.Seen.{room_seen}
 use Rattle.tt_instance_write.proofs.Texts.{section_done}
 use Rattle.tt_instance_write.proofs.writing.put_rooms.Goals as goal
 

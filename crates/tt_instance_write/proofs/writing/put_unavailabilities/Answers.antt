@@ -1,6 +1,6 @@
-use Rattle.tt_instance.specs.declared.fault.Word.TheVariants as word
-use Rattle.tt_instance_data.specs.Spelling.{unavailability_pieces}
-use Rattle.tt_instance_data.specs.Seen.{unavailability_seen, courses_seen}
+use Rattle.tt_instance_read.specs.declared.fault.Word.TheVariants as word
+use Rattle.tt_instance.specs.Spelling.{unavailability_pieces}
+use Rattle.tt_instance.specs.Seen.{unavailability_seen, courses_seen}
 use Rattle.tt_instance_write.proofs.Texts.{section_done}
 use Rattle.tt_instance_write.proofs.writing.put_unavailabilities.Goals as goal
 

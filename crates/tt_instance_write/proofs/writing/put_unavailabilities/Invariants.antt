@@ -1,8 +1,8 @@
 use Rattle.std.proofs.Common.{◌≡◌, ◌++◌, take}
 use Rattle.std.specs.List.{flat_map}
 use Rattle.tt_text.specs.Lines.{line_text}
-use Rattle.tt_instance_data.specs.Spelling.{unavailability_pieces}
-use Rattle.tt_instance_data.specs.Seen.{courses_seen, unavailability_seen}
+use Rattle.tt_instance.specs.Spelling.{unavailability_pieces}
+use Rattle.tt_instance.specs.Seen.{courses_seen, unavailability_seen}
 use Rattle.tt_instance_write.proofs.writing.put_unavailabilities.Given as goal
 
 abbrev pub invariant-loop-row : goal.invariant-loop-row

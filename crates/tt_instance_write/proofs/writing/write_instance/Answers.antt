@@ -1,9 +1,9 @@
 use Rattle.std.proofs.Common.{List, ℕ, sym, subst}
 use Rattle.std.proofs.lemmas.Result.{IfOk-weaker}
-use Rattle.tt_instance_data.specs.Problem.{Problem}
-use Rattle.tt_instance_data.specs.Limits.{IsInstance}
-use Rattle.tt_instance_data.specs.Seen.{problem_seen}
-use Rattle.tt_instance_data.specs.Spelling.{Spells}
+use Rattle.tt_instance.specs.Problem.{Problem}
+use Rattle.tt_instance.specs.Limits.{IsInstance}
+use Rattle.tt_instance.specs.Seen.{problem_seen}
+use Rattle.tt_instance.specs.Spelling.{Spells}
 use Rattle.tt_instance_write.specs.Writing.{instance_text}
 use Rattle.tt_instance_write.proofs.WrittenLaws.{written_again}
 use Rattle.tt_instance_write.proofs.writing.write_instance.Goals as goal

@@ -1,5 +1,5 @@
 use Rattle.std.proofs.Common.{ap}
-use Rattle.tt_instance_data.specs.Seen.{courses_seen, rooms_seen, curricula_seen, unavailabilities_seen, problem_seen}
+use Rattle.tt_instance.specs.Seen.{courses_seen, rooms_seen, curricula_seen, unavailabilities_seen, problem_seen}
 use Rattle.tt_instance_write.proofs.Texts.{sections_done, members_within, unavailabilities_within}
 use Rattle.tt_instance_write.proofs.writing.write_parts.Goals as goal
 

@@ -1,7 +1,7 @@
 use Rattle.std.proofs.Common.{◌≡◌, ◌≤◌, ◌*◌, ◌^◌, take}
 use Rattle.std.specs.Prelude.{sum_by}
-use Rattle.tt_instance_data.specs.Cells.{all_slots}
-use Rattle.tt_facts_path.specs.Live.{least_excess}
+use Rattle.tt_instance.specs.Cells.{all_slots}
+use Rattle.tt_path.specs.Live.{least_excess}
 use Rattle.tt_leaf_rules.specs.Inner.Nested.{above_least}
 use Rattle.tt_leaf_rules.proofs.capacity.all_discounts.Given as goal
 

@@ -1,5 +1,5 @@
 use Rattle.std.proofs.Common.{rules, ◌≡◌, ◌-◌, ◌*◌, ap, ◌∙◌}
-use Rattle.tt_instance_data.specs.Courses.{lectures}
+use Rattle.tt_instance.specs.Courses.{lectures}
 use Rattle.tt_leaf_rules.specs.Inner.Nested.{discounts}
 use Rattle.tt_leaf_rules.proofs.Values.{discounts_are}
 use Rattle.tt_leaf_rules.proofs.capacity.capacity_value.Goals as goal

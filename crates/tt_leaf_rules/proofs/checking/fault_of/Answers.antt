@@ -1,7 +1,7 @@
 use Rattle.std.proofs.Common.{ℕ, List, sym, ap, ◌∙◌}
 use Rattle.tt_leaf_rules.specs.Faults.{fault_of}
-use Rattle.tt_leaf_data.specs.declared.leaf.Leaf.{Leaf}
-use Rattle.tt_leaf_data.specs.declared.leaf.Leaf.TheVariants.{Clique}
+use Rattle.tt_leaf.specs.declared.leaf.Leaf.{Leaf}
+use Rattle.tt_leaf.specs.declared.leaf.Leaf.TheVariants.{Clique}
 use Rattle.tt_leaf_rules.proofs.checking.fault_of.Goals as goal
 
 pub returns-in-Clique : goal.returns-in-Clique

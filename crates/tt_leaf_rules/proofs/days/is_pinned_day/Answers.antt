@@ -2,11 +2,11 @@ use Rattle.std.proofs.Common.{◌≤◌, not, ap, ◌∙◌, arith}
 use Rattle.std.specs.List.{list_any}
 use Rattle.tt_bits.specs.Inner.Bits.{has_bit, bits}
 use Rattle.tt_bits.proofs.Counts.{any-set}
-use Rattle.tt_instance_data.specs.Cells.{slot}
-use Rattle.tt_facts_path.specs.Live.{pinned}
-use Rattle.tt_facts_path.specs.declared.facts.Who.TheVariants.{Course}
+use Rattle.tt_instance.specs.Cells.{slot}
+use Rattle.tt_path.specs.Live.{pinned}
+use Rattle.tt_path.specs.declared.facts.Who.TheVariants.{Course}
 use Rattle.tt_leaf_rules.proofs.days.is_pinned_day.Goals as goal
-use Rattle.tt_lists.proofs.Truth.{not-not}
+use Rattle.tt_list_laws.proofs.Truth.{not-not}
 
 pub returns : goal.returns
 returns g c =

@@ -1,7 +1,7 @@
 use Rattle.std.proofs.Common.{◌≡◌, ◌≤◌}
 use Rattle.std.specs.Prelude.{count_by}
-use Rattle.tt_lists.specs.Words.{range_below}
-use Rattle.tt_facts_path.specs.Live.{live_day}
+use Rattle.tt_list_laws.specs.Words.{range_below}
+use Rattle.tt_path.specs.Live.{live_day}
 use Rattle.tt_leaf_rules.proofs.days.live_days.Given as goal
 
 abbrev pub invariant-loop-day : goal.invariant-loop-day

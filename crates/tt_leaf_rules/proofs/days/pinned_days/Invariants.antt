@@ -1,6 +1,6 @@
 use Rattle.std.proofs.Common.{◌≡◌, ◌≤◌}
 use Rattle.std.specs.Prelude.{count_by}
-use Rattle.tt_lists.specs.Words.{range_below}
+use Rattle.tt_list_laws.specs.Words.{range_below}
 use Rattle.tt_leaf_rules.specs.Claims.{pinned_day}
 use Rattle.tt_leaf_rules.proofs.days.pinned_days.Given as goal
 

@@ -1,6 +1,6 @@
 use Rattle.std.proofs.Common.{ap, ◌∙◌}
 use Rattle.std.specs.List.{list_all}
-use Rattle.tt_instance_data.specs.Courses.{members}
+use Rattle.tt_instance.specs.Courses.{members}
 use Rattle.tt_leaf_rules.specs.Inner.Nested.{is_gone_or_dead}
 use Rattle.tt_leaf_rules.proofs.empty.are_members_dead.Goals as goal
 

@@ -1,7 +1,7 @@
 use Rattle.std.proofs.Common.{◌≤◌, ◌<◌, not, ◌||◌, length, sym, ap, ◌∙◌, arith, le-leb}
 use Rattle.std.proofs.lemmas.Bool.{lt-leb}
-use Rattle.tt_instance_data.specs.Cells.{slot, cell}
-use Rattle.tt_facts_path.specs.Live.{is_dead}
+use Rattle.tt_instance.specs.Cells.{slot, cell}
+use Rattle.tt_path.specs.Live.{is_dead}
 use Rattle.tt_leaf_rules.specs.Inner.Nested.{are_rooms_dead}
 use Rattle.tt_leaf_rules.proofs.Nested.{are_rooms_dead-any, are_rooms_dead-one}
 use Rattle.tt_leaf_rules.proofs.empty.are_rooms_dead.Goals as goal

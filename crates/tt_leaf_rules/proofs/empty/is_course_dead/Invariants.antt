@@ -1,6 +1,6 @@
 use Rattle.std.proofs.Common.{◌≡◌, true, take}
 use Rattle.std.specs.List.{list_all}
-use Rattle.tt_instance_data.specs.Cells.{all_slots}
+use Rattle.tt_instance.specs.Cells.{all_slots}
 use Rattle.tt_leaf_rules.specs.Inner.Nested.{is_period_dead}
 use Rattle.tt_leaf_rules.proofs.empty.is_course_dead.Given as goal
 

@@ -1,6 +1,6 @@
 use Rattle.std.proofs.Common.{◌<◌, ◌∷◌, []}
 use Rattle.std.proofs.lemmas.List.Elements.{All-rest}
-use Rattle.tt_lists.specs.Words.{are_distinct}
+use Rattle.tt_list_laws.specs.Words.{are_distinct}
 use Rattle.tt_leaf_rules.proofs.Meeting.{new_at_first, met_goes_on}
 use Rattle.tt_leaf_rules.proofs.groups.are_new.Goals as goal
 

@@ -1,7 +1,7 @@
 use Rattle.std.proofs.Common.{◌≡◌, length}
-use Rattle.tt_lists.specs.Words.{are_distinct}
+use Rattle.tt_list_laws.specs.Words.{are_distinct}
 use Rattle.tt_leaf_rules.specs.Inner.NumberSet.{are_new}
-use Rattle.tt_leaf_data.specs.Ranges.{AreBelow}
+use Rattle.tt_leaf.specs.Ranges.{AreBelow}
 use Rattle.tt_leaf_rules.proofs.groups.are_new.Given as goal
 
 abbrev pub invariant-loop-first : goal.invariant-loop-first

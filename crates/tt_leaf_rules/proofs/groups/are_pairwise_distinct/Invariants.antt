@@ -1,6 +1,6 @@
 use Rattle.std.proofs.Common.{◌≡◌, not, length}
 use Rattle.std.specs.Prelude.{◌==◌}
-use Rattle.tt_lists.specs.Words.{each_two}
+use Rattle.tt_list_laws.specs.Words.{each_two}
 use Rattle.tt_leaf_rules.proofs.groups.are_pairwise_distinct.Given as goal
 
 abbrev pub invariant-loop-first : goal.invariant-loop-first

@@ -1,6 +1,6 @@
 use Rattle.std.proofs.Common.{◌≡◌, length}
-use Rattle.tt_instance_data.specs.Courses.{conflict}
-use Rattle.tt_lists.specs.Words.{each_two}
+use Rattle.tt_instance.specs.Courses.{conflict}
+use Rattle.tt_list_laws.specs.Words.{each_two}
 use Rattle.tt_leaf_rules.proofs.groups.are_pairwise_in_conflict.Given as goal
 
 abbrev pub invariant-loop-first : goal.invariant-loop-first

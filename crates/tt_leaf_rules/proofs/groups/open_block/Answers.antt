@@ -1,7 +1,7 @@
 use Rattle.std.proofs.Common.{ℕ, ◌-◌, ◌*◌, length, ap, ◌∙◌}
 use Rattle.std.specs.Prelude.{nat_lt}
-use Rattle.tt_instance_data.specs.Cells.{slot, cell}
-use Rattle.tt_facts_path.specs.Live.{is_live}
+use Rattle.tt_instance.specs.Cells.{slot, cell}
+use Rattle.tt_path.specs.Live.{is_live}
 use Rattle.tt_leaf_rules.proofs.Blocks.{block_full}
 use Rattle.tt_leaf_rules.proofs.groups.open_block.Goals as goal
 

@@ -1,5 +1,5 @@
 use Rattle.std.proofs.Common.{◌*◌, length, ap, arith}
-use Rattle.tt_instance_data.specs.Cells.{slot}
+use Rattle.tt_instance.specs.Cells.{slot}
 use Rattle.tt_leaf_rules.specs.Inner.Nested.{live_in}
 use Rattle.tt_leaf_rules.proofs.Blocks.{block_next, blocks_whole}
 use Rattle.tt_leaf_rules.proofs.groups.open_in_period.Goals as goal

@@ -1,7 +1,7 @@
 use Rattle.std.proofs.Common.{◌≡◌, ◌≤◌, ◌*◌, ◌&&◌, length}
 use Rattle.std.specs.Prelude.{nat_lt, count_by}
-use Rattle.tt_lists.specs.Words.{range_below}
-use Rattle.tt_instance_data.specs.Cells.{slot}
+use Rattle.tt_list_laws.specs.Words.{range_below}
+use Rattle.tt_instance.specs.Cells.{slot}
 use Rattle.tt_leaf_rules.specs.Inner.Nested.{live_in}
 use Rattle.tt_leaf_rules.proofs.groups.open_in_period.Given as goal
 

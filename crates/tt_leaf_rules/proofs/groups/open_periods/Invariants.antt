@@ -1,6 +1,6 @@
 use Rattle.std.proofs.Common.{◌≡◌, ◌≤◌, ◌*◌}
 use Rattle.std.specs.Prelude.{sum_by}
-use Rattle.tt_lists.specs.Words.{range_below}
+use Rattle.tt_list_laws.specs.Words.{range_below}
 use Rattle.tt_leaf_rules.specs.Inner.Nested.{live_for}
 use Rattle.tt_leaf_rules.proofs.Week.{on_day}
 use Rattle.tt_leaf_rules.proofs.groups.open_periods.Given as goal

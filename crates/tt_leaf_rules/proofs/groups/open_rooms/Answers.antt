@@ -1,8 +1,8 @@
 use Rattle.std.proofs.Common.{◌≡◌, cond, length, take, ap, ◌∙◌, arith}
 use Rattle.std.specs.Prelude.{sum_by}
 use Rattle.std.proofs.Math.Seq.{take-length}
-use Rattle.tt_lists.proofs.Sums.{sum_by-swap}
-use Rattle.tt_instance_data.specs.Cells.{all_rooms, all_slots}
+use Rattle.tt_list_laws.proofs.Sums.{sum_by-swap}
+use Rattle.tt_instance.specs.Cells.{all_rooms, all_slots}
 use Rattle.tt_leaf_rules.specs.Inner.Nested.{live_in, open_in_period}
 use Rattle.tt_leaf_rules.proofs.groups.open_rooms.Goals as goal
 

@@ -1,6 +1,6 @@
 use Rattle.std.proofs.Common.{◌≡◌, ◌≤◌, ◌*◌, take}
 use Rattle.std.specs.Prelude.{sum_by}
-use Rattle.tt_instance_data.specs.Cells.{all_slots}
+use Rattle.tt_instance.specs.Cells.{all_slots}
 use Rattle.tt_leaf_rules.specs.Inner.Nested.{open_in_period}
 use Rattle.tt_leaf_rules.proofs.groups.open_rooms.Given as goal
 

@@ -1,8 +1,8 @@
 use Rattle.std.proofs.Common.{◌≡◌, ◌<◌, ◌≤◌, length, refl, sym, ap, ◌∙◌, subst, arith}
 use Rattle.std.specs.Prelude.{All}
-use Rattle.tt_instance_data.specs.Courses.{members}
-use Rattle.tt_instance_data.specs.Limits.{IsInstance}
-use Rattle.tt_instance_data.proofs.Limits.{members_below}
+use Rattle.tt_instance.specs.Courses.{members}
+use Rattle.tt_instance.specs.Limits.{IsInstance}
+use Rattle.tt_instance.proofs.Limits.{members_below}
 use Rattle.tt_leaf_rules.proofs.Alone.{all-isolated}
 use Rattle.tt_leaf_rules.proofs.isolated.isolated_on.Goals as goal
 

@@ -1,6 +1,6 @@
 use Rattle.std.proofs.Common.{◌*◌, ◌≤◌, ◌&&◌, ap, subst, arith}
-use Rattle.tt_facts_path.specs.Live.{pinned}
-use Rattle.tt_facts_path.specs.declared.facts.Who.TheVariants.{Curriculum}
+use Rattle.tt_path.specs.Live.{pinned}
+use Rattle.tt_path.specs.declared.facts.Who.TheVariants.{Curriculum}
 use Rattle.tt_leaf_rules.specs.Claims.{is_alone}
 use Rattle.tt_leaf_rules.proofs.Week.{week_next, week_whole, week_within}
 use Rattle.tt_leaf_rules.proofs.isolated.isolated_periods.Goals as goal

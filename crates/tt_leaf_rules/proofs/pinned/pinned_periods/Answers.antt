@@ -1,5 +1,5 @@
 use Rattle.std.proofs.Common.{◌*◌, ◌≤◌, ap, subst, arith}
-use Rattle.tt_facts_path.specs.Live.{pinned}
+use Rattle.tt_path.specs.Live.{pinned}
 use Rattle.tt_leaf_rules.proofs.Week.{week_next, week_whole, week_within}
 use Rattle.tt_leaf_rules.proofs.pinned.pinned_periods.Goals as goal
 

@@ -1,7 +1,7 @@
 use Rattle.std.proofs.Common.{◌≡◌, ◌≤◌, ◌*◌}
 use Rattle.std.specs.Prelude.{sum_by}
-use Rattle.tt_lists.specs.Words.{range_below}
-use Rattle.tt_facts_path.specs.Live.{pinned}
+use Rattle.tt_list_laws.specs.Words.{range_below}
+use Rattle.tt_path.specs.Live.{pinned}
 use Rattle.tt_leaf_rules.proofs.Week.{on_day}
 use Rattle.tt_leaf_rules.proofs.pinned.pinned_periods.Given as goal
 

@@ -1,6 +1,6 @@
 use Rattle.std.proofs.Common.{ℕ, ◌*◌, ◌<◌, length, arith}
 use Rattle.std.proofs.lemmas.List.Sums.{sum_by_more}
-use Rattle.tt_instance_data.specs.Courses.{lectures}
+use Rattle.tt_instance.specs.Courses.{lectures}
 use Rattle.tt_leaf_rules.proofs.prices.course_prices.Goals as goal
 
 pub loop-course-preserved : goal.loop-course-preserved

@@ -1,6 +1,6 @@
 use Rattle.std.proofs.Common.{◌≡◌, ◌≤◌, ◌*◌, ◌^◌, take}
 use Rattle.std.specs.Prelude.{sum_by}
-use Rattle.tt_instance_data.specs.Courses.{lectures}
+use Rattle.tt_instance.specs.Courses.{lectures}
 use Rattle.tt_leaf_rules.proofs.prices.course_prices.Given as goal
 
 abbrev pub invariant-loop-course : goal.invariant-loop-course

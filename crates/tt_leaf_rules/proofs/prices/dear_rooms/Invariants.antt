@@ -1,7 +1,7 @@
 use Rattle.std.proofs.Common.{◌≡◌, ℕ, ◌+◌, ◌<◌, ◌&&◌}
 use Rattle.std.specs.Prelude.{nat_lt}
 use Rattle.tt_bits.specs.Inner.Bits.{has_bit}
-use Rattle.tt_instance_data.specs.Courses.{excess}
+use Rattle.tt_instance.specs.Courses.{excess}
 use Rattle.tt_leaf_rules.specs.Claims.{price_in}
 use Rattle.tt_leaf_rules.proofs.prices.dear_rooms.Given as goal
 

@@ -1,7 +1,7 @@
 use Rattle.std.proofs.Common.{◌+◌, ◌*◌, ◌∙◌, length}
 use Rattle.std.specs.Prelude.{nat_lt}
-use Rattle.tt_instance_data.specs.Cells.{cell}
-use Rattle.tt_facts_path.specs.Live.{is_dead}
+use Rattle.tt_instance.specs.Cells.{cell}
+use Rattle.tt_path.specs.Live.{is_dead}
 use Rattle.tt_leaf_rules.proofs.Covering.{clear_word}
 use Rattle.tt_leaf_rules.proofs.prices.is_clear_in.Goals as goal
 

@@ -2,9 +2,9 @@ use Rattle.std.proofs.Common.{◌≡◌, ℕ, ◌+◌, ◌-◌, ◌*◌, ◌<◌
 use Rattle.std.specs.Prelude.{nat_lt}
 use Rattle.std.proofs.lemmas.Bool.{cases_lt}
 use Rattle.tt_bits.specs.Inner.Bits.{has_bit}
-use Rattle.tt_instance_data.specs.Courses.{excess}
-use Rattle.tt_instance_data.specs.Problem.{Problem}
-use Rattle.tt_lists.proofs.Range.{all_below}
+use Rattle.tt_instance.specs.Courses.{excess}
+use Rattle.tt_instance.specs.Problem.{Problem}
+use Rattle.tt_list_laws.proofs.Range.{all_below}
 use Rattle.tt_leaf_rules.specs.Claims.{price_in}
 use Rattle.tt_leaf_rules.specs.Inner.Nested.{covered_in}
 use Rattle.tt_leaf_rules.proofs.Covering.{block_covered, block_not_covered}

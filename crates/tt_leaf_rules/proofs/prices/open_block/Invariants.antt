@@ -1,7 +1,7 @@
 use Rattle.std.proofs.Common.{◌≡◌, ℕ, ◌+◌, ◌*◌, ◌<◌, ◌&&◌, take, length}
 use Rattle.std.specs.Prelude.{nat_lt}
 use Rattle.tt_bits.specs.Inner.Bits.{has_bit}
-use Rattle.tt_instance_data.specs.Cells.{slot}
+use Rattle.tt_instance.specs.Cells.{slot}
 use Rattle.tt_leaf_rules.specs.Inner.Nested.{priced_live_in}
 use Rattle.tt_leaf_rules.proofs.prices.open_block.Given as goal
 

@@ -1,6 +1,6 @@
 use Rattle.std.proofs.Common.{◌≡◌, ℕ, ◌*◌, ◌/◌, ◌%◌, ◌<◌, length, slice_index_or}
 use Rattle.tt_bits.specs.Inner.Bits.{has_bit}
-use Rattle.tt_instance_data.specs.Cells.{slot}
+use Rattle.tt_instance.specs.Cells.{slot}
 use Rattle.tt_leaf_rules.specs.Inner.Nested.{priced_live_in}
 use Rattle.tt_leaf_rules.proofs.prices.open_words.Given as goal
 

@@ -1,5 +1,5 @@
 use Rattle.std.proofs.Common.{◌≡◌, ℕ, ◌+◌, true, false, get_or, sym, ap, ◌∙◌, arith}
-use Rattle.tt_instance_data.specs.Cells.{slot}
+use Rattle.tt_instance.specs.Cells.{slot}
 use Rattle.tt_leaf_rules.specs.Inner.Nested.{priced_live_in}
 use Rattle.tt_leaf_rules.proofs.Covering.{paid_more}
 use Rattle.tt_leaf_rules.proofs.prices.paid_in_period.Goals as goal

@@ -1,10 +1,10 @@
 use Rattle.std.proofs.Common.{◌≡◌, ℕ, cond, length, take, ap, ◌∙◌, arith}
 use Rattle.std.specs.Prelude.{sum_by}
 use Rattle.std.proofs.Math.Seq.{take-length}
-use Rattle.tt_lists.proofs.Sums.{sum_by-swap}
-use Rattle.tt_instance_data.specs.Cells.{all_slots}
-use Rattle.tt_instance_data.specs.Problem.{Problem}
-use Rattle.tt_instance_data.specs.declared.cell.Slot.{Slot}
+use Rattle.tt_list_laws.proofs.Sums.{sum_by-swap}
+use Rattle.tt_instance.specs.Cells.{all_slots}
+use Rattle.tt_instance.specs.Problem.{Problem}
+use Rattle.tt_instance.specs.declared.cell.Slot.{Slot}
 use Rattle.tt_leaf_rules.specs.Inner.Nested.{priced_live_in}
 use Rattle.tt_leaf_rules.proofs.Covering.{paid_by_room}
 use Rattle.tt_leaf_rules.proofs.prices.room_prices.Goals as goal

@@ -1,6 +1,6 @@
 use Rattle.std.proofs.Common.{◌≡◌, ◌≤◌, ◌*◌, ◌^◌, cond, take}
 use Rattle.std.specs.Prelude.{sum_by}
-use Rattle.tt_instance_data.specs.Cells.{all_slots}
+use Rattle.tt_instance.specs.Cells.{all_slots}
 use Rattle.tt_leaf_rules.specs.Inner.Nested.{priced_live_in}
 use Rattle.tt_leaf_rules.proofs.prices.room_prices.Given as goal
 

@@ -1,6 +1,6 @@
 use Rattle.std.proofs.Common.{◌/◌, ◌%◌}
-use Rattle.tt_instance_data.specs.Cells.{slot}
-use Rattle.tt_instance_data.proofs.Slots.{slot_of_place, day_of_place}
+use Rattle.tt_instance.specs.Cells.{slot}
+use Rattle.tt_instance.proofs.Slots.{slot_of_place, day_of_place}
 use Rattle.tt_leaf_rules.proofs.slots.slot_at.Goals as goal
 
 pub returns-clause-value : goal.returns-clause-value

@@ -1,5 +1,5 @@
 use Rattle.std.proofs.Common.{◌*◌, sym, ap, ◌∙◌}
-use Rattle.tt_instance_data.proofs.Slots.{length-all_slots}
+use Rattle.tt_instance.proofs.Slots.{length-all_slots}
 use Rattle.tt_leaf_rules.proofs.slots.slot_count.Goals as goal
 
 pub returns-clause-value : goal.returns-clause-value

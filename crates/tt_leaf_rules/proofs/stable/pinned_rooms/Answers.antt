@@ -1,5 +1,5 @@
 use Rattle.std.proofs.Common.{◌*◌, length, ap, arith}
-use Rattle.tt_facts_path.specs.Live.{pinned_room}
+use Rattle.tt_path.specs.Live.{pinned_room}
 use Rattle.tt_leaf_rules.proofs.Blocks.{block_next, blocks_whole}
 use Rattle.tt_leaf_rules.proofs.stable.pinned_rooms.Goals as goal
 

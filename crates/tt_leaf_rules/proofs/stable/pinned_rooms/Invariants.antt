@@ -1,7 +1,7 @@
 use Rattle.std.proofs.Common.{◌≡◌, ◌≤◌, ◌*◌, ◌&&◌, length}
 use Rattle.std.specs.Prelude.{nat_lt, count_by}
-use Rattle.tt_lists.specs.Words.{range_below}
-use Rattle.tt_facts_path.specs.Live.{pinned_room}
+use Rattle.tt_list_laws.specs.Words.{range_below}
+use Rattle.tt_path.specs.Live.{pinned_room}
 use Rattle.tt_leaf_rules.proofs.stable.pinned_rooms.Given as goal
 
 abbrev pub invariant-loop-block : goal.invariant-loop-block

@@ -3,7 +3,7 @@ use Rattle.std.specs.List.{list_all}
 use Rattle.std.proofs.lemmas.List.Folds.{list_all-map}
 use Rattle.tt_leaf_rules.specs.Claims.{Target, RoomCapacity}
 use Rattle.tt_leaf_rules.specs.Inner.Nested.{claims_target, are_apart}
-use Rattle.tt_leaf_data.specs.declared.leaf.Claim.{Claim}
+use Rattle.tt_leaf.specs.declared.leaf.Claim.{Claim}
 use Rattle.tt_leaf_rules.proofs.targets.are_apart.Goals as goal
 
 pub returns-in-Prices : goal.returns-in-Prices

@@ -3,7 +3,7 @@ use Rattle.std.specs.Prelude.{◌==◌}
 use Rattle.std.specs.List.{list_any}
 use Rattle.tt_leaf_rules.specs.Claims.{RoomCapacity}
 use Rattle.tt_leaf_rules.specs.Inner.Nested.{claims_target}
-use Rattle.tt_leaf_data.specs.declared.leaf.Claim.{Claim}
+use Rattle.tt_leaf.specs.declared.leaf.Claim.{Claim}
 use Rattle.tt_leaf_rules.proofs.Apart.{priced_capacity}
 use Rattle.tt_leaf_rules.proofs.targets.has_capacity_target.Goals as goal
 

@@ -1,7 +1,7 @@
 use Rattle.tt_moves_chain.specs.Marks.{marked}
 use Rattle.tt_moves_chain.proofs.seeking.places_of.Goals.{then-flags-i+in_ok-push, else-flags-i}
 use Rattle.tt_moves_chain.proofs.seeking.places_of.Goals as goal
-use Rattle.tt_lists.proofs.Below.{filter_more-passing, filter_more-failing}
+use Rattle.tt_list_laws.proofs.Below.{filter_more-passing, filter_more-failing}
 
 pub loop-i-preserved : goal.loop-i-preserved
 loop-i-preserved c = elim c.if-flags-i.branch [

@@ -1,6 +1,6 @@
 use Rattle.std.proofs.Common.{◌≡◌, ℕ, ◌<◌, Bool, true}
 use Rattle.std.specs.Prelude.{slice_index_or}
-use Rattle.tt_instance_data.specs.declared.cell.Cell.{Cell}
+use Rattle.tt_instance.specs.declared.cell.Cell.{Cell}
 use Rattle.tt_moves_chain.specs.Chains.{linked, IsClosed}
 use Rattle.tt_moves_chain.specs.Marks.{marked, IsMarking}
 use Rattle.tt_moves_chain.proofs.spreading.reach.Given as goal

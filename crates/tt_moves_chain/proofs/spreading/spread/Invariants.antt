@@ -1,6 +1,6 @@
 use Rattle.std.proofs.Common.{◌≡◌, ℕ, ◌+◌, ◌-◌, ◌*◌, ◌<◌, Bool, true, length}
 use Rattle.std.specs.Prelude.{◌⊎◌, slice_index_or, Contains}
-use Rattle.tt_instance_data.specs.declared.cell.Cell.{Cell}
+use Rattle.tt_instance.specs.declared.cell.Cell.{Cell}
 use Rattle.tt_moves_chain.specs.Chains.{linked, IsClosed}
 use Rattle.tt_moves_chain.specs.Marks.{marked, marks}
 use Rattle.tt_moves_chain.proofs.spreading.spread.Given as goal

@@ -1,8 +1,8 @@
 use Rattle.std.proofs.Common.{◌≡◌, ℕ, ◌<◌, List, length, sym, ap, ◌∙◌, subst, get_or}
 use Rattle.std.specs.Prelude.{All}
 use Rattle.std.proofs.lemmas.List.{take_all}
-use Rattle.tt_lists.specs.Words.{has_number}
-use Rattle.tt_instance_data.specs.Cells.{InRange}
+use Rattle.tt_list_laws.specs.Words.{has_number}
+use Rattle.tt_instance.specs.Cells.{InRange}
 use Rattle.tt_rules.specs.Hard.{entries_of}
 use Rattle.tt_rules.specs.Score.{IsFeasible}
 use Rattle.tt_occupancy.specs.Filled.{Filled, no_entry}

@@ -1,5 +1,5 @@
 use Rattle.std.proofs.Common.{◌≡◌, take}
-use Rattle.tt_lists.specs.Words.{has_number}
+use Rattle.tt_list_laws.specs.Words.{has_number}
 use Rattle.tt_moves_chain.specs.Chains.{swapped}
 use Rattle.tt_moves_chain.proofs.turning.swap_chain.Given as goal
 

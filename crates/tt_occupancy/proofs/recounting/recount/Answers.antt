@@ -1,6 +1,6 @@
 use Rattle.std.proofs.Common.{arith}
 use Rattle.std.proofs.lemmas.List.Elements.{All-head, All-tail, All-cons}
-use Rattle.tt_instance_data.specs.Cells.{InRange}
+use Rattle.tt_instance.specs.Cells.{InRange}
 use Rattle.tt_occupancy.proofs.Exchanging.{exchange}
 use Rattle.tt_occupancy.proofs.recounting.recount.Goals as goal
 

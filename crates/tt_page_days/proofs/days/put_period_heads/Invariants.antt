@@ -1,6 +1,6 @@
 use Rattle.std.proofs.Common.{◌≡◌}
 use Rattle.std.specs.Prelude.{flat_map}
-use Rattle.tt_lists.specs.Words.{range_below}
+use Rattle.tt_list_laws.specs.Words.{range_below}
 use Rattle.tt_page_text.specs.Puts.{put_text}
 use Rattle.tt_page_days.specs.Days.{period_head}
 use Rattle.tt_page_days.proofs.days.put_period_heads.Given as goal

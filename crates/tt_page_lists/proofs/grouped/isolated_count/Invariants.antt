@@ -1,6 +1,6 @@
 use Rattle.std.proofs.Common.{◌≡◌, ◌≤◌, ◌&&◌, take}
 use Rattle.std.specs.Prelude.{count_by}
-use Rattle.tt_instance_data.specs.Courses.{in_curriculum}
+use Rattle.tt_instance.specs.Courses.{in_curriculum}
 use Rattle.tt_rules.specs.Soft.{is_isolated}
 use Rattle.tt_page_lists.proofs.grouped.isolated_count.Given as goal
 

@@ -1,6 +1,6 @@
 use Rattle.std.proofs.Common.{All, subst}
 use Rattle.std.proofs.lemmas.List.Elements.{All-tail}
-use Rattle.tt_instance_data.specs.Cells.{InRange}
+use Rattle.tt_instance.specs.Cells.{InRange}
 use Rattle.tt_page_text.proofs.Growing.{text_ahead}
 use Rattle.tt_page_lists.specs.Grouped.{crowded_line}
 use Rattle.tt_page_lists.proofs.grouped.put_crowded_lines.Goals as goal

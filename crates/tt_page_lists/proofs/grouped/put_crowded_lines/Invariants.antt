@@ -1,6 +1,6 @@
 use Rattle.std.proofs.Common.{◌≡◌, All}
 use Rattle.std.specs.Prelude.{flat_map}
-use Rattle.tt_instance_data.specs.Cells.{InRange}
+use Rattle.tt_instance.specs.Cells.{InRange}
 use Rattle.tt_page_text.specs.Puts.{put_text}
 use Rattle.tt_page_lists.specs.Grouped.{crowded_line}
 use Rattle.tt_page_lists.proofs.grouped.put_crowded_lines.Given as goal

@@ -1,8 +1,8 @@
 use Rattle.std.proofs.Common.{◌≡◌, ◌≤◌, ◌+◌, ◌*◌, All, length}
 use Rattle.std.specs.Prelude.{sum_by}
-use Rattle.tt_instance_data.specs.Cells.{InRange}
-use Rattle.tt_instance_data.specs.Courses.{excess}
-use Rattle.tt_instance_data.specs.declared.limit.TheConstants.{MAX_SEATS}
+use Rattle.tt_instance.specs.Cells.{InRange}
+use Rattle.tt_instance.specs.Courses.{excess}
+use Rattle.tt_instance.specs.declared.limit.TheConstants.{MAX_SEATS}
 use Rattle.tt_page_lists.proofs.grouped.seats_of.Given as goal
 
 abbrev pub invariant-loop-entry : goal.invariant-loop-entry

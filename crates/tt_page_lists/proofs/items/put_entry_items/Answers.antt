@@ -1,5 +1,5 @@
 use Rattle.std.proofs.Common.{◌≡◌, ◌+◌, ◌<◌, ◌≤◌, List, drop, get_or, length, subst, arith}
-use Rattle.tt_instance_data.specs.declared.cell.Cell.{Cell}
+use Rattle.tt_instance.specs.declared.cell.Cell.{Cell}
 use Rattle.tt_table.specs.Groups.{nobody}
 use Rattle.tt_page_text.specs.Puts.{put_text}
 use Rattle.tt_page_lists.specs.Items.{entry_item}

@@ -1,7 +1,7 @@
 use Rattle.std.proofs.Common.{◌≡◌, ◌+◌, drop, subst, ap, ◌∙◌}
 use Rattle.std.specs.Prelude.{count_by, filter, find, IfSome}
-use Rattle.tt_instance_data.specs.Problem.{Problem}
-use Rattle.tt_instance_data.specs.Cells.{InRange, is_at, slot_of}
+use Rattle.tt_instance.specs.Problem.{Problem}
+use Rattle.tt_instance.specs.Cells.{InRange, is_at, slot_of}
 use Rattle.tt_page_text.specs.Puts.{put_text}
 use Rattle.tt_page_lists.specs.Items.{is_odd}
 use Rattle.tt_page_lists.proofs.Pairs.{first_in, odds_first, odds_many, pairs_text}

@@ -1,5 +1,5 @@
 use Rattle.std.proofs.Common.{◌∙◌}
-use Rattle.tt_instance_data.specs.Cells.{is_of, is_in}
+use Rattle.tt_instance.specs.Cells.{is_of, is_in}
 use Rattle.tt_page_plan.proofs.Counting.{any_in_group}
 use Rattle.tt_page_plan.proofs.counts.is_taught_in.Goals as goal
 

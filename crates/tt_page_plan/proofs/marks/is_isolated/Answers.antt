@@ -1,5 +1,5 @@
 use Rattle.std.proofs.Common.{◌≡◌, true, false, not, refl, sym, rules}
-use Rattle.tt_instance_data.specs.Courses.{in_curriculum}
+use Rattle.tt_instance.specs.Courses.{in_curriculum}
 use Rattle.tt_page_plan.proofs.Neighbours.{alone}
 use Rattle.tt_page_plan.proofs.marks.is_isolated.Goals as goal
 

@@ -1,9 +1,9 @@
 use Rattle.std.proofs.Common.{Bool, ap, ◌∙◌}
 use Rattle.std.specs.List.{list_any}
-use Rattle.tt_instance_data.specs.Problem.{Problem}
-use Rattle.tt_instance_data.specs.Cells.{slot, is_at}
-use Rattle.tt_instance_data.specs.Courses.{in_curriculum}
-use Rattle.tt_instance_data.specs.declared.cell.Cell.{Cell}
+use Rattle.tt_instance.specs.Problem.{Problem}
+use Rattle.tt_instance.specs.Cells.{slot, is_at}
+use Rattle.tt_instance.specs.Courses.{in_curriculum}
+use Rattle.tt_instance.specs.declared.cell.Cell.{Cell}
 use Rattle.tt_page_plan.proofs.Counting.{any_in_group, list_any-turned}
 use Rattle.tt_page_plan.proofs.marks.is_taught.Goals as goal
 

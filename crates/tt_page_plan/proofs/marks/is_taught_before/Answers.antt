@@ -1,5 +1,5 @@
 use Rattle.std.proofs.Common.{sym, ◌∙◌, arith}
-use Rattle.tt_instance_data.specs.Courses.{in_curriculum}
+use Rattle.tt_instance.specs.Courses.{in_curriculum}
 use Rattle.tt_page_plan.proofs.Neighbours.{none_before, right_before}
 use Rattle.tt_page_plan.proofs.marks.is_taught_before.Goals as goal
 

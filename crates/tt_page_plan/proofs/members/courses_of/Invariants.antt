@@ -1,6 +1,6 @@
 use Rattle.std.proofs.Common.{◌≡◌}
 use Rattle.std.specs.Prelude.{◌==◌, filter}
-use Rattle.tt_lists.specs.Words.{range_below}
+use Rattle.tt_list_laws.specs.Words.{range_below}
 use Rattle.tt_page_plan.specs.Kinds.{teacher_of}
 use Rattle.tt_page_plan.proofs.members.courses_of.Given as goal
 

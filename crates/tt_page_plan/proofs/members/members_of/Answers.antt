@@ -1,5 +1,5 @@
 use Rattle.std.proofs.Common.{◌≡◌, true, false, sym, ◌∙◌}
-use Rattle.tt_instance_data.specs.Courses.{in_curriculum}
+use Rattle.tt_instance.specs.Courses.{in_curriculum}
 use Rattle.tt_page_plan.proofs.Passing.{number_kept, number_left_out}
 use Rattle.tt_page_plan.proofs.members.members_of.Goals as goal
 

@@ -1,5 +1,5 @@
 use Rattle.std.proofs.Common.{◌≡◌, All, map}
-use Rattle.tt_lists.specs.Words.{range_below}
+use Rattle.tt_list_laws.specs.Words.{range_below}
 use Rattle.tt_table.specs.Kinds.{name_of}
 use Rattle.tt_page_plan.proofs.order.named.Given as goal
 

@@ -1,6 +1,6 @@
 use Rattle.std.proofs.Common.{◌≡◌}
 use Rattle.std.specs.Prelude.{flat_map}
-use Rattle.tt_lists.specs.Words.{range_below}
+use Rattle.tt_list_laws.specs.Words.{range_below}
 use Rattle.tt_page_text.specs.Puts.{put_text}
 use Rattle.tt_page_weeks.specs.Grids.{cell_text}
 use Rattle.tt_page_weeks.proofs.grids.put_cells.Given as goal

@@ -1,8 +1,8 @@
 use Rattle.std.proofs.Common.{ap, ◌∙◌}
 use Rattle.std.specs.List.{list_any}
-use Rattle.tt_instance_data.specs.Problem.{Problem}
-use Rattle.tt_instance_data.specs.Cells.{slot, is_at}
-use Rattle.tt_instance_data.specs.Courses.{conflict}
+use Rattle.tt_instance.specs.Problem.{Problem}
+use Rattle.tt_instance.specs.Cells.{slot, is_at}
+use Rattle.tt_instance.specs.Courses.{conflict}
 use Rattle.tt_page_plan.proofs.Counting.{any_in_group}
 use Rattle.tt_page_weeks.proofs.marks.is_in_conflict.Goals as goal
 

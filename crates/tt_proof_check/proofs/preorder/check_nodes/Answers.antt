@@ -1,6 +1,6 @@
 use Rattle.std.proofs.Common.{subst, OnOk}
 use Rattle.std.specs.Prelude.{IsOkUnless}
-use Rattle.tt_instance_data.specs.Problem.{Problem}
+use Rattle.tt_instance.specs.Problem.{Problem}
 use Rattle.tt_proof_check.specs.Derives.{Proves, HoldsOfAll}
 use Rattle.tt_proof_check.specs.declared.fault.NodesFault.TheVariants.{OutOfMemory}
 use Rattle.tt_proof_check.proofs.InOrder.{checked_only, checked_holds}

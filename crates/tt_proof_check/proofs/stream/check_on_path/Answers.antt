@@ -1,7 +1,7 @@
 use Rattle.std.proofs.Common.{◌≡◌, ◌∙◌, Err, inl, inr, refl, ap, sym, subst, is_some}
 use Rattle.tt_text.specs.Feeds.{stream_at, fresh}
 use Rattle.tt_proof_read.specs.Faults.{read_failed, is_failed_read}
-use Rattle.tt_leaf_data.specs.declared.leaf.Bound.{Bound}
+use Rattle.tt_leaf.specs.declared.leaf.Bound.{Bound}
 use Rattle.tt_proof_check.specs.declared.fault.CheckFault.TheVariants.{Text}
 use Rattle.tt_proof_check.specs.Faults.{OutOfMemoryIsNoTextFault, is_failed_read as is_failed}
 use Rattle.tt_proof_check.specs.Visited.{Visited}

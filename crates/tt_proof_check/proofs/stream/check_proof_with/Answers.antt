@@ -1,7 +1,7 @@
 use Rattle.std.proofs.Common.{◌≡◌, ℕ, true, List, Some, IfOk, subst, is_some}
 use Rattle.std.specs.Prelude.{IfErr}
 use Rattle.tt_text.specs.Feeds.{stream_at, fresh}
-use Rattle.tt_instance_data.specs.Problem.{Problem}
+use Rattle.tt_instance.specs.Problem.{Problem}
 use Rattle.tt_proof_check.specs.Derives.{HoldsOfAll}
 use Rattle.tt_proof_check.specs.FailedReads.{IsCutOff, UpToFailure}
 use Rattle.tt_proof_check.specs.Visited.{Visited, IsVisitedProof}

@@ -1,7 +1,7 @@
 use Rattle.std.proofs.Common.{◌≡◌, ◌+◌, sym, ap, subst, ◌∙◌, arith, refl, true, Err, is_some}
 use Rattle.tt_text.specs.Feeds.{stream_at}
 use Rattle.tt_text.specs.CutShort.{cut_at}
-use Rattle.tt_instance_data.specs.Problem.{Problem}
+use Rattle.tt_instance.specs.Problem.{Problem}
 use Rattle.tt_proof_read.specs.Faults.{read_failed, is_failed_read}
 use Rattle.tt_proof_read.specs.Readers.{Reader}
 use Rattle.tt_proof_check.specs.declared.fault.CheckFault.TheVariants.{Text}

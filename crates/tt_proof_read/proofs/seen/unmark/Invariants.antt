@@ -1,5 +1,5 @@
 use Rattle.std.proofs.Common.{◌≡◌, ℕ, not, ◌&&◌, false, take, slice_index_or}
-use Rattle.tt_lists.specs.Words.{has_number}
+use Rattle.tt_list_laws.specs.Words.{has_number}
 use Rattle.tt_proof_read.proofs.seen.unmark.Given as goal
 
 abbrev pub invariant-loop-number : goal.invariant-loop-number

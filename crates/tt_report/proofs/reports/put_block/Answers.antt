@@ -1,6 +1,6 @@
 use Rattle.std.proofs.Common.{◌≡◌, subst, arith}
 use Rattle.std.specs.Prelude.{flat_map}
-use Rattle.tt_lists.specs.Words.{range_below}
+use Rattle.tt_list_laws.specs.Words.{range_below}
 use Rattle.tt_text.specs.Lines.{line_text}
 use Rattle.tt_report.specs.Inner.Blocks.{head_of, day_text}
 use Rattle.tt_text_output.specs.Puts.{Puts}

@@ -1,6 +1,6 @@
 use Rattle.std.proofs.Common.{All, subst, sym, ◌∙◌}
 use Rattle.std.proofs.lemmas.List.Elements.{All-tail}
-use Rattle.tt_instance_data.specs.Cells.{InRange}
+use Rattle.tt_instance.specs.Cells.{InRange}
 use Rattle.tt_report.proofs.Written.{entries_begun, entry_shown, entry_passed}
 use Rattle.tt_report.proofs.reports.put_entries.Goals as goal
 

@@ -1,5 +1,5 @@
 use Rattle.std.proofs.Common.{All}
-use Rattle.tt_instance_data.specs.Cells.{InRange}
+use Rattle.tt_instance.specs.Cells.{InRange}
 use Rattle.tt_report.proofs.Written.{EntriesPut}
 use Rattle.tt_report.proofs.reports.put_entries.Given as goal
 

@@ -1,6 +1,6 @@
 use Rattle.std.proofs.Common.{All, subst, sym}
 use Rattle.std.proofs.lemmas.List.Elements.{All-filter}
-use Rattle.tt_instance_data.specs.Cells.{InRange, is_at, slot}
+use Rattle.tt_instance.specs.Cells.{InRange, is_at, slot}
 use Rattle.tt_report.proofs.Written.{slot_put}
 use Rattle.tt_report.proofs.reports.put_slot.Goals as goal
 

@@ -1,6 +1,6 @@
 use Rattle.std.proofs.Common.{◌≡◌, ◌≤◌, ◌*◌, take}
 use Rattle.std.specs.Prelude.{sum_by}
-use Rattle.tt_instance_data.specs.Courses.{excess}
+use Rattle.tt_instance.specs.Courses.{excess}
 use Rattle.tt_rules.proofs.capacity.students_without_seat.Given as goal
 
 abbrev pub invariant-loop-entry : goal.invariant-loop-entry

@@ -1,7 +1,7 @@
 use Rattle.std.proofs.Common.{◌≡◌, ℕ, ◌&&◌, get_or, count_by, ap, ◌∙◌, arith}
 use Rattle.std.proofs.lemmas.List.Sums.{sum_by_more}
-use Rattle.tt_lists.proofs.Filters.{count_by-of_filter}
-use Rattle.tt_instance_data.specs.Cells.{is_of}
+use Rattle.tt_list_laws.proofs.Filters.{count_by-of_filter}
+use Rattle.tt_instance.specs.Cells.{is_of}
 use Rattle.tt_rules.specs.Inner.Places.{is_alone}
 use Rattle.tt_rules.proofs.compactness.alone_of.Goals as goal
 

@@ -1,6 +1,6 @@
 use Rattle.std.proofs.Common.{◌≡◌, ◌≤◌, ◌*◌, ◌&&◌, take}
 use Rattle.std.specs.Prelude.{sum_by, count_by}
-use Rattle.tt_instance_data.specs.Cells.{is_of}
+use Rattle.tt_instance.specs.Cells.{is_of}
 use Rattle.tt_rules.specs.Inner.Places.{is_alone}
 use Rattle.tt_rules.proofs.compactness.alone_of.Given as goal
 

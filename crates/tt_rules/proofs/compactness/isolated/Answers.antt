@@ -1,9 +1,9 @@
 use Rattle.std.proofs.Common.{◌≡◌, ℕ, ◌<◌, ◌&&◌, false, All, slice_index_or, sum_by, count_by, subst, sym}
 use Rattle.std.specs.Prelude.{◌==◌}
 use Rattle.std.specs.List.{list_any}
-use Rattle.tt_lists.proofs.Counting.{few_counted}
-use Rattle.tt_instance_data.specs.Cells.{is_of}
-use Rattle.tt_instance_data.specs.Courses.{in_curriculum}
+use Rattle.tt_list_laws.proofs.Counting.{few_counted}
+use Rattle.tt_instance.specs.Cells.{is_of}
+use Rattle.tt_instance.specs.Courses.{in_curriculum}
 use Rattle.tt_rules.specs.Soft.{is_isolated}
 use Rattle.tt_rules.specs.Inner.Places.{place_of, is_alone}
 use Rattle.tt_rules.proofs.Neighbours.{isolated_counted, members_few}

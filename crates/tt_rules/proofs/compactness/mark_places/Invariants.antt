@@ -1,7 +1,7 @@
 use Rattle.std.proofs.Common.{All, ◌||◌, false, slice_index_or}
 use Rattle.std.specs.Prelude.{◌==◌}
 use Rattle.std.specs.List.{list_any}
-use Rattle.tt_instance_data.specs.Cells.{InRange}
+use Rattle.tt_instance.specs.Cells.{InRange}
 use Rattle.tt_rules.specs.Inner.Places.{place_of}
 use Rattle.tt_rules.proofs.Marking.{MarksTo}
 use Rattle.tt_rules.proofs.compactness.mark_places.Given as goal

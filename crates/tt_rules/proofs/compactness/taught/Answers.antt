@@ -3,8 +3,8 @@ use Rattle.std.specs.Prelude.{◌==◌}
 use Rattle.std.specs.List.{list_any}
 use Rattle.std.proofs.lemmas.List.Folds.{list_any_more}
 use Rattle.std.proofs.lemmas.List.Elements.{All-filter}
-use Rattle.tt_lists.proofs.Filters.{list_any-of_filter}
-use Rattle.tt_instance_data.specs.Cells.{InRange, is_of}
+use Rattle.tt_list_laws.proofs.Filters.{list_any-of_filter}
+use Rattle.tt_instance.specs.Cells.{InRange, is_of}
 use Rattle.tt_rules.specs.Inner.Places.{place_of}
 use Rattle.tt_rules.proofs.compactness.taught.Goals as goal
 

@@ -1,7 +1,7 @@
 use Rattle.std.proofs.Common.{◌≡◌, ℕ, ◌&&◌, false, slice_index_or, take}
 use Rattle.std.specs.Prelude.{◌==◌}
 use Rattle.std.specs.List.{list_any}
-use Rattle.tt_instance_data.specs.Cells.{is_of}
+use Rattle.tt_instance.specs.Cells.{is_of}
 use Rattle.tt_rules.specs.Inner.Places.{place_of}
 use Rattle.tt_rules.proofs.compactness.taught.Given as goal
 

@@ -1,10 +1,10 @@
 use Rattle.std.proofs.Common.{◌≡◌, ◌+◌, drop, count_by, ap, ◌∙◌, subst}
 use Rattle.std.specs.Prelude.{filter, IfSome}
-use Rattle.tt_instance_data.specs.Courses.{conflict}
+use Rattle.tt_instance.specs.Courses.{conflict}
 use Rattle.tt_table.specs.Groups.{in_group, group_of}
 use Rattle.std.proofs.lemmas.Option.{get_or_from_slice_get, slice_get_within}
 use Rattle.std.proofs.lemmas.List.Elements.{All-drop}
-use Rattle.tt_instance_data.specs.Cells.{InRange}
+use Rattle.tt_instance.specs.Cells.{InRange}
 use Rattle.tt_table.specs.declared.groups.GroupBy.TheVariants.{Period}
 use Rattle.tt_rules.proofs.Pairs.{collide_behind}
 use Rattle.tt_rules.proofs.conflicts.against.Goals as goal

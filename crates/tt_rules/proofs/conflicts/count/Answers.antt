@@ -1,5 +1,5 @@
 use Rattle.std.proofs.Common.{◌≡◌, List, ◌+◌, ◌≤◌, length, drop, count_by, get_or, subst, arith}
-use Rattle.tt_instance_data.specs.declared.cell.Cell.{Cell}
+use Rattle.tt_instance.specs.declared.cell.Cell.{Cell}
 use Rattle.tt_rules.specs.Hard.{collide}
 use Rattle.tt_table.specs.Groups.{nobody}
 use Rattle.tt_rules.proofs.Pairs.{pairs_more}

@@ -1,5 +1,5 @@
 use Rattle.std.proofs.Common.{◌≡◌, ◌≤◌, ◌*◌, ◌+◌, drop}
-use Rattle.tt_lists.specs.Words.{count_pairs}
+use Rattle.tt_list_laws.specs.Words.{count_pairs}
 use Rattle.tt_rules.specs.Hard.{collide}
 use Rattle.tt_rules.proofs.conflicts.count.Given as goal
 

@@ -1,7 +1,7 @@
 use Rattle.std.proofs.Common.{All, subst}
 use Rattle.std.specs.List.{list_any}
 use Rattle.std.proofs.lemmas.List.Elements.{All-tail}
-use Rattle.tt_instance_data.specs.Cells.{InRange, is_on}
+use Rattle.tt_instance.specs.Cells.{InRange, is_on}
 use Rattle.tt_rules.proofs.Marking.{marks_more}
 use Rattle.tt_rules.proofs.distinct.days.Goals as goal
 

@@ -1,6 +1,6 @@
 use Rattle.std.proofs.Common.{All}
 use Rattle.std.specs.List.{list_any}
-use Rattle.tt_instance_data.specs.Cells.{InRange, is_in}
+use Rattle.tt_instance.specs.Cells.{InRange, is_in}
 use Rattle.tt_rules.proofs.Marking.{MarksTo}
 use Rattle.tt_rules.proofs.distinct.rooms.Given as goal
 

@@ -1,8 +1,8 @@
 use Rattle.std.proofs.Common.{All, count_by, sym, ap, ◌∙◌, subst}
 use Rattle.std.specs.List.{list_any}
 use Rattle.std.proofs.lemmas.List.Elements.{All-filter}
-use Rattle.tt_lists.proofs.Filters.{distinct_filtered}
-use Rattle.tt_instance_data.specs.Cells.{InRange, is_of, is_at, all_slots}
+use Rattle.tt_list_laws.proofs.Filters.{distinct_filtered}
+use Rattle.tt_instance.specs.Cells.{InRange, is_of, is_at, all_slots}
 use Rattle.tt_rules.proofs.lectures.periods_of.Goals as goal
 
 pub periods-requires : goal.periods-requires

@@ -1,7 +1,7 @@
 use Rattle.std.proofs.Common.{◌≡◌, ◌≤◌, ◌*◌, ◌-◌}
 use Rattle.std.specs.Prelude.{sum_by}
-use Rattle.tt_lists.specs.Words.{range_below}
-use Rattle.tt_instance_data.specs.Cells.{all_slots}
+use Rattle.tt_list_laws.specs.Words.{range_below}
+use Rattle.tt_instance.specs.Cells.{all_slots}
 use Rattle.tt_rules.specs.Hard.{entries_in}
 use Rattle.tt_rules.proofs.occupancy.count.Given as goal
 

@@ -1,4 +1,4 @@
-use Rattle.tt_instance_data.specs.Cells.{is_in}
+use Rattle.tt_instance.specs.Cells.{is_in}
 use Rattle.tt_rules.proofs.Periods.{entries_but_first}
 use Rattle.tt_rules.proofs.occupancy.doubled.Goals as goal
 

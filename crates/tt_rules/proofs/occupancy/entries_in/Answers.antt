@@ -1,6 +1,6 @@
 use Rattle.std.proofs.Common.{length, ap, ◌∙◌}
 use Rattle.std.proofs.lemmas.List.Sums.{length-filter}
-use Rattle.tt_instance_data.specs.Cells.{is_in}
+use Rattle.tt_instance.specs.Cells.{is_in}
 use Rattle.tt_rules.proofs.occupancy.entries_in.Goals as goal
 
 pub returns-clause-count : goal.returns-clause-count

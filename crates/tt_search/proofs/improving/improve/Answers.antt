@@ -1,6 +1,6 @@
 use Rattle.std.proofs.Common.{◌-◌, ◌/◌, subst, sym}
-use Rattle.tt_search_walk.specs.Improved.{IsDescended}
-use Rattle.tt_search_walk.proofs.Improvements.{no_worse_then_down, no_worse_down}
+use Rattle.tt_walk.specs.Improved.{IsDescended}
+use Rattle.tt_walk.proofs.Improvements.{no_worse_then_down, no_worse_down}
 use Rattle.tt_search.proofs.improving.improve.Goals as goal
 
 pub returns-clause-descended : goal.returns-clause-descended

@@ -1,7 +1,7 @@
 use Rattle.std.proofs.Common.{sym, subst, ◌∙◌, refl, arith}
-use Rattle.tt_search_walk.specs.Improved.{LeadsWithin}
-use Rattle.tt_search_walk.specs.Inner.Pairs.{IsBest}
-use Rattle.tt_search_walk.proofs.Improvements.{leads_here, leads_then}
+use Rattle.tt_walk.specs.Improved.{LeadsWithin}
+use Rattle.tt_walk.specs.Inner.Pairs.{IsBest}
+use Rattle.tt_walk.proofs.Improvements.{leads_here, leads_then}
 use Rattle.tt_search.proofs.improving.walk_phases.Goals as goal
 
 pub loop-phase-init : goal.loop-phase-init

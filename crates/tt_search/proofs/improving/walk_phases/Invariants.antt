@@ -1,7 +1,7 @@
 use Rattle.std.proofs.Common.{◌≡◌, ◌<◌, ◌≤◌, List, length}
-use Rattle.tt_instance_data.specs.declared.cell.Cell.{Cell}
-use Rattle.tt_search_walk.specs.Improved.{LeadsWithin}
-use Rattle.tt_search_walk.specs.Inner.Pairs.{IsBest}
+use Rattle.tt_instance.specs.declared.cell.Cell.{Cell}
+use Rattle.tt_walk.specs.Improved.{LeadsWithin}
+use Rattle.tt_walk.specs.Inner.Pairs.{IsBest}
 use Rattle.tt_search.proofs.improving.walk_phases.Given as goal
 
 abbrev pub invariant-loop-phase : goal.invariant-loop-phase

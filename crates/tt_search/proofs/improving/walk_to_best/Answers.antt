@@ -1,7 +1,7 @@
 use Rattle.std.proofs.Common.{◌-◌, subst, sym, arith}
-use Rattle.tt_search_walk.specs.Improved.{IsNoWorse, LeadsWithin}
-use Rattle.tt_search_walk.specs.Inner.Pairs.{IsBest}
-use Rattle.tt_search_walk.proofs.Improvements.{leads_here, leads_then}
+use Rattle.tt_walk.specs.Improved.{IsNoWorse, LeadsWithin}
+use Rattle.tt_walk.specs.Inner.Pairs.{IsBest}
+use Rattle.tt_walk.proofs.Improvements.{leads_here, leads_then}
 use Rattle.tt_search.proofs.improving.walk_to_best.Goals as goal
 
 pub returns-then-is_empty-clause-reached : goal.returns-then-is_empty-clause-reached

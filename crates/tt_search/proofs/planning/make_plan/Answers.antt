@@ -1,4 +1,4 @@
-use Rattle.tt_search_walk.proofs.Improvements.{leads_here}
+use Rattle.tt_walk.proofs.Improvements.{leads_here}
 use Rattle.tt_search.proofs.planning.make_plan.Goals as goal
 
 pub returns-then-count-left-clause-reached : goal.returns-then-count-left-clause-reached

@@ -1,5 +1,5 @@
 use Rattle.std.proofs.Common.{◌≡◌}
-use Rattle.tt_search_walk.specs.Improved.{courses_of, LeadsWithin}
+use Rattle.tt_walk.specs.Improved.{courses_of, LeadsWithin}
 use Rattle.tt_search.proofs.planning.make_steps.Given as goal
 
 abbrev pub invariant-loop-step : goal.invariant-loop-step

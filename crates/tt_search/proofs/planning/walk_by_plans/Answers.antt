@@ -1,10 +1,10 @@
 use Rattle.std.proofs.Common.{◌≡◌, ◌+◌, List, refl, sym, subst, ◌∙◌, inl, inr, arith}
-use Rattle.tt_instance_data.specs.Problem.{Problem}
-use Rattle.tt_instance_data.specs.declared.cell.Cell.{Cell}
-use Rattle.tt_search_walk.specs.Improved.{courses_of, LeadsWithin}
-use Rattle.tt_search_walk.specs.Inner.Pairs.{IsBest}
-use Rattle.tt_search_walk.specs.declared.best.Best.{Best}
-use Rattle.tt_search_walk.proofs.Improvements.{leads_here, leads_more, leads_then}
+use Rattle.tt_instance.specs.Problem.{Problem}
+use Rattle.tt_instance.specs.declared.cell.Cell.{Cell}
+use Rattle.tt_walk.specs.Improved.{courses_of, LeadsWithin}
+use Rattle.tt_walk.specs.Inner.Pairs.{IsBest}
+use Rattle.tt_walk.specs.declared.best.Best.{Best}
+use Rattle.tt_walk.proofs.Improvements.{leads_here, leads_more, leads_then}
 use Rattle.tt_search.proofs.planning.walk_by_plans.Goals as goal
 
 pub loop-plan-init : goal.loop-plan-init

@@ -1,7 +1,7 @@
 use Rattle.std.proofs.Common.{◌≡◌, ◌≤◌, List}
-use Rattle.tt_instance_data.specs.declared.cell.Cell.{Cell}
-use Rattle.tt_search_walk.specs.Improved.{courses_of, LeadsWithin}
-use Rattle.tt_search_walk.specs.Inner.Pairs.{IsBest}
+use Rattle.tt_instance.specs.declared.cell.Cell.{Cell}
+use Rattle.tt_walk.specs.Improved.{courses_of, LeadsWithin}
+use Rattle.tt_walk.specs.Inner.Pairs.{IsBest}
 use Rattle.tt_search.proofs.planning.walk_by_plans.Given as goal
 
 abbrev pub invariant-loop-plan : goal.invariant-loop-plan

@@ -1,6 +1,6 @@
 use Rattle.std.proofs.Common.{◌+◌, ◌<◌, length, take, refl, ap, ◌∙◌, arith}
 use Rattle.tt_moves.specs.Steps.{entry_at}
-use Rattle.tt_search_walk.specs.Improved.{courses_of}
+use Rattle.tt_walk.specs.Improved.{courses_of}
 use Rattle.tt_search.proofs.Restored.{length_same, courses_restored, front_restored}
 use Rattle.tt_search.proofs.restoring.restore.Goals as goal
 

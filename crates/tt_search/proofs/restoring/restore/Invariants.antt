@@ -1,5 +1,5 @@
 use Rattle.std.proofs.Common.{◌≡◌, take}
-use Rattle.tt_search_walk.specs.Improved.{courses_of}
+use Rattle.tt_walk.specs.Improved.{courses_of}
 use Rattle.tt_search.proofs.restoring.restore.Given as goal
 
 abbrev pub invariant-loop-index : goal.invariant-loop-index

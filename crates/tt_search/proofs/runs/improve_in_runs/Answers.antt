@@ -1,6 +1,6 @@
 use Rattle.std.proofs.Common.{◌+◌, ◌≡◌, ◌-◌, ◌/◌, suc, refl, subst, arith, rules, inl, inr}
 use Rattle.tt_search.specs.Runs.{Runs}
-use Rattle.tt_search_walk.proofs.Improvements.{IsNoWorse-refl, IsNoWorse-trans}
+use Rattle.tt_walk.proofs.Improvements.{IsNoWorse-refl, IsNoWorse-trans}
 use Rattle.tt_search.proofs.runs.improve_in_runs.Goals as goal
 
 pub loop-run-init : goal.loop-run-init

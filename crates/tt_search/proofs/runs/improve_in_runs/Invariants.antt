@@ -1,5 +1,5 @@
 use Rattle.std.proofs.Common.{◌-◌, ◌/◌}
-use Rattle.tt_search_walk.specs.Improved.{IsNoWorse}
+use Rattle.tt_walk.specs.Improved.{IsNoWorse}
 use Rattle.tt_search.specs.Runs.{Runs}
 use Rattle.tt_search.proofs.runs.improve_in_runs.Given as goal
 

@@ -1,4 +1,4 @@
-use Rattle.tt_search_construct.specs.Inner.Filled.{HasMore}
+use Rattle.tt_construct.specs.Inner.Filled.{HasMore}
 use Rattle.tt_search_complete.specs.Inner.Progress.{Begins}
 use Rattle.tt_search_complete.proofs.adding.add_lectures.Given as goal
 

@@ -1,11 +1,11 @@
 use Rattle.std.proofs.Common.{◌≡◌, ◌&&◌, ap, ◌∙◌, arith}
 use Rattle.std.specs.Prelude.{count_by}
-use Rattle.tt_lists.proofs.Sums.{one_if}
-use Rattle.tt_instance_data.specs.Problem.{Problem}
-use Rattle.tt_instance_data.specs.Cells.{slot_of, is_at}
-use Rattle.tt_instance_data.specs.Courses.{conflict}
-use Rattle.tt_instance_data.specs.declared.cell.Cell.{Cell}
-use Rattle.tt_occupancy_tallies.proofs.Against.{against_is}
+use Rattle.tt_list_laws.proofs.Sums.{one_if}
+use Rattle.tt_instance.specs.Problem.{Problem}
+use Rattle.tt_instance.specs.Cells.{slot_of, is_at}
+use Rattle.tt_instance.specs.Courses.{conflict}
+use Rattle.tt_instance.specs.declared.cell.Cell.{Cell}
+use Rattle.tt_tallies.proofs.Against.{against_is}
 use Rattle.tt_moves.proofs.rest.WithoutEntry.against.Goals as goal
 
 pub returns-clause-value : goal.returns-clause-value

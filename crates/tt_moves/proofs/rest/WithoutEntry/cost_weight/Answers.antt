@@ -1,5 +1,5 @@
 use Rattle.std.proofs.Common.{ap, arith}
-use Rattle.tt_instance_data.specs.Courses.{students, capacity}
+use Rattle.tt_instance.specs.Courses.{students, capacity}
 use Rattle.tt_moves.proofs.rest.WithoutEntry.cost_weight.Goals as goal
 
 pub returns : goal.returns

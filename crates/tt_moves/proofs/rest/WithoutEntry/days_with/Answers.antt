@@ -1,6 +1,6 @@
 use Rattle.std.proofs.Common.{◌-◌, ap, arith}
 use Rattle.std.specs.Prelude.{◌==◌}
-use Rattle.tt_lists.proofs.Sums.{one_if}
+use Rattle.tt_list_laws.proofs.Sums.{one_if}
 use Rattle.tt_moves.proofs.Rests.{some_used, some_taken, used_anew_is}
 use Rattle.tt_moves.proofs.rest.WithoutEntry.days_with.Goals as goal
 

@@ -1,6 +1,6 @@
 use Rattle.std.proofs.Common.{ap, ◌∙◌, arith}
-use Rattle.tt_lists.proofs.Sums.{one_if}
-use Rattle.tt_instance_data.specs.Courses.{unavailable}
+use Rattle.tt_list_laws.proofs.Sums.{one_if}
+use Rattle.tt_instance.specs.Courses.{unavailable}
 use Rattle.tt_moves.proofs.rest.WithoutEntry.hard_weight.Goals as goal
 
 pub returns-clause-value : goal.returns-clause-value

@@ -1,5 +1,5 @@
 use Rattle.std.proofs.Common.{ap, ◌∙◌}
-use Rattle.tt_lists.proofs.Sums.{one_if}
+use Rattle.tt_list_laws.proofs.Sums.{one_if}
 use Rattle.tt_moves.proofs.Rests.{repeats_is}
 use Rattle.tt_moves.proofs.rest.WithoutEntry.has_repeat.Goals as goal
 

@@ -1,9 +1,9 @@
 use Rattle.std.proofs.Common.{◌≡◌, ◌&&◌, ap, ◌∙◌, arith}
 use Rattle.std.specs.Prelude.{nat_lt, count_by}
-use Rattle.tt_lists.proofs.Sums.{one_if}
-use Rattle.tt_instance_data.specs.Cells.{slot_of, is_at, is_in}
-use Rattle.tt_instance_data.specs.declared.cell.Cell.{Cell}
-use Rattle.tt_occupancy_tallies.proofs.Chosen.{any_counted}
+use Rattle.tt_list_laws.proofs.Sums.{one_if}
+use Rattle.tt_instance.specs.Cells.{slot_of, is_at, is_in}
+use Rattle.tt_instance.specs.declared.cell.Cell.{Cell}
+use Rattle.tt_tallies.proofs.Chosen.{any_counted}
 use Rattle.tt_moves.proofs.rest.WithoutEntry.has_shared_room.Goals as goal
 
 pub returns : goal.returns

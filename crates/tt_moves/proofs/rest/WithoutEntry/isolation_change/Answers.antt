@@ -1,8 +1,8 @@
 use Rattle.std.proofs.Common.{sym, ap, ◌∙◌, subst, arith, take}
 use Rattle.std.specs.Prelude.{filter}
 use Rattle.std.proofs.lemmas.List.{take_all, take_more}
-use Rattle.tt_instance_data.specs.Cells.{all_curricula}
-use Rattle.tt_instance_data.specs.Courses.{in_curriculum}
+use Rattle.tt_instance.specs.Cells.{all_curricula}
+use Rattle.tt_instance.specs.Courses.{in_curriculum}
 use Rattle.tt_occupancy.specs.Inner.NeighbourCounts.{IsIsolationChange}
 use Rattle.tt_occupancy.proofs.TakenPeriods.{gaps_alone, gaps_joined}
 use Rattle.tt_moves.proofs.rest.WithoutEntry.isolation_change.Goals as goal

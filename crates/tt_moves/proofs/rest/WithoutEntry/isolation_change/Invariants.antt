@@ -1,5 +1,5 @@
 use Rattle.std.proofs.Common.{◌+◌, ◌*◌, ◌≤◌, List, take}
-use Rattle.tt_instance_data.specs.declared.cell.Cell.{Cell}
+use Rattle.tt_instance.specs.declared.cell.Cell.{Cell}
 use Rattle.tt_occupancy.specs.Inner.NeighbourCounts.{IsIsolationChange}
 use Rattle.tt_moves.specs.Inner.Rests.{IsRest}
 use Rattle.tt_table.specs.declared.table.TheConstants.{MAX_ENTRIES}

@@ -1,5 +1,5 @@
 use Rattle.std.proofs.Common.{ap, arith}
-use Rattle.tt_instance_data.specs.Courses.{min_days}
+use Rattle.tt_instance.specs.Courses.{min_days}
 use Rattle.tt_moves.proofs.rest.WithoutEntry.spread_cost.Goals as goal
 
 pub returns-clause-value : goal.returns-clause-value

@@ -1,5 +1,5 @@
 use Rattle.std.proofs.Common.{◌≡◌, ℕ, ◌<◌, true}
-use Rattle.tt_lists.specs.Words.{has_number}
+use Rattle.tt_list_laws.specs.Words.{has_number}
 use Rattle.tt_occupancy.specs.Filled.{entry_at}
 use Rattle.tt_moves_chain.specs.Chains.{linked}
 use Rattle.tt_moves_chain.proofs.kempe.Chain.has_links_of.Given as goal

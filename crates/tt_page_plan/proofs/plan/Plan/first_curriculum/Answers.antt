@@ -1,7 +1,7 @@
 use Rattle.std.proofs.Common.{◌≡◌, ◌<◌, length, subst, sym, ap, ◌∙◌}
 use Rattle.std.specs.Prelude.{List, ℕ, slice_get}
-use Rattle.tt_instance_data.specs.Cells.{all_curricula}
-use Rattle.tt_instance_data.specs.Courses.{in_curriculum}
+use Rattle.tt_instance.specs.Cells.{all_curricula}
+use Rattle.tt_instance.specs.Courses.{in_curriculum}
 use Rattle.tt_page_plan.specs.Kinds.{first_curriculum}
 use Rattle.tt_page_plan.specs.Planned.{Planned}
 use Rattle.tt_page_plan.proofs.First.{first-filter}

@@ -1,6 +1,6 @@
 use Rattle.std.proofs.Common.{◌≡◌, ◌+◌, ◌<◌, All, drop, length, subst, sym}
 use Rattle.std.specs.Prelude.{filter, slice_get, IfSome}
-use Rattle.tt_instance_data.specs.Cells.{InRange, is_at, slot_of}
+use Rattle.tt_instance.specs.Cells.{InRange, is_at, slot_of}
 use Rattle.tt_page_plan.specs.Planned.{Planned}
 use Rattle.tt_page_plan.proofs.Later.{later_group, later_in_range}
 use Rattle.tt_page_plan.proofs.plan.Plan.later.Goals as goal

@@ -1,7 +1,7 @@
 use Rattle.std.proofs.Common.{All, subst, sym, ap, ◌∙◌}
 use Rattle.std.specs.Prelude.{filter}
 use Rattle.std.proofs.lemmas.List.Elements.{All-filter}
-use Rattle.tt_instance_data.specs.Cells.{InRange, is_of}
+use Rattle.tt_instance.specs.Cells.{InRange, is_of}
 use Rattle.tt_table.specs.Groups.{Grouped}
 use Rattle.tt_page_plan.specs.Planned.{Planned}
 use Rattle.tt_page_plan.proofs.plan.Plan.of_course.Goals as goal

@@ -1,6 +1,6 @@
 use Rattle.std.proofs.Common.{ℕ, ◌<◌, sym, subst}
 use Rattle.tt_leaf_rules.specs.Inner.NumberSet.{places_of}
-use Rattle.tt_leaf_data.specs.declared.leaf.Claim.{Claim}
+use Rattle.tt_leaf.specs.declared.leaf.Claim.{Claim}
 use Rattle.tt_proof_sum.specs.Tables.{at_node}
 use Rattle.tt_proof_sum.proofs.Tables.{claims_more_is}
 use Rattle.tt_proof_sum.proofs.table.Table.claim_each.Goals as goal

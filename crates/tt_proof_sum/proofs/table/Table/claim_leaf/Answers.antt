@@ -1,8 +1,8 @@
 use Rattle.std.proofs.Common.{ℕ, List, map, sym, ap, ◌∙◌, subst}
 use Rattle.std.specs.Prelude.{flat_map}
 use Rattle.tt_leaf_rules.specs.Inner.NumberSet.{place, places_of}
-use Rattle.tt_leaf_data.specs.declared.leaf.Claim.{Claim}
-use Rattle.tt_leaf_data.specs.declared.leaf.Leaf.{Leaf}
+use Rattle.tt_leaf.specs.declared.leaf.Claim.{Claim}
+use Rattle.tt_leaf.specs.declared.leaf.Leaf.{Leaf}
 use Rattle.tt_proof_sum.specs.Sums.{claimed_in}
 use Rattle.tt_proof_sum.specs.Tables.{Claims, at_node}
 use Rattle.tt_proof_sum.proofs.Tables.{claimed_places}

@@ -1,7 +1,7 @@
 use Rattle.std.proofs.Common.{ℕ, ◌*◌, List, [], ◌∷◌, sym, ap, ◌∙◌, subst}
 use Rattle.std.specs.Prelude.{flat_map}
 use Rattle.tt_leaf_rules.specs.Inner.NumberSet.{places_of}
-use Rattle.tt_leaf_data.specs.declared.leaf.Claim.{Claim}
+use Rattle.tt_leaf.specs.declared.leaf.Claim.{Claim}
 use Rattle.tt_proof_sum.specs.Tables.{Claims, at_node}
 use Rattle.tt_proof_sum.proofs.Tables.{priced_places}
 use Rattle.tt_proof_sum.proofs.table.Table.claim_targets.Goals as goal

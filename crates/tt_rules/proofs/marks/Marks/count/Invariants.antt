@@ -1,6 +1,6 @@
 use Rattle.std.proofs.Common.{◌≡◌, ◌≤◌, false, slice_index_or}
 use Rattle.std.specs.Prelude.{count_by}
-use Rattle.tt_lists.specs.Words.{range_below}
+use Rattle.tt_list_laws.specs.Words.{range_below}
 use Rattle.tt_rules.proofs.marks.Marks.count.Given as goal
 
 abbrev pub invariant-loop-place : goal.invariant-loop-place

@@ -1,0 +1,93 @@
+-- The answer of `check_sum`, from the results of its steps.
+use Rattle.std.proofs.Common.{◌≡◌, ℕ, ◌+◌, ◌<◌, ◌≤◌, ◌^◌, List, Err, refl, sym, ap, subst, ◌∙◌, inl, inr}
+use Rattle.tt_instance.specs.Problem.{Problem}
+use Rattle.tt_instance.specs.Spelling.{Spells}
+use Rattle.tt_instance.specs.declared.cell.Cell.{Cell}
+use Rattle.tt_table.specs.Spelling.{SpellsBoth, SpellsTable}
+use Rattle.tt_rules.specs.Score.{IsScore, IsFeasible, cost}
+use Rattle.tt_rules.specs.declared.counts.Score.{Score}
+use Rattle.tt_rules.proofs.Scores.{cost_is, feasible_is}
+use Rattle.tt_leaf.specs.declared.leaf.Bound.TheVariants.{AtLeast}
+use Rattle.tt_proof_check.specs.Derives.{HoldsOfAll}
+use Rattle.tt_proof_check.specs.Headline.{Solves, BoundsAll}
+use Rattle.tt_proof_check.proofs.Files.{one_table}
+use Rattle.tt_proof_sum.specs.Faults.{IsSumFault, IsSilentSum, all_points}
+use Rattle.tt_proof_sum.specs.Sums.{IsSum}
+use Rattle.tt_proof_sum.specs.declared.fault.SumFault.{SumFault}
+use Rattle.tt_proof_sum.specs.declared.fault.SumFault.TheVariants as sum
+use Rattle.tt_call_answers.specs.Sums.{CertifiesSum}
+use Rattle.tt_call_checks.specs.Summed.{IsSumYes, IsSumCheckFault, AnswersSumYes}
+use Rattle.tt_call_answers.specs.FaultMaps.{fault_from_sum}
+use Rattle.tt_instance_read.proofs.Laws.{spelled_once}
+
+-- a silent error says nothing about the bytes
+pub silent_yes : (f : SumFault) (c b : ℕ) → IsSilentSum f → AnswersSumYes (Err (fault_from_sum f)) c b
+silent_yes (sum.Proof n f) c b h = inr (inl (n, ap (λ x. fault_from_sum (sum.Proof n x)) h))
+silent_yes (sum.Groups n f) c b h = inr (inr (record { file = n; found = f; is = refl; open_claim = h }))
+silent_yes (sum.ClaimedElsewhere n k e) c b h = absurd h
+silent_yes (sum.TooLarge n) c b h = absurd h
+silent_yes sum.OutOfMemory c b h = inl refl
+
+abbrev broken_by : Score → ℕ
+broken_by s = s.lectures + s.conflicts + s.availability + s.room_occupancy
+
+abbrev costs_of : Score → ℕ
+costs_of s = s.room_capacity + s.min_working_days + s.compactness + s.room_stability
+
+-- the conditions of a certified sum, for the instance and the timetable that were read
+pub record Certified (p : Problem) (t : List Cell) (files : List (List ℕ)) (c b : ℕ) : Type 0 where
+  pub feasible : IsFeasible p t
+  pub costs : cost p t ≡ c
+  pub sum : IsSum p files (AtLeast b)
+  pub within : all_points sum.parts < 2 ^ 64
+
+module _ (i s : List ℕ) (p : Problem) (t : List Cell) (spelled : Spells i p) (solved : SpellsTable p s t) where
+  both : SpellsBoth i s p t
+  both = record { spelled = spelled; solved = solved }
+
+  pub sum_certified : (files : List (List ℕ)) (c b : ℕ) (h : CertifiesSum i s files c b) → all_points h.sum.parts < 2 ^ 64
+      → Certified p t files c b
+  sum_certified files c b h within =
+      let same : h.solves.problem ≡ p = spelled_once i h.solves.problem p h.solves.both.spelled spelled in
+      let there : SpellsTable p s h.solves.table × Certified p h.solves.table files c b =
+      subst (λ (q : Problem). SpellsTable q s h.solves.table × Certified q h.solves.table files c b) same
+      (h.solves.both.solved, record { feasible = h.solves.feasible; costs = h.solves.costs; sum = h.sum; within = within }) in
+      subst (λ (u : List Cell). Certified p u files c b) (one_table s i p h.solves.table t spelled there.0 solved) there.1
+
+  module _ (score : Score) (is : IsScore p t score) where
+    pub sum_not_certified : (files : List (List ℕ)) (c b : ℕ) → (broken_by score ≡ 0 → ⊥) → (h : CertifiesSum i s files c b)
+        → all_points h.sum.parts < 2 ^ 64 → ⊥
+    sum_not_certified files c b broken h within =
+        broken ((feasible_is p t score solved.in_range is).1 (sum_certified files c b h within).feasible)
+
+    pub sum_cost : (files : List (List ℕ)) (c b : ℕ) (h : CertifiesSum i s files c b) → all_points h.sum.parts < 2 ^ 64 → costs_of score ≡ c
+    sum_cost files c b h within = cost_is p t score is ∙ (sum_certified files c b h within).costs
+
+    feasible_here : broken_by score ≡ 0 → IsFeasible p t
+    feasible_here e = (feasible_is p t score solved.in_range is).0 e
+
+    abbrev solves_here : broken_by score ≡ 0 → Solves i s (costs_of score)
+    solves_here e = record { problem = p; table = t; both = both; feasible = feasible_here e; costs = sym (cost_is p t score is) }
+
+    -- an error of the proofs is reported
+    pub sum_fails : (gives : List (List ℕ) → Type 0) (f : SumFault) → broken_by score ≡ 0
+        → ((files : List (List ℕ)) → gives files → IsSumFault p files f) → IsSumCheckFault i s gives (fault_from_sum f)
+    sum_fails gives (sum.Proof n f) e h = record { problem = p; table = t; both = both; feasible = feasible_here e; fails = h }
+    sum_fails gives (sum.Groups n f) e h = record { problem = p; table = t; both = both; feasible = feasible_here e; fails = h }
+    sum_fails gives (sum.ClaimedElsewhere n k x) e h = record { problem = p; table = t; both = both; feasible = feasible_here e; fails = h }
+    sum_fails gives (sum.TooLarge n) e h = record { problem = p; table = t; both = both; feasible = feasible_here e; fails = h }
+    sum_fails gives sum.OutOfMemory e h = tt
+
+    pub sum_yes : (gives : List (List ℕ) → Type 0) (b : ℕ) → broken_by score ≡ 0
+        → ((files : List (List ℕ)) → gives files → IsSum p files (AtLeast b)) → HoldsOfAll p (AtLeast b)
+        → IsSumYes i s gives (costs_of score) b
+    sum_yes gives b e derived holds =
+        let all : BoundsAll i b = λ other spells. subst (λ (x : Problem). HoldsOfAll x (AtLeast b))
+        (spelled_once i p other spelled spells) holds in
+        let within : b ≤ costs_of score = subst (λ (n : ℕ). b ≤ n) (sym (cost_is p t score is)) (holds t (feasible_here e)) in
+        record {
+          solves = solves_here e;
+          certified = λ files given. record { solves = solves_here e; sum = derived files given };
+          bounds = all;
+          within = within;
+        }

@@ -1,0 +1,40 @@
+use Rattle.std.proofs.lemmas.Result.{err_from_is_err_and}
+use Rattle.tt_call_answers.proofs.Files.{tells_instance, tells_solution, only_memory}
+use Rattle.tt_call_checks.proofs.Validating.{validated}
+use Rattle.tt_call_checks.proofs.calls.validate.validate.Goals as goal
+
+pub returns-in_err-instance-clause-only : goal.returns-in_err-instance-clause-only
+returns-in_err-instance-clause-only c =
+    let e = err_from_is_err_and c.from_residual.result c.from_residual.ensures.1 in
+    λ p t both. rw (e.1, e.2)
+    (only_memory c.args.instance.now c.args.solution.now p t _ both
+    (tells_instance c.args.instance.now c.args.solution.now c.in_err-instance.field-0.0 c.in_err-instance.ensures.exact))
+
+pub returns-in_err-table-clause-fault : goal.returns-in_err-table-clause-fault
+returns-in_err-table-clause-fault c =
+    let e = err_from_is_err_and c.from_residual-in_err-table.result c.from_residual-in_err-table.ensures.1 in
+    rw (e.1, e.2)
+    (tells_solution c.args.instance.now c.args.solution.now c.in_ok-instance.instance c.in_err-table.field-0.0
+    c.in_ok-instance.ensures.found c.in_err-table.ensures.exact)
+
+pub returns-in_err-table-clause-only : goal.returns-in_err-table-clause-only
+returns-in_err-table-clause-only c =
+    let e = err_from_is_err_and c.from_residual-in_err-table.result c.from_residual-in_err-table.ensures.1 in
+    λ p t both. rw (e.1, e.2)
+    (only_memory c.args.instance.now c.args.solution.now p t _ both
+    (tells_solution c.args.instance.now c.args.solution.now c.in_ok-instance.instance c.in_err-table.field-0.0
+    c.in_ok-instance.ensures.found c.in_err-table.ensures.exact))
+
+pub returns-in_err-score_answer-clause-fault : goal.returns-in_err-score_answer-clause-fault
+returns-in_err-score_answer-clause-fault c =
+    let e = err_from_is_err_and c.from_residual-in_err-score_answer.result c.from_residual-in_err-score_answer.ensures.1 in rw (e.1, e.2) tt
+
+pub returns-in_err-score_answer-clause-only : goal.returns-in_err-score_answer-clause-only
+returns-in_err-score_answer-clause-only c =
+    let e = err_from_is_err_and c.from_residual-in_err-score_answer.result c.from_residual-in_err-score_answer.ensures.1 in
+    λ p t both. rw e.1 e.2
+
+pub returns-clause-found : goal.returns-clause-found
+returns-clause-found c = validated c.args.instance.now c.args.solution.now c.in_ok-instance.instance c.in_ok-table.table
+    c.score-score.result c.in_ok-score_answer.field-0 c.in_ok-instance.ensures.found c.in_ok-table.ensures.found c.score-score.ensures
+    c.in_ok-score_answer.ensures

@@ -1,0 +1,62 @@
+-- The answer of `best` for the bytes of an instance.
+use Rattle.std.specs.Prelude.{◌≡◌, ◌≤◌, ◌⊎◌, ℕ, List, Vec, Option, Some, None, IsSomeAnd, IfSome}
+use Rattle.tt_instance.specs.Problem.{Problem}
+use Rattle.tt_instance.specs.Spelling.{Spells}
+use Rattle.tt_leaf.specs.declared.leaf.Bound.{Bound}
+use Rattle.tt_leaf.specs.declared.leaf.Bound.TheVariants.{AtLeast}
+use Rattle.tt_page.specs.Limits.{IsWithinLimit}
+use Rattle.tt_page.specs.Pages.{page_text}
+use Rattle.tt_page_text.specs.Labels.{no_labels}
+use Rattle.tt_page_text.specs.Puts.{IsTooLarge}
+use Rattle.tt_proof_check.specs.Derives.{HoldsOfAll}
+use Rattle.tt_proof_check.specs.Headline.{BoundsAll, Solves}
+use Rattle.tt_proof_sum.specs.Sums.{IsSum}
+use Rattle.tt_parts.specs.Found.{texts_of}
+use Rattle.tt_call_answers.specs.Lines.{best_line, none_line}
+use Rattle.tt_call_answers.specs.Sums.{CertifiesSum}
+use Rattle.tt_call_searches.specs.declared.calls.best.BestAnswer.{BestAnswer}
+
+-- There is a page with this text, or none, which is exactly if it would be too large.
+abbrev pub ShowsPage : {A : Type 0} → Option (Vec ℕ A) → List ℕ → Type 0
+ShowsPage (Some v) text = (v.items ≡ text) × IsWithinLimit text
+ShowsPage None text = IsTooLarge text
+
+-- The solution breaks no hard rule of the instance, its cost is the one in the line, and the proofs add up to the bound in the line, as a sum
+-- with this solution would. Every timetable of the instance that breaks no hard rule costs at least the bound. The page shows the timetable and
+-- the bound, in this style, unless it would be too large.
+pub record IsBestFound (instance style : List ℕ) (a : BestAnswer) : Type 0 where
+  pub solution : List ℕ
+  pub cost : ℕ
+  pub bound : ℕ
+  pub certified : CertifiesSum instance solution (texts_of a.proofs.items) cost bound
+  pub bounds : BoundsAll instance bound
+  pub within : bound ≤ cost
+  pub file : IsSomeAnd a.table (λ v. v.items ≡ solution)
+  pub page : ShowsPage a.page (page_text certified.solves.problem certified.solves.table no_labels (Some (AtLeast bound)) style)
+  pub text : a.out.items ≡ best_line cost bound
+  pub status : a.status ≡ 0
+
+-- The answer has no timetable. The proofs add up to the bound in the line, which holds for every timetable that breaks no hard rule.
+pub record IsNoneFound (instance : List ℕ) (a : BestAnswer) : Type 0 where
+  pub problem : Problem
+  pub spelled : Spells instance problem
+  pub bound : Bound
+  pub sum : IsSum problem (texts_of a.proofs.items) bound
+  pub holds : HoldsOfAll problem bound
+  pub no_file : a.table ≡ None
+  pub no_page : a.page ≡ None
+  pub text : a.out.items ≡ none_line bound
+  pub status : a.status ≡ 1
+
+-- The answer of `best` has a timetable with a proved bound, or no timetable and a proved bound.
+abbrev pub IsBest : List ℕ → List ℕ → BestAnswer → Type 0
+IsBest i style a = IsBestFound i style a ⊎ IsNoneFound i a
+
+-- The answer has a timetable with a proved bound that costs at most this much.
+pub record CostsAtMost (instance style : List ℕ) (most : ℕ) (a : BestAnswer) : Type 0 where
+  pub found : IsBestFound instance style a
+  pub within : found.cost ≤ most
+
+-- If a solution is given that breaks no hard rule of the instance, the answer has a timetable that costs no more.
+abbrev pub CostsNoMore : List ℕ → Option (List ℕ) → List ℕ → BestAnswer → Type 0
+CostsNoMore instance given style a = IfSome given (λ solution. (c : ℕ) → Solves instance solution c → CostsAtMost instance style c a)

@@ -1,0 +1,127 @@
+-- The answers of `page` and `proved_page`, from the results of their steps.
+use Rattle.std.proofs.Common.{◌≡◌, ℕ, List, Option, None, Some, Ok, refl, subst}
+use Rattle.tt_text.specs.Reading.{FailsUnless}
+use Rattle.tt_text.specs.Sinks.{TakesPart}
+use Rattle.tt_instance.specs.Problem.{Problem}
+use Rattle.tt_instance.specs.Spelling.{Spells}
+use Rattle.tt_instance.specs.declared.cell.Cell.{Cell}
+use Rattle.tt_table.specs.Spelling.{SpellsBoth, SpellsTable}
+use Rattle.tt_leaf.specs.declared.leaf.Bound.{Bound}
+use Rattle.tt_page.specs.Faults.{ExplainsSize}
+use Rattle.tt_page.specs.Pages.{page_text}
+use Rattle.tt_page.specs.declared.fault.PageFault.{PageFault}
+use Rattle.tt_page.specs.declared.fault.PageFault.TheVariants as page
+use Rattle.tt_page_text.specs.Labelled.{Labelled}
+use Rattle.tt_page_text.specs.Labels.{is_environmental}
+use Rattle.tt_page_text.specs.declared.fault.LabelsFault.{LabelsFault}
+use Rattle.tt_page_text.specs.declared.fault.LabelsFault.TheVariants as labels
+use Rattle.tt_proof_check.specs.Derives.{HoldsOfAll}
+use Rattle.tt_proof_check.proofs.Files.{one_table}
+use Rattle.tt_proof_sum.specs.Faults.{IsSumFault}
+use Rattle.tt_proof_sum.specs.Sums.{IsSum}
+use Rattle.tt_proof_sum.specs.declared.fault.SumFault.{SumFault}
+use Rattle.tt_proof_sum.specs.declared.fault.SumFault.TheVariants as sum
+use Rattle.tt_call_answers.specs.FaultMaps.{fault_from_labels, fault_from_page, fault_from_sum}
+use Rattle.tt_call_texts.specs.Paged.{labels_for, IsNotPut, IsPageRefusal, IsProvedPageRefusal}
+use Rattle.tt_call_texts.specs.declared.calls.page.PageNames.{PageNames}
+use Rattle.tt_call_answers.specs.declared.fault.AppFault.{AppFault}
+use Rattle.tt_call_answers.specs.declared.fault.AppFault.TheVariants as fault
+use Rattle.tt_instance_read.proofs.Laws.{spelled_once}
+
+-- what an error of the page's output says about its size
+pub output_tells : (f : PageFault) (text : List ℕ) → ExplainsSize f text → IsNotPut (fault_from_page f) text
+output_tells page.Write text size = size
+output_tells page.TooLarge text size = size
+output_tells page.OutOfMemory text size = tt
+
+-- being out of memory says nothing of the size
+pub memory_not_put : (f : AppFault) (text : List ℕ) → f ≡ fault.OutOfMemory → IsNotPut f text
+memory_not_put f text e = rw e tt
+
+-- if the names fit the instance that the bytes spell, they are refused only for being out of memory
+pub names_memory : (i : List ℕ) (p read : Problem) (names : PageNames) (l : Labelled) (f : LabelsFault) → Spells i p → Spells i read
+    → labels_for p names ≡ Ok l → FailsUnless is_environmental f (labels_for read names)
+    → fault_from_labels f ≡ fault.OutOfMemory
+names_memory i p read names l labels.Days spells found named h =
+    let here : labels_for read names ≡ Ok l = subst (λ (q : Problem). labels_for q names ≡ Ok l)
+    (spelled_once i p read spells found) named in
+    absurd cc
+names_memory i p read names l labels.Periods spells found named h =
+    let here : labels_for read names ≡ Ok l = subst (λ (q : Problem). labels_for q names ≡ Ok l)
+    (spelled_once i p read spells found) named in
+    absurd cc
+names_memory i p read names l labels.OutOfMemory spells found named h = refl
+
+module _ (i s : List ℕ) (p : Problem) (t : List Cell) (names : PageNames) (spelled : Spells i p) (solved : SpellsTable p s t) where
+  both : SpellsBoth i s p t
+  both = record { spelled = spelled; solved = solved }
+
+  -- an error of the names is reported
+  pub names_tell : (style : List ℕ) (before after : Option (List ℕ)) (f : LabelsFault)
+      → FailsUnless is_environmental f (labels_for p names) → IsPageRefusal i s names style before after (fault_from_labels f)
+  names_tell style before after labels.Days h = record { problem = p; table = t; both = both; fails = h }
+  names_tell style before after labels.Periods h = record { problem = p; table = t; both = both; fails = h }
+  names_tell style before after labels.OutOfMemory h = tt
+
+  pub names_tell_proved : (style : List ℕ) (gives : List (List ℕ) → Type 0) (before after : Option (List ℕ)) (f : LabelsFault)
+      → FailsUnless is_environmental f (labels_for p names)
+      → IsProvedPageRefusal i s names style gives before after (fault_from_labels f)
+  names_tell_proved style gives before after labels.Days h = record { problem = p; table = t; both = both; fails = h }
+  names_tell_proved style gives before after labels.Periods h = record { problem = p; table = t; both = both; fails = h }
+  names_tell_proved style gives before after labels.OutOfMemory h = tt
+
+  -- an error of the proofs is reported
+  pub sum_tells_page : (style : List ℕ) (l : Labelled) (gives : List (List ℕ) → Type 0) (before after : Option (List ℕ)) (f : SumFault)
+      → labels_for p names ≡ Ok l
+      → ((proofs : List (List ℕ)) → gives proofs → IsSumFault p proofs f) → IsProvedPageRefusal i s names style gives before after
+      (fault_from_sum f)
+  sum_tells_page style l gives before after (sum.Proof n f) named h =
+      record { problem = p; table = t; labels = l; both = both; named = named; fails = h }
+  sum_tells_page style l gives before after (sum.Groups n f) named h =
+      record { problem = p; table = t; labels = l; both = both; named = named; fails = h }
+  sum_tells_page style l gives before after (sum.ClaimedElsewhere n k e) named h =
+      record { problem = p; table = t; labels = l; both = both; named = named; fails = h }
+  sum_tells_page style l gives before after (sum.TooLarge n) named h =
+      record { problem = p; table = t; labels = l; both = both; named = named; fails = h }
+  sum_tells_page style l gives before after sum.OutOfMemory named h = tt
+
+  -- an error of the page's output is reported
+  pub plain_page_tells : (style : List ℕ) (l : Labelled) (before after : Option (List ℕ)) (f : PageFault) → labels_for p names ≡ Ok l
+      → (f ≡ page.Write → TakesPart before after (page_text p t l None style)) → ExplainsSize f (page_text p t l None style)
+      → IsPageRefusal i s names style before after (fault_from_page f)
+  plain_page_tells style l before after page.Write named part size =
+      record { problem = p; table = t; labels = l; both = both; named = named; within = size; part = part refl }
+  plain_page_tells style l before after page.TooLarge named part size =
+      record { problem = p; table = t; labels = l; both = both; named = named; large = size }
+  plain_page_tells style l before after page.OutOfMemory named part size = tt
+
+  pub page_tells : (style : List ℕ) (l : Labelled) (b : Bound) (gives : List (List ℕ) → Type 0) (before after : Option (List ℕ))
+      (f : PageFault) → labels_for p names ≡ Ok l
+      → ((proofs : List (List ℕ)) → gives proofs → IsSum p proofs b) → HoldsOfAll p b
+      → (f ≡ page.Write → TakesPart before after (page_text p t l (Some b) style)) → ExplainsSize f (page_text p t l (Some b) style)
+      → IsProvedPageRefusal i s names style gives before after (fault_from_page f)
+  page_tells style l b gives before after page.Write named sum holds part size = record {
+    bound = b;
+    paged = record { problem = p; table = t; labels = l; both = both; named = named; within = size; part = part refl };
+    sum = sum;
+    holds = holds;
+  }
+  page_tells style l b gives before after page.TooLarge named sum holds part size = record {
+    bound = b;
+    paged = record { problem = p; table = t; labels = l; both = both; named = named; large = size };
+    sum = sum;
+    holds = holds;
+  }
+  page_tells style l b gives before after page.OutOfMemory named sum holds part size = tt
+
+-- the page of the instance and the timetable that were read is that of those that the bytes spell
+pub page_same : (i s : List ℕ) (p read : Problem) (t found : List Cell) (names : PageNames) (l m : Labelled) (a c : Option Bound)
+    (style : List ℕ) → SpellsBoth i s p t → Spells i read → SpellsTable read s found
+    → labels_for p names ≡ Ok l → labels_for read names ≡ Ok m → c ≡ a → page_text read found m c style ≡ page_text p t l a style
+page_same i s p read t found names l m a c style both spells solved named given e =
+    let same : read ≡ p = spelled_once i read p spells both.spelled in
+    let here : SpellsTable p s found = subst (λ (q : Problem). SpellsTable q s found) same solved in
+    let table : found ≡ t = one_table s i p found t both.spelled here both.solved in
+    let reported : labels_for p names ≡ Ok m = subst (λ (q : Problem). labels_for q names ≡ Ok m) same given in
+    let labelled : m ≡ l = cc in
+    cc

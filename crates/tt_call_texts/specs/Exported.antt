@@ -1,0 +1,54 @@
+-- The answers of `table` and `calendar` for the bytes of an instance and of a solution.
+use Rattle.std.specs.Prelude.{◌≡◌, ℕ, List, None, Some, Err, ⊤, slice_get}
+use Rattle.tt_instance.specs.Problem.{Problem}
+use Rattle.tt_instance_read.specs.Reading.{instance_of}
+use Rattle.tt_instance.specs.declared.cell.Cell.{Cell}
+use Rattle.tt_table.specs.declared.kind.Kind.{Kind as By}
+use Rattle.tt_report_export.specs.Tables.{table_text}
+use Rattle.tt_report_export.specs.Calendars.{Term, calendar_text}
+use Rattle.tt_report_export.specs.Weeks.{IsWeekOf, names_by}
+use Rattle.tt_report_export.specs.declared.week.Week.{Week}
+use Rattle.tt_table.specs.Spelling.{SpellsBoth}
+use Rattle.tt_proof_check.specs.Verdicts.{FailsSolution}
+use Rattle.tt_call_answers.specs.declared.answer.Answer.{Answer}
+use Rattle.tt_call_answers.specs.declared.fault.AppFault.{AppFault}
+use Rattle.tt_call_answers.specs.declared.fault.AppFault.TheVariants as fault
+
+-- the answer is the table of the timetable, and no file
+pub record IsTable (instance solution : List ℕ) (a : Answer) : Type 0 where
+  pub problem : Problem
+  pub table : List Cell
+  pub both : SpellsBoth instance solution problem table
+  pub text : a.out.items ≡ table_text problem table
+  pub status : a.status ≡ 0
+  pub no_table : a.table ≡ None
+  pub no_proof : a.proof ≡ None
+
+-- the answer is the calendar of the week of this name, on the dates of some term, and no file
+pub record IsCalendar (instance solution : List ℕ) (by : By) (name : List ℕ) (a : Answer) : Type 0 where
+  pub problem : Problem
+  pub table : List Cell
+  pub week : Week
+  pub term : Term
+  pub both : SpellsBoth instance solution problem table
+  pub named : IsWeekOf problem by name week
+  pub text : a.out.items ≡ calendar_text problem table week term
+  pub status : a.status ≡ 0
+  pub no_table : a.table ≡ None
+  pub no_proof : a.proof ≡ None
+
+-- the files are spelled, but no room, teacher or curriculum has the name
+pub record HasNoName (instance solution : List ℕ) (by : By) (name : List ℕ) : Type 0 where
+  pub problem : Problem
+  pub table : List Cell
+  pub both : SpellsBoth instance solution problem table
+  pub unknown : (n : ℕ) → ¬ (slice_get (names_by problem by) n ≡ Some name)
+
+-- a refusal reports the first error: the instance's, then the solution's, then that of the name, then that of the dates and times
+abbrev pub IsCalendarRefusal : List ℕ → List ℕ → By → List ℕ → AppFault → Type 0
+IsCalendarRefusal instance solution by name (fault.Instance f) = instance_of instance ≡ Err f
+IsCalendarRefusal instance solution by name (fault.Solution f) = FailsSolution instance solution f
+IsCalendarRefusal instance solution by name fault.UnknownName = HasNoName instance solution by name
+IsCalendarRefusal instance solution by name (fault.Term f) = ⊤
+IsCalendarRefusal instance solution by name fault.OutOfMemory = ⊤
+IsCalendarRefusal instance solution by name _ = ⊥

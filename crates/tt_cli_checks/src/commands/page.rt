@@ -1,0 +1,232 @@
+//! The files of `page`.
+
+use crate::timetable::TimetableTexts;
+use std::alloc::Global;
+use std::cell::{Cell, RefCell};
+use std::io::{Error, ErrorKind, Write};
+use tt_call_answers::AppFault;
+use tt_cli_arguments::PageRequest;
+use tt_cli_files::{Batch, Draft, Label, OutputFault, Place, Ready, Role, StandardStream, finish};
+use tt_cli_saving::{
+    CommandFault, Input, Inputs, LastUnread, Prepared, Reply, Shown, Target, World, Written, clear,
+    fault_over, proof_files, ticker_of,
+};
+use tt_call_texts::{PageNames, page, proved_page};
+use tt_page::STYLE;
+use tt_text::{Sink, Writing};
+use tt_text_peek::Peek;
+
+/// What a page shows.
+#[derive(Clone, Copy)]
+struct PageTexts<'a> {
+    instance: &'a [u8],
+    solution: &'a [u8],
+    names: PageNames<'a>,
+}
+
+/// Writes a page to a sink, with the bound of the proofs if there are any.
+fn fill_page<P: Peek, W: Sink>(
+    alloc: Global,
+    texts: PageTexts<'_>,
+    proofs: &mut [P],
+    sink: &mut W,
+) -> Result<u8, AppFault> {
+    let PageTexts {
+        instance,
+        solution,
+        names,
+    } = texts;
+    if proofs.is_empty() {
+        page(alloc, instance, solution, names, STYLE, sink)
+    } else {
+        proved_page(alloc, instance, solution, names, proofs, STYLE, sink)
+    }
+}
+
+/// The reason why a page isn't written.
+#[derive(Clone, Copy, Debug)]
+enum PageFault {
+    Call(AppFault),
+    Output(OutputFault),
+}
+
+impl PageFault {
+    /// Returns the fault of the command, for the output and the last proof that couldn't be read.
+    fn refused(self, alloc: Global, label: Label, unread: &LastUnread<'_>) -> CommandFault {
+        match self {
+            PageFault::Call(fault) => fault_over(alloc, fault, unread.get()),
+            PageFault::Output(fault) => CommandFault::Write(label.with_fault(fault)),
+        }
+    }
+}
+
+/// Writes a page, and shows how much of it is written.
+fn write_page<R: World, P: Peek, F: Write, E: Write>(
+    rt: &R,
+    texts: PageTexts<'_>,
+    proofs: &mut [P],
+    file: &mut F,
+    shown: &Shown<'_, R, E>,
+) -> Result<u8, PageFault> {
+    let mut written = Written::new(file, shown);
+    let filled = fill_page(rt.alloc(), texts, proofs, &mut Writing::new(&mut written));
+    match filled {
+        Ok(status) => match written.flush() {
+            Ok(()) => Ok(status),
+            Err(fault) => Err(PageFault::Output(OutputFault::from(fault))),
+        },
+        Err(AppFault::CannotWrite) => {
+            let fault = written.fault().unwrap_or(Error::from(ErrorKind::WriteZero));
+            Err(PageFault::Output(OutputFault::from(fault)))
+        }
+        Err(fault) => Err(PageFault::Call(fault)),
+    }
+}
+
+/// Writes a page to a new file next to its place.
+fn draft_page<R: World, P: Peek, E: Write>(
+    rt: &R,
+    texts: PageTexts<'_>,
+    proofs: &mut [P],
+    place: &Place,
+    shown: &Shown<'_, R, E>,
+) -> Result<(u8, Draft), PageFault> {
+    let (draft, mut file) = Draft::create(rt, place).map_err(PageFault::Output)?;
+    let written = match write_page(rt, texts, proofs, &mut file, shown) {
+        Ok(status) => match finish(file) {
+            Ok(()) => Ok(status),
+            Err(fault) => Err(PageFault::Output(fault)),
+        },
+        Err(fault) => Err(fault),
+    };
+    match written {
+        Ok(status) => Ok((status, draft)),
+        Err(fault) => {
+            draft.remove(rt);
+            Err(fault)
+        }
+    }
+}
+
+/// Writes a page to standard error, after the line that shows its progress.
+fn page_to_error<R: World, P: Peek, E: Write>(
+    rt: &R,
+    texts: PageTexts<'_>,
+    proofs: &mut [P],
+    shown: &Shown<'_, R, E>,
+) -> Result<Reply, PageFault> {
+    let alloc = rt.alloc();
+    let mut text = Vec::new(alloc);
+    let status = write_page(rt, texts, proofs, &mut text, shown)?;
+    let mut reply = Reply::silent(alloc, status);
+    match reply.add(StandardStream::Error, text) {
+        Ok(()) => Ok(reply),
+        Err(_) => Err(PageFault::Output(OutputFault::OutOfMemory)),
+    }
+}
+
+/// Renames the new file of a page to its place.
+fn put_draft<R: World>(
+    rt: &R,
+    label: Label,
+    status: u8,
+    draft: Draft,
+) -> Result<Reply, CommandFault> {
+    let batch = Batch::new(rt.alloc()).with_draft(rt, label, draft)?;
+    Ok(Reply {
+        status,
+        texts: batch.put(rt)?,
+    })
+}
+
+/// A page that is written, or a new file that isn't at its place yet.
+#[derive(Debug, Drop)]
+enum Made {
+    Written(Reply),
+    Drafted(u8, Draft),
+}
+
+/// Writes a page to its output, as far as it can be without changing a file that is there.
+fn make_page<R: World, P: Peek, O: Write, E: Write>(
+    rt: &R,
+    ready: Ready<R::File>,
+    texts: PageTexts<'_>,
+    proofs: &mut [P],
+    out: &mut O,
+    shown: &Shown<'_, R, E>,
+) -> Result<Made, PageFault> {
+    let status = match ready {
+        Ready::Place(place) => {
+            let (status, draft) = draft_page(rt, texts, proofs, &place, shown)?;
+            return Ok(Made::Drafted(status, draft));
+        }
+        Ready::Stream(mut file) => write_page(rt, texts, proofs, &mut file, shown)?,
+        Ready::Standard(StandardStream::Output) => write_page(rt, texts, proofs, out, shown)?,
+        Ready::Standard(StandardStream::Error) => {
+            return Ok(Made::Written(page_to_error(rt, texts, proofs, shown)?));
+        }
+    };
+    Ok(Made::Written(Reply::silent(rt.alloc(), status)))
+}
+
+/// Writes a page to its file, and shows the progress of reading the proofs and of writing the page.
+fn put_page<R: World, O: Write, E: Write>(
+    rt: &R,
+    output: Prepared<R::File>,
+    texts: PageTexts<'_>,
+    proofs: &[&str],
+    out: &mut O,
+    shown: &Shown<'_, R, E>,
+) -> Result<Reply, CommandFault> {
+    let unread = Cell::new(None);
+    let mut proofs = proof_files(rt, proofs, shown, &unread)?;
+    let Prepared { label, ready } = output;
+    match make_page(rt, ready, texts, &mut proofs, out, shown) {
+        Ok(Made::Written(reply)) => Ok(reply),
+        Ok(Made::Drafted(status, draft)) => put_draft(rt, label, status, draft),
+        Err(fault) => Err(fault.refused(rt.alloc(), label, &unread)),
+    }
+}
+
+/// Reads the files of a page, and tries its output.
+fn open_page<R: World>(
+    rt: &R,
+    request: &PageRequest<'_>,
+) -> Result<(TimetableTexts, Prepared<R::File>), CommandFault> {
+    let mut inputs = Inputs::new(rt.alloc());
+    let instance = inputs.add(Input::Instance, request.instance)?;
+    let solution = inputs.add(Input::Solution, request.solution)?;
+    inputs.add_proofs(&request.proofs)?;
+    let target = Target {
+        role: Role::Page,
+        path: request.out,
+    };
+    let out = target.find(rt, &inputs)?;
+    let texts = TimetableTexts {
+        instance: instance.read(rt)?,
+        solution: solution.read(rt)?,
+    };
+    Ok((texts, out.prepare(rt)?))
+}
+
+/// Writes a page to its file, and returns the reply.
+pub fn answer_page<R: World, O: Write, E: Write>(
+    rt: &R,
+    out: &mut O,
+    err: &mut E,
+    request: &PageRequest<'_>,
+) -> Result<Reply, CommandFault> {
+    let (texts, output) = open_page(rt, request)?;
+    let texts = PageTexts {
+        instance: &texts.instance,
+        solution: &texts.solution,
+        names: PageNames {
+            days: request.names.days,
+            periods: request.names.periods,
+        },
+    };
+    let shown = RefCell::new(ticker_of(rt, err, "page", request.showing));
+    let reply = put_page(rt, output, texts, &request.proofs, out, &shown);
+    clear(&shown);
+    reply
+}

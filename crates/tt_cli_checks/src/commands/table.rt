@@ -1,0 +1,13 @@
+//! The files of `report --csv`.
+
+use crate::timetable::read_timetable;
+use tt_cli_arguments::TimetableFiles;
+use tt_cli_saving::{CommandFault, Reply, World};
+use tt_call_texts::table;
+
+/// Returns the table of a solution.
+pub fn answer_table<R: World>(rt: &R, files: TimetableFiles<'_>) -> Result<Reply, CommandFault> {
+    let texts = read_timetable(rt, files)?;
+    let answer = table(rt.alloc(), &texts.instance, &texts.solution)?;
+    Ok(Reply::to(rt.alloc(), answer)?)
+}

@@ -1,0 +1,58 @@
+//! The reasons why a command is refused.
+
+use crate::inputs::ReadFault;
+use std::alloc::{AllocError, AllocFailed};
+use std::io;
+use thiserror::Error;
+use tt_call_answers::AppFault;
+use tt_cli_files::WriteFault;
+
+/// The reason why a command is refused.
+#[derive(Debug, Drop, Error)]
+pub enum CommandFault {
+    #[error("out of memory")]
+    OutOfMemory,
+    #[error("{0}")]
+    Call(AppFault),
+    /// A call was refused since the file of this path couldn't be read.
+    #[error("{fault}: {path}: {reason}")]
+    Unread {
+        fault: AppFault,
+        path: String,
+        reason: io::Error,
+    },
+    #[error("{0}")]
+    Read(ReadFault),
+    #[error("{0}")]
+    Write(WriteFault),
+}
+
+impl From<AllocError> for CommandFault {
+    fn from(_e: AllocError) -> CommandFault {
+        CommandFault::OutOfMemory
+    }
+}
+
+impl<T: Drop> From<AllocFailed<T>> for CommandFault {
+    fn from(_e: AllocFailed<T>) -> CommandFault {
+        CommandFault::OutOfMemory
+    }
+}
+
+impl From<AppFault> for CommandFault {
+    fn from(fault: AppFault) -> CommandFault {
+        CommandFault::Call(fault)
+    }
+}
+
+impl From<ReadFault> for CommandFault {
+    fn from(fault: ReadFault) -> CommandFault {
+        CommandFault::Read(fault)
+    }
+}
+
+impl From<WriteFault> for CommandFault {
+    fn from(fault: WriteFault) -> CommandFault {
+        CommandFault::Write(fault)
+    }
+}

@@ -1,0 +1,155 @@
+//! Files of proofs; at most one is open at a time.
+
+ghost use Rattle.std.specs.Prelude.{◌≡◌, true};
+
+use crate::fault::CommandFault;
+use crate::showing::{OpenProof, Shown, open_counted};
+use crate::world::World;
+use std::alloc::{AllocError, Global};
+use std::cell::Cell;
+use std::io::{Error, Read, Write};
+use tt_call_answers::AppFault;
+use tt_text::{ReadFailed, Source};
+use tt_text_peek::Peeked;
+
+/// A file that couldn't be read, with the system's reason.
+#[derive(Clone, Copy)]
+pub struct Unread<'p> {
+    path: &'p str,
+    reason: Error,
+}
+
+/// The last file that couldn't be read, if there is one.
+pub type LastUnread<'p> = Cell<Option<Unread<'p>>>;
+
+/// A file that is opened by its first read, and closed at its end.
+pub struct ProofFile<'r, 'p, 't, R: World, E: Write> {
+    rt: &'r R,
+    path: &'p str,
+    number: u64,
+    shown: &'r Shown<'t, R, E>,
+    unread: &'r LastUnread<'p>,
+    file: Option<OpenProof<'r, 't, R, E>>,
+    ended: bool,
+    failed: bool,
+}
+
+impl<'r, 'p, 't, R: World, E: Write> Drop for ProofFile<'r, 'p, 't, R, E> {
+    fn drop(self) {
+        let ProofFile {
+            rt: _,
+            path: _,
+            number: _,
+            shown: _,
+            unread: _,
+            file: _,
+            ended: _,
+            failed: _,
+        } = self;
+    }
+}
+
+impl<'r, 'p, 't, R: World, E: Write> ProofFile<'r, 'p, 't, R, E> {
+    /// Notes why the file can't be read.
+    fn fail(&mut self, reason: Error) -> ReadFailed
+        ensures { self.new.failed ≡ true }
+    {
+        self.failed = true;
+        self.unread.set(Some(Unread {
+            path: self.path,
+            reason,
+        }));
+        ReadFailed
+    }
+}
+
+impl<'r, 'p, 't, R: World, E: Write> Source for ProofFile<'r, 'p, 't, R, E> {
+    ghost use Rattle.std.specs.Prelude.{None};
+
+    ghost remaining = { λ s. None };
+
+    ghost has_failed = { λ s. s.failed };
+
+    fn read(&mut self, buffer: &mut [u8]) -> Result<usize, ReadFailed> {
+        if self.ended {
+            return Ok(0);
+        }
+        if self.file.is_none() {
+            match open_counted(self.rt, self.path, Some(self.number), self.shown) {
+                Ok(file) => self.file = Some(file),
+                Err(reason) => return Err(self.fail(reason)),
+            }
+        }
+        let Some(file) = &mut self.file else {
+            return Ok(0);
+        };
+        match file.read(buffer) {
+            Ok(count) => {
+                if count == 0 && !buffer.is_empty() {
+                    self.ended = true;
+                    self.file = None;
+                }
+                Ok(count)
+            }
+            Err(reason) => Err(self.fail(reason)),
+        }
+    }
+
+    fn failed(&self) -> bool {
+        self.failed
+    }
+}
+
+/// Returns the files of proofs, each opened by its first read.
+pub fn proof_files<'r, 'p, 't, R: World, E: Write>(
+    rt: &'r R,
+    paths: &[&'p str],
+    shown: &'r Shown<'t, R, E>,
+    unread: &'r LastUnread<'p>,
+) -> Result<Vec<Peeked<ProofFile<'r, 'p, 't, R, E>>>, AllocError> {
+    let mut files = Vec::new(rt.alloc());
+    let mut number: u64 = 0;
+    for path in paths {
+        number = number.saturating_add(1);
+        let file = ProofFile {
+            rt,
+            path,
+            number,
+            shown,
+            unread,
+            file: None,
+            ended: false,
+            failed: false,
+        };
+        files.push(Peeked::new(rt.alloc(), file))?;
+    }
+    Ok(files)
+}
+
+/// Returns the fault of a call over proofs, with the file that couldn't be read, if there is one.
+pub fn fault_over(alloc: Global, fault: AppFault, unread: Option<Unread<'_>>) -> CommandFault {
+    match unread {
+        None => CommandFault::Call(fault),
+        Some(Unread { path, reason }) => match String::from_str(alloc, path) {
+            Ok(path) => CommandFault::Unread {
+                fault,
+                path,
+                reason,
+            },
+            Err(_) => CommandFault::OutOfMemory,
+        },
+    }
+}
+
+/// Returns the fault of a call over one proof, which may be that the proof couldn't be read.
+pub fn fault_over_proof(
+    alloc: Global,
+    fault: AppFault,
+    path: &str,
+    reason: Option<Error>,
+) -> CommandFault {
+    match reason {
+        None => CommandFault::Call(fault),
+        Some(reason) => fault_over(alloc, fault, Some(Unread { path, reason })),
+    }
+}

@@ -1,0 +1,135 @@
+//! The files of `best`.
+
+use crate::best_files::{BestFiles, BestShelf, PAGE, TABLE, TREE};
+use crate::best_keeper::BestKeeper;
+use crate::proof_files::GROUPS;
+use crate::saving::kept_table;
+use std::alloc::AllocError;
+use std::cell::Cell;
+use std::io::Write;
+use tt_call_answers::AppFault;
+use tt_cli_arguments::BestRequest;
+use tt_cli_files::Batch;
+use tt_cli_saving::{
+    CommandFault, Folder, Input, InputFile, Inputs, Keeper, Prepared, Reply, Ticker, World,
+    reply_with, ticker_of,
+};
+use tt_call_searches::{BestAnswer, BestSearch, best};
+use tt_page::STYLE;
+
+/// The texts with which the search begins.
+#[derive(Debug, Drop)]
+struct Texts {
+    instance: Vec<u8>,
+    table: Option<Vec<u8>>,
+    /// The proofs of an earlier run.
+    proofs: Vec<Vec<u8>>,
+}
+
+/// Searches, shows the progress on standard error, and keeps what was found on the way if the options ask for it.
+fn search_shown<'k, R: World, E: Write>(
+    files: &'k BestFiles<'_, R>,
+    ticker: &'k mut Ticker<'_, R, E>,
+    instance: &'k [u8],
+    table: &'k mut Prepared<R::File>,
+    search: BestSearch<'_>,
+    request: BestRequest<'_>,
+) -> Result<BestAnswer, AppFault> {
+    let (rt, asked) = (files.rt, request.search);
+    let alloc = rt.alloc();
+    let kept = kept_table(alloc, instance, table, asked.keeps, true);
+    let shelf = BestShelf { files: &*files };
+    let keeper = Keeper::new(rt, ticker, asked.seconds, kept, shelf, asked.keeps);
+    let mut keeper = BestKeeper::new(keeper, &*files, asked.keeps);
+    best(alloc, instance, search, STYLE, &mut keeper)
+}
+
+/// Reads the proofs that an earlier run left in the folder; a file that can't be read is passed over.
+fn read_proofs<R: World>(rt: &R, folder: Folder<'_>) -> Result<Vec<Vec<u8>>, CommandFault> {
+    let mut proofs = Vec::new(rt.alloc());
+    for file in [GROUPS, TREE] {
+        let path = folder.path_of(rt, file)?;
+        let input = InputFile {
+            input: Input::Proof,
+            path: path.as_str(),
+        };
+        match input.read(rt) {
+            Ok(text) => proofs.push(text).map_err(AllocError::from)?,
+            Err(CommandFault::OutOfMemory) => return Err(CommandFault::OutOfMemory),
+            Err(_fault) => {}
+        }
+    }
+    Ok(proofs)
+}
+
+/// Searches, and writes the results.
+fn find_best<R: World, E: Write>(
+    rt: &R,
+    err: &mut E,
+    inputs: &Inputs<'_>,
+    mut texts: Texts,
+    request: BestRequest<'_>,
+) -> Result<Reply, CommandFault> {
+    let folder = Folder {
+        path: &*request.folder,
+    };
+    folder.check(rt, inputs, &[TABLE, PAGE, GROUPS, TREE])?;
+    let found = folder.find(rt, inputs, TABLE)?;
+    let is_own = match request.start {
+        Some(path) => found.is_read(rt, path)?,
+        None => false,
+    };
+    if texts.table.is_some() {
+        texts.proofs = read_proofs(rt, folder)?;
+    }
+    let files = BestFiles {
+        rt: &*rt,
+        folder,
+        has_table: Cell::new(is_own),
+        has_proofs: Cell::new(false),
+    };
+    let mut table = found.prepare(rt)?;
+    let search = BestSearch {
+        rounds: request.search.rounds,
+        seed: request.search.seed,
+        start: texts.table.as_ref().map(|text| text.as_slice()),
+        proofs: &texts.proofs,
+    };
+    let instance = texts.instance.as_slice();
+    let mut ticker = ticker_of(rt, err, "best", request.showing);
+    let answer = search_shown(&files, &mut ticker, instance, &mut table, search, request);
+    ticker.clear();
+    let answer = answer?;
+    let batch = files.write(Batch::new(rt.alloc()), &answer, &mut table)?;
+    reply_with(rt, batch, answer.status, answer.out)
+}
+
+/// Returns the answer, once the timetable, its page and the proofs are in their files.
+pub fn answer_best<R: World, E: Write>(
+    rt: &R,
+    err: &mut E,
+    request: BestRequest<'_>,
+) -> Result<Reply, CommandFault> {
+    let mut inputs = Inputs::new(rt.alloc());
+    let instance = inputs.add(Input::Instance, request.instance)?;
+    // The timetable from which the search begins may be the one that it replaces, so it isn't among the inputs.
+    let mut starts = inputs.copy()?;
+    let start = starts.add_given(Input::Solution, request.start)?;
+    let texts = Texts {
+        instance: instance.read(rt)?,
+        table: match start {
+            Some(file) => Some(file.read(rt)?),
+            None => None,
+        },
+        proofs: Vec::new(rt.alloc()),
+    };
+    let folder = Folder {
+        path: request.folder,
+    };
+    let is_made = folder.make(rt)?;
+    let reply = find_best(rt, err, &inputs, texts, request);
+    if reply.is_err() {
+        folder.remove_made(rt, is_made);
+    }
+    reply
+}

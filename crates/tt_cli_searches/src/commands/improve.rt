@@ -1,0 +1,80 @@
+//! The files of `improve`.
+
+use crate::saving::kept_table;
+use std::io::Write;
+use tt_call_answers::{Answer, AppFault};
+use tt_cli_arguments::{ImproveRequest, Search};
+use tt_cli_files::{Batch, Role};
+use tt_cli_saving::{
+    CommandFault, Input, Inputs, Keeper, NoShelf, Prepared, Reply, Target, Ticker, World,
+    reply_with, ticker_of,
+};
+use tt_call_searches::{ImproveSearch, improve};
+
+/// The bytes of an instance and of the solution from which a search begins.
+#[derive(Clone, Copy)]
+struct Start<'a> {
+    instance: &'a [u8],
+    solution: &'a [u8],
+}
+
+/// Improves a timetable, shows the progress on standard error, and keeps timetables on the way if the options ask for it.
+fn improve_shown<'k, R: World, E: Write>(
+    rt: &'k R,
+    ticker: &'k mut Ticker<'_, R, E>,
+    start: Start<'k>,
+    out: &'k mut Prepared<R::File>,
+    search: Search,
+) -> Result<Answer, AppFault> {
+    let table = kept_table(rt.alloc(), start.instance, out, search.keeps, false);
+    let mut keeper = Keeper::new(rt, ticker, search.seconds, table, NoShelf, false);
+    let Search {
+        seed,
+        steps,
+        runs,
+        completes,
+        ..
+    } = search;
+    let search = ImproveSearch {
+        seed,
+        steps,
+        runs,
+        completes,
+    };
+    improve(
+        rt.alloc(),
+        start.instance,
+        start.solution,
+        search,
+        &mut keeper,
+    )
+}
+
+/// Returns the answer of `improve`, once the timetable is in its file.
+pub fn answer_improve<R: World, E: Write>(
+    rt: &R,
+    err: &mut E,
+    request: ImproveRequest<'_>,
+) -> Result<Reply, CommandFault> {
+    let mut inputs = Inputs::new(rt.alloc());
+    let instance = inputs.add(Input::Instance, request.instance)?;
+    let solution = inputs.add(Input::Solution, request.solution)?;
+    let target = Target {
+        role: Role::Solution,
+        path: request.out,
+    };
+    let out = target.find(rt, &inputs)?;
+    let instance = instance.read(rt)?;
+    let solution = solution.read(rt)?;
+    let mut out = out.prepare(rt)?;
+    let start = Start {
+        instance: &instance,
+        solution: &solution,
+    };
+    let mut ticker = ticker_of(rt, err, "improve", request.showing);
+    let answer = improve_shown(rt, &mut ticker, start, &mut out, request.search);
+    ticker.clear();
+    let answer = answer?;
+    let batch = out.write_given(rt, Batch::new(rt.alloc()), &answer.table)?;
+    reply_with(rt, batch, answer.status, answer.out)
+}

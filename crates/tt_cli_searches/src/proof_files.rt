@@ -1,0 +1,56 @@
+//! Files of proofs in a folder.
+
+use std::alloc::AllocError;
+use tt_cli_files::{Batch, Role};
+use tt_cli_saving::{Folder, FolderFile, World};
+
+/// The file of groups.
+pub const GROUPS: FolderFile = FolderFile {
+    role: Role::Proof,
+    name: "groups.proof",
+};
+
+/// The first bytes of a file of groups.
+const GROUPS_START: &[u8] = b"CTTG";
+
+/// The files in which a search writes its proofs.
+#[derive(Clone, Copy)]
+pub struct ProofFolder<'a> {
+    pub folder: Folder<'a>,
+    /// The file of a tree proof.
+    pub tree: FolderFile,
+}
+
+impl<'a> ProofFolder<'a> {
+    /// Returns the file of a proof, by its first bytes.
+    fn file_of(self, proof: &[u8]) -> FolderFile {
+        if proof.starts_with(GROUPS_START) {
+            GROUPS
+        } else {
+            self.tree
+        }
+    }
+
+    /// Checks whether the files can be written more than once.
+    pub fn can_keep<R: World>(self, rt: &R) -> Result<bool, AllocError> {
+        Ok(self.folder.can_keep(rt, GROUPS)? && self.folder.can_keep(rt, self.tree)?)
+    }
+
+    /// Adds proofs to a batch, and the files of proofs that an earlier run or an earlier step left and that aren't among them.
+    pub fn write<R: World>(
+        self,
+        rt: &R,
+        mut batch: Batch,
+        proofs: &[Vec<u8>],
+    ) -> Result<Batch, AllocError> {
+        for proof in proofs {
+            batch = self.folder.write(rt, batch, self.file_of(proof), proof)?;
+        }
+        for file in [GROUPS, self.tree] {
+            if !proofs.iter().any(|proof| self.file_of(proof) == file) {
+                batch = self.folder.retire(rt, batch, file)?;
+            }
+        }
+        Ok(batch)
+    }
+}

@@ -1,5 +1,0 @@
-pub mod Inner
-pub use Rattle.tt_facts_path.specs.Facts
-pub use Rattle.tt_facts_path.specs.Live
-pub use Rattle.tt_facts_path.specs.Inner.Nested
-pub use Rattle.tt_facts_path.specs.Inner.Paths

@@ -1,9 +1,0 @@
-use Rattle.std.proofs.Common.{ap}
-use Rattle.tt_instance_data.specs.Problem.{Course, Problem}
-use Rattle.tt_instance_data.specs.Seen.{course_seen}
-use Rattle.tt_instance_data.proofs.Getting.{field_seen}
-use Rattle.tt_instance_data.proofs.instance.Instance.course_id.Goals as goal
-
-pub returns : goal.returns
-returns c = field_seen course_seen c.self.inside.parts.courses.rows.items c.args.course c.index.result.now
-    (λ (k : Course). k.id) c.args.self.now.courses (ap (λ (p : Problem). p.courses) c.self.view_is) c.requires c.index.ensures

@@ -1,9 +1,0 @@
-use Rattle.std.proofs.Common.{ap}
-use Rattle.tt_instance_data.specs.Problem.{Curriculum, Problem}
-use Rattle.tt_instance_data.specs.Seen.{curriculum_seen}
-use Rattle.tt_instance_data.proofs.Getting.{field_seen}
-use Rattle.tt_instance_data.proofs.instance.Instance.curriculum_id.Goals as goal
-
-pub returns : goal.returns
-returns c = field_seen curriculum_seen c.self.inside.parts.curricula.rows.items c.args.curriculum c.index.result.now
-    (λ (k : Curriculum). k.id) c.args.self.now.curricula (ap (λ (p : Problem). p.curricula) c.self.view_is) c.requires c.index.ensures

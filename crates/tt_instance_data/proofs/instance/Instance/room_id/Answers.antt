@@ -1,9 +1,0 @@
-use Rattle.std.proofs.Common.{ap}
-use Rattle.tt_instance_data.specs.Problem.{Room, Problem}
-use Rattle.tt_instance_data.specs.Seen.{room_seen}
-use Rattle.tt_instance_data.proofs.Getting.{field_seen}
-use Rattle.tt_instance_data.proofs.instance.Instance.room_id.Goals as goal
-
-pub returns : goal.returns
-returns c = field_seen room_seen c.self.inside.parts.rooms.rows.items c.args.room c.index.result.now
-    (λ (k : Room). k.id) c.args.self.now.rooms (ap (λ (p : Problem). p.rooms) c.self.view_is) c.requires c.index.ensures

@@ -1,8 +1,0 @@
-use Rattle.std.proofs.Common.{ap}
-use Rattle.tt_instance_data.specs.Problem.{Problem}
-use Rattle.tt_instance_data.proofs.Getting.{teacher_seen}
-use Rattle.tt_instance_data.proofs.instance.Instance.teacher_of.Goals as goal
-
-pub returns-clause-value : goal.returns-clause-value
-returns-clause-value c = teacher_seen c.self.inside.parts.courses c.args.self.now c.args.course c.index.result.now
-    c.self.invariant.indexed.courses (ap (λ (p : Problem). p.courses) c.self.view_is) c.requires c.index.ensures

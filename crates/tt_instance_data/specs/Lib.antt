@@ -1,9 +1,0 @@
-pub mod Beginnings
-pub mod Cells
-pub mod Columns
-pub mod Courses
-pub mod Inner
-pub mod Limits
-pub mod Problem
-pub mod Seen
-pub mod Spelling

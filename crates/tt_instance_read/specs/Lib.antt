@@ -1,0 +1,9 @@
+pub mod Beginnings
+pub mod Counted
+pub mod Reading
+pub mod Words
+pub use Rattle.tt_instance.specs.Cells
+pub use Rattle.tt_instance.specs.Courses
+pub use Rattle.tt_instance.specs.Limits
+pub use Rattle.tt_instance.specs.Problem
+pub use Rattle.tt_instance.specs.Spelling

@@ -1,5 +1,0 @@
-use Rattle.tt_leaf.proofs.Closing.{pinned_closes}
-use Rattle.tt_leaf.proofs.laws.pinned_paths_close.Goals as goal
-
-pub returns : goal.returns
-returns c = λ p path b ok pins holds none. pinned_closes p path pins ok b holds none

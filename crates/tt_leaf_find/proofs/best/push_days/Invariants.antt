@@ -1,0 +1,10 @@
+use Rattle.std.proofs.Common.{◌≡◌, ◌++◌, map}
+use Rattle.tt_leaf_find.specs.Best.{worth, days_of}
+use Rattle.tt_list_laws.specs.Words.{range_below}
+use Rattle.tt_leaf_find.proofs.best.push_days.Given as goal
+
+abbrev pub invariant-loop-course : goal.invariant-loop-course
+invariant-loop-course g l =
+    let p = g.P.Path.problem l.path in
+    let facts = g.P.Path.facts l.path in
+    l.claims.items ≡ l.fn.claims.items ++ worth p facts (map (days_of l.stacked) (range_below l.course))

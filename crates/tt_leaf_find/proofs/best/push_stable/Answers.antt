@@ -1,0 +1,25 @@
+use Rattle.std.proofs.Common.{◌≡◌, ◌++◌, map, length, sym, subst, ap, arith}
+use Rattle.std.proofs.lemmas.List.{append-nil}
+use Rattle.tt_list_laws.specs.Words.{range_below}
+use Rattle.tt_leaf_find.specs.Best.{worth}
+use Rattle.tt_leaf.specs.declared.leaf.Claim.TheVariants.{Stable}
+use Rattle.tt_list_laws.proofs.Growing.{pushed_more}
+use Rattle.tt_leaf_find.proofs.Steps.{worth_more}
+use Rattle.tt_leaf_find.proofs.best.push_stable.Goals as goal
+
+pub loop-course-preserved : goal.loop-course-preserved
+loop-course-preserved g c =
+    pushed_more _ _ _ c.in_ok-push_if_worth.ensures.worth c.loop-course.invariant
+    (worth_more (g.P.Path.problem c.args.path.now) (g.P.Path.facts c.args.path.now) (λ n. Stable n) c.loop-course.course)
+
+pub loop-course-init : goal.loop-course-init
+loop-course-init g c = sym (append-nil c.args.claims.now.items)
+
+pub returns : goal.returns
+returns g c =
+    let p = g.P.Path.problem c.args.path.now in
+    let facts = g.P.Path.facts c.args.path.now in
+    let all : c.loop-course.course ≡ length p.courses =
+    omega (arith, c.courses-course-end.ensures.value, ap (λ z. length z.courses) c.instance.ensures) in
+    subst (λ n. c.loop-course.claims.items ≡ c.args.claims.now.items ++ worth p facts (map Stable (range_below n))) all
+    c.loop-course.invariant

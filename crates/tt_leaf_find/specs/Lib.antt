@@ -1,0 +1,12 @@
+pub mod Best
+pub mod Found
+pub mod Inner
+pub mod Pinned
+pub use Rattle.tt_leaf_rules.specs.Bounds
+pub use Rattle.tt_leaf_rules.specs.Claims
+pub use Rattle.tt_leaf_rules.specs.Faults
+pub use Rattle.tt_leaf_rules.specs.Leaves
+pub use Rattle.tt_leaf_rules.specs.Inner.NumberSet
+pub use Rattle.tt_leaf_rules.specs.Inner.Nested
+pub use Rattle.tt_leaf_rules.specs.Outcomes
+pub use Rattle.tt_leaf.specs.Ranges

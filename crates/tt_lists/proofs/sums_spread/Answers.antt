@@ -1,5 +1,0 @@
-use Rattle.tt_lists.proofs.Sums.{spread_up}
-use Rattle.tt_lists.proofs.sums_spread.Goals as goal
-
-pub returns : goal.returns
-returns c = λ f w xs places h. spread_up f w xs places h

@@ -1,0 +1,16 @@
+use Rattle.std.proofs.Common.{◌+◌, ◌*◌, ◌&&◌, ap, ◌∙◌}
+use Rattle.tt_path.specs.Facts.{agrees}
+use Rattle.tt_path_cells.specs.Inner.Tables.{is_open}
+use Rattle.tt_path_cells.proofs.Reading.{any_block, spare-cell}
+use Rattle.tt_path_cells.proofs.asking.has_period.Goals as goal
+
+pub returns : goal.returns
+returns c =
+    let a = c.args in
+    let r = c.requires in
+    let p = a.instance.now in
+    let words = a.table.now.words in
+    c.has_blocks.ensures
+    ∙ any_block p (is_open p words a.room a.course a.day a.period)
+    (λ w k hw hk past. ap (λ b. b && agrees a.room (w * 64 + k))
+    (spare-cell p words a.course a.day a.period w k r.table r.course r.day r.period hw hk past))

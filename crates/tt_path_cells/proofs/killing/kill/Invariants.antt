@@ -1,0 +1,12 @@
+use Rattle.std.proofs.Common.{◌≡◌, ◌&&◌}
+use Rattle.std.specs.Prelude.{nat_lt}
+use Rattle.tt_path_cells.specs.Inner.Tables.{Loses}
+use Rattle.tt_path_cells.specs.Inner.Shown.{is_struck}
+use Rattle.tt_path_cells.proofs.killing.kill.Given as goal
+
+abbrev pub invariant-loop-course : goal.invariant-loop-course
+invariant-loop-course l = record {
+  loses : Loses l.instance l.fn.live.words
+      (λ x. nat_lt x.course l.course && is_struck l.instance l.free.words l.pattern l.day l.period l.courses x) l.live.words;
+  earlier : l.live.earlier ≡ l.fn.live.earlier;
+}

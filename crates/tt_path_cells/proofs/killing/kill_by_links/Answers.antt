@@ -1,0 +1,20 @@
+use Rattle.std.proofs.Common.{◌≡◌, length, sym, ◌∙◌, subst, arith}
+use Rattle.tt_path_cells.specs.Inner.Tables.{Loses}
+use Rattle.tt_path_cells.specs.Inner.Shown.{is_struck}
+use Rattle.tt_path_cells.proofs.Linked.{list_of_one}
+use Rattle.tt_path_cells.proofs.killing.kill_by_links.Goals as goal
+
+pub kill_one-requires-clause-one : goal.kill_one-requires-clause-one
+kill_one-requires-clause-one c =
+    let ks = c.args.courses.now in
+    let one : length ks ≡ 1 = omega arith in
+    sym c.requires.courses ∙ list_of_one ks one
+
+pub returns-then-courses-clause-ok : goal.returns-then-courses-clause-ok
+returns-then-courses-clause-ok c =
+    let a = c.args in
+    let p = a.instance.now in
+    let ks = a.courses.now in
+    let one : length ks ≡ 1 = omega arith in
+    subst (λ l. Loses p a.live.now.words (is_struck p a.free.now.words a.pattern.now a.day a.period l) c.kill_one.new.live.words)
+    (sym (list_of_one ks one)) c.in_ok-kill_one.ensures.ok

@@ -1,0 +1,35 @@
+use Rattle.std.proofs.Common.{◌≡◌, ◌+◌, ◌*◌, ◌<◌, ◌&&◌, ◌∙◌, subst, arith}
+use Rattle.std.specs.Prelude.{nat_lt}
+use Rattle.tt_path.specs.Facts.{agrees}
+use Rattle.tt_bits.specs.Inner.Bits.{Clears}
+use Rattle.tt_path_cells.specs.Inner.Words.{width, is_here, Drops}
+use Rattle.tt_path_cells.proofs.Dropping.{block_dropped, word_dropped, rooms_removed}
+use Rattle.tt_path_cells.proofs.removing.remove_rooms.Goals as goal
+
+pub loop-block-preserved : goal.loop-block-preserved
+loop-block-preserved c =
+    let a = c.args in
+    let r = c.requires in
+    let p = a.instance.now in
+    let n = c.loop-block.block in
+    let mid = c.loop-block.table.words in
+    let new = c.clear.new.table.words in
+    let mask = c.allowed.result in
+    let here : n < width p = omega (arith, c.width-block-end.ensures.value) in
+    let cleared = subst (λ i. Clears mid i mask new) c.place.ensures.value c.in_ok-clear.ensures.ok in
+    record {
+      drops = block_dropped p a.table.now.words a.course a.day a.period n mask
+          (λ w i. agrees a.room (w * 64 + i)) mid new r.course r.day r.period here c.loop-block.invariant.drops
+          (word_dropped p mid a.course a.day a.period n mask new r.course r.day r.period here cleared) c.allowed.ensures;
+      earlier = c.clear.ensures.unchanged ∙ c.loop-block.invariant.earlier;
+    }
+
+pub returns-clause-ok : goal.returns-clause-ok
+returns-clause-ok c =
+    let a = c.args in
+    let p = a.instance.now in
+    let new = c.loop-block.table.words in
+    let end : c.loop-block.block ≡ width p = omega (arith, c.width-block-end.ensures.value) in
+    rooms_removed p a.table.now.words a.course a.day a.period a.room new c.requires.table
+    (subst (λ n. Drops p a.table.now.words new (λ b. is_here a.course a.day a.period b && nat_lt b.block n && agrees a.room
+    (b.block * 64 + b.number))) end c.loop-block.invariant.drops)

@@ -1,0 +1,66 @@
+//! The facts as a list, and the list of the yes-facts' patterns, each once.
+
+ghost use Rattle.std.specs.Prelude.{◌≡◌, ◌<◌, [], ◌∷◌, ◌++◌, ◌&&◌, not, length, OnOk, OnErr};
+ghost use Rattle.std.specs.List.{list_any};
+ghost use Rattle.tt_path.specs.Facts.{same_pattern};
+ghost use Rattle.tt_path_cells.specs.Inner.Listing.{IsListing};
+
+use std::alloc::AllocError;
+use tt_path::{Fact, Pattern};
+
+/// Returns whether it is a yes-fact whose pattern isn't listed.
+fn is_new(fact: &Fact, is_listed: bool) -> bool
+    ensures { result ≡ (fact.now.holds && not is_listed) }
+{
+    fact.holds && !is_listed
+}
+
+/// Adds a fact to the lists it belongs in, with whether it is the first yes-fact of its pattern: `is_listed` says that there is an
+/// earlier one. Not inlined, since inlining copies the fact field by field.
+#[inline(never)]
+pub fn list_fact(
+    facts: &mut Vec<Fact>,
+    firsts: &mut Vec<bool>,
+    yes: &mut Vec<Pattern>,
+    fact: Fact,
+    is_listed: bool,
+) -> Result<(), AllocError>
+    requires listing { IsListing facts.old.items firsts.old.items yes.old.items }
+    requires listed { is_listed ≡ list_any (λ g. same_pattern g fact.pattern) yes.old.items }
+    ensures ok { OnOk result (facts.new.items ≡ facts.old.items ++ fact ∷ []) }
+    ensures err { OnErr result (facts.new.items ≡ facts.old.items) }
+    ensures listing { IsListing facts.new.items firsts.new.items yes.new.items }
+{
+    let is_new = is_new(&fact, is_listed);
+    facts.push(fact)?;
+    if let Err(fault) = firsts.push(is_new) {
+        let _ = facts.pop();
+        return Err(fault.into());
+    }
+    if !is_new {
+        return Ok(());
+    }
+    if let Err(fault) = yes.push(fact.pattern) {
+        let _ = firsts.pop();
+        let _ = facts.pop();
+        return Err(fault.into());
+    }
+    Ok(())
+}
+
+/// Removes the newest fact from the lists and returns it.
+#[inline(always)]
+pub fn unlist_fact(facts: &mut Vec<Fact>, firsts: &mut Vec<bool>, yes: &mut Vec<Pattern>) -> Fact
+    requires positive { 0 < length facts.old.items }
+    requires listing { IsListing facts.old.items firsts.old.items yes.old.items }
+    ensures fact { facts.old.items ≡ facts.new.items ++ result ∷ [] }
+    ensures listing { IsListing facts.new.items firsts.new.items yes.new.items }
+{
+    let fact = facts.take_last();
+    let is_new = firsts.take_last();
+    if !is_new {
+        return fact;
+    }
+    let _ = yes.pop();
+    fact
+}

@@ -1,9 +1,0 @@
-use Rattle.std.proofs.Common.{arith}
-use Rattle.tt_proof_text.proofs.ByteLaws.{digits_short}
-use Rattle.tt_proof_text.proofs.bytes.index_bytes.Goals as goal
-
-pub overflow_add-result : goal.overflow_add-result
-overflow_add-result c = omega (arith, digits_short c.from.result c.from.type_inv)
-
-pub returns-clause-short : goal.returns-clause-short
-returns-clause-short c = omega (arith, digits_short c.from.result c.from.type_inv)

@@ -1,4 +1,0 @@
-use Rattle.tt_search_replan.proofs.spelling.Speller.+spell.Given as goal
-
-abbrev pub decreases-spell : goal.decreases-spell
-decreases-spell l = l.left

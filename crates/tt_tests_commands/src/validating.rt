@@ -1,0 +1,70 @@
+//! The output of `validate` for a solution.
+
+use std::test::Fail;
+use tt_table::MAX_ENTRIES;
+use tt_testing_runs::validated;
+use tt_testing_samples::{LONG, MINI, TOUR, TRIO, edited, repeated};
+
+#[test]
+fn ten_lines_and_a_status(rt: HostRuntime) -> Result<(), Fail> {
+    for (instance, solution, status, lines) in [
+        (
+            LONG,
+            "a R 0 0\nb R 1 0\n",
+            0,
+            "lectures 0\nconflicts 0\navailability 0\nroom_occupancy 0\nroom_capacity 1\nmin_working_days 0\ncompactness 4\nroom_stability 0\nhard 0\ncost 5\n",
+        ),
+        (
+            TRIO,
+            "x A 0 0 y A 0 0 z A 0 0",
+            1,
+            "lectures 0\nconflicts 3\navailability 0\nroom_occupancy 2\nroom_capacity 0\nmin_working_days 0\ncompactness 6\nroom_stability 0\nhard 5\ncost 6\n",
+        ),
+        (
+            TOUR,
+            "x A 0 0\nx B 1 0\nx A 2 0\n",
+            0,
+            "lectures 0\nconflicts 0\navailability 0\nroom_occupancy 0\nroom_capacity 0\nmin_working_days 0\ncompactness 0\nroom_stability 1\nhard 0\ncost 1\n",
+        ),
+    ] {
+        let outcome = validated(rt.alloc(), instance, solution)?;
+        assert_eq!(rt; outcome.answer(), (status, lines, ""));
+    }
+    Ok(())
+}
+
+const FULL_TIMETABLE: &str =
+    "lectures 32767\nconflicts 0\navailability 0\nroom_occupancy 16383\nroom_capacity 0\nmin_working_days 5\ncompactness 32768\nroom_stability 0\nhard 49150\ncost 32773\n";
+
+#[test]
+fn as_many_entries_as_allowed(rt: HostRuntime) -> Result<(), Fail> {
+    let solution = repeated(rt.alloc(), "a R 0 0\n", MAX_ENTRIES)?;
+    let outcome = validated(rt.alloc(), MINI, &solution)?;
+    assert_eq!(rt; outcome.answer(), (1, FULL_TIMETABLE, ""));
+    Ok(())
+}
+
+#[test]
+fn one_entry_too_many(rt: HostRuntime) -> Result<(), Fail> {
+    let lines = repeated(rt.alloc(), "a R 0 0\n", MAX_ENTRIES)?;
+    // Any first token of the entry is enough.
+    for more in ["a R 0 0\n", "c", "a R 0 0 b R"] {
+        let solution = format!(in rt.alloc(); "{lines}{more}")?;
+        let outcome = validated(rt.alloc(), MINI, &solution)?;
+        let refused = "refused: solution: TooMany at byte 131072\n";
+        assert_eq!(rt; outcome.answer(), (2, "", refused));
+    }
+    Ok(())
+}
+
+#[test]
+fn nothing_is_read_after_the_end(rt: HostRuntime) -> Result<(), Fail> {
+    let longer = edited(rt.alloc(), MINI, "END.\n", "END.\nx y\n")?;
+    let outcome = validated(rt.alloc(), &longer, "a R 0 0 b R 0 1")?;
+    assert_eq!(rt; (outcome.status, outcome.err.as_str()), (0, ""));
+    let joined = edited(rt.alloc(), MINI, "END.\n", "END.x\n")?;
+    let outcome = validated(rt.alloc(), &joined, "a R 0 0 b R 0 1")?;
+    let refused = "refused: instance: Expected END. at byte 183\n";
+    assert_eq!(rt; outcome.answer(), (2, "", refused));
+    Ok(())
+}

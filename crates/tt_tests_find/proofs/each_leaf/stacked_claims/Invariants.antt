@@ -1,6 +1,0 @@
-use Rattle.std.specs.Prelude.{All}
-use Rattle.tt_leaf_data.specs.Ranges.{IsClaimOf}
-use Rattle.tt_tests_find.proofs.each_leaf.stacked_claims.Given as goal
-
-abbrev pub invariant-loop-course : goal.invariant-loop-course
-invariant-loop-course g l = All (IsClaimOf (g.P.Path.problem l.path)) l.claims.items

@@ -1,0 +1,196 @@
+//! The output of `inspect`.
+
+use std::alloc::Global;
+use std::test::Fail;
+use tt_testing_files::StoredFile;
+use tt_testing_runs::{Outcome, run_with};
+use tt_testing_samples::{MINI, SAME, TRIO, edited};
+
+/// Returns the outcome of `inspect` for an instance.
+fn inspected(alloc: Global, instance: &str) -> Result<Outcome, Fail> {
+    let files = [StoredFile::new("a.ctt", instance.as_bytes())];
+    run_with(alloc, &["inspect", "a.ctt"], &files)
+}
+
+/// Returns the outcome of `inspect` for Mini and a solution.
+fn mini_inspected(alloc: Global, solution: &str) -> Result<Outcome, Fail> {
+    let files = [
+        StoredFile::new("a.ctt", MINI.as_bytes()),
+        StoredFile::new("a.sol", solution.as_bytes()),
+    ];
+    run_with(alloc, &["inspect", "a.ctt", "a.sol"], &files)
+}
+
+/// The output for Mini.
+const MINI_LINES: &str =
+    "2 courses with 2 lectures, 2 teachers, 1 room, 1 curriculum\n1 day of 3 periods, 3 places in all rooms, 66 percent full\n1 of 1 pair of courses can't meet at the same time, 100 percent\nthe largest room has 11 seats, the largest course 12 students; 1 lecture has no room that is large enough\ncosts 1 at least: course b has 12 students, the largest room 11 seats\n";
+
+/// A curriculum, a teacher and a course with more lectures than open periods, and other remarkable data.
+const SOLO: &str =
+    "Name: Solo\nCourses: 2\nRooms: 2\nDays: 2\nPeriods_per_day: 1\nCurricula: 1\nConstraints: 1\n\nCOURSES:\na t1 2 3 10\nb t2 1 1 12\n\nROOMS:\nR 11\nS 9\n\nCURRICULA:\nq 1 a\n\nUNAVAILABILITY_CONSTRAINTS:\na 0 0\n\nEND.\n";
+
+#[test]
+fn instances_in_words(rt: HostRuntime) -> Result<(), Fail> {
+    for (instance, status, lines) in [
+        (MINI, 0, MINI_LINES),
+        (
+            TRIO,
+            1,
+            "3 courses with 3 lectures, 3 teachers, 1 room, 1 curriculum\n1 day of 1 period, 1 place in all rooms, 300 percent full\n3 of 3 pairs of courses can't meet at the same time, 100 percent\nthe largest room has 10 seats, the largest course 1 student\ncan't be: there are 3 lectures, the rooms have 1 place in the week\ncan't be: curriculum q has 3 lectures, the week has 1 period\n",
+        ),
+        (
+            SAME,
+            1,
+            "2 courses with 2 lectures, 1 teacher, 2 rooms, 0 curricula\n1 day of 1 period, 2 places in all rooms, 100 percent full\n1 of 1 pair of courses can't meet at the same time, 100 percent\nthe largest room has 10 seats, the largest course 1 student\ncan't be: teacher t has 2 lectures, the week has 1 period\nlook at: 2 courses are in no curriculum: x y\n",
+        ),
+        (
+            SOLO,
+            1,
+            "2 courses with 3 lectures, 2 teachers, 2 rooms, 1 curriculum\n2 days of 1 period, 4 places in all rooms, 75 percent full\n0 of 1 pair of courses can't meet at the same time, 0 percent\nthe largest room has 11 seats, the largest course 12 students; 1 lecture has no room that is large enough\ncan't be: curriculum q has 2 lectures, its courses can meet in 1 period\ncan't be: teacher t1 has 2 lectures, its courses can meet in 1 period\ncan't be: course a has 2 lectures and can meet in 1 period\ncosts 5 at least: course a wants 3 days, the week has 2\ncosts 1 at least: course b has 12 students, the largest room 11 seats\nlook at: 1 course is in no curriculum: b\nlook at: 1 curriculum has fewer than two courses: q\nlook at: 1 room is too small for every course: S\n",
+        ),
+    ] {
+        let outcome = inspected(rt.alloc(), instance)?;
+        assert_eq!(rt; outcome.answer(), (status, lines, ""));
+    }
+    Ok(())
+}
+
+#[test]
+fn nothing_to_look_at(rt: HostRuntime) -> Result<(), Fail> {
+    let instance = edited(rt.alloc(), MINI, "R 11", "R 12")?;
+    let outcome = inspected(rt.alloc(), &instance)?;
+    let lines =
+        "2 courses with 2 lectures, 2 teachers, 1 room, 1 curriculum\n1 day of 3 periods, 3 places in all rooms, 66 percent full\n1 of 1 pair of courses can't meet at the same time, 100 percent\nthe largest room has 12 seats, the largest course 12 students\nnothing to look at\n";
+    assert_eq!(rt; outcome.answer(), (0, lines, ""));
+    Ok(())
+}
+
+#[test]
+fn faults_of_counts_and_headers_in_words(rt: HostRuntime) -> Result<(), Fail> {
+    for (old, new, lines) in [
+        (
+            "Courses: 2",
+            "Courses: 3",
+            "instance: NotANumber at byte 134\nline 16, column 1: CURRICULA: is there, a number was expected\n  CURRICULA:\n  ^\nlikely: the header says Courses: 3, and 2 lines follow COURSES:\n",
+        ),
+        (
+            "Courses: 2",
+            "Courses: 1",
+            "instance: Expected ROOMS: at byte 108\nline 11, column 1: b is there, ROOMS: was expected\n  b t2 1 1 12\n  ^\nlikely: the header says Courses: 1, and 2 lines follow COURSES:\n",
+        ),
+        (
+            "END.\n",
+            "",
+            "instance: Ended at byte 183\nline 21, column 1: the file ends there, more was expected\nlikely: the word END. is missing\n",
+        ),
+        (
+            "Days: 1",
+            "Tage: 1",
+            "instance: Expected Days: at byte 31\nline 4, column 1: Tage: is there, Days: was expected\n  Tage: 1\n  ^\nlikely: the word Days: is missing\n",
+        ),
+        (
+            "Constraints: 0",
+            "Constraints: 1",
+            "instance: UnknownCourse at byte 183\nline 21, column 1: END. is there, the name of a course was expected\n  END.\n  ^\nlikely: the header says Constraints: 1, and 0 lines follow UNAVAILABILITY_CONSTRAINTS:\n",
+        ),
+        (
+            "Name: Mini",
+            "\u{FEFF}Name: Mini",
+            "instance: Expected Name: at byte 0\nline 1, column 1: ???Name: is there, Name: was expected\n  ???Name: Mini\n  ^\nlikely: the file begins with a byte order mark; save it as UTF-8 without one\n",
+        ),
+    ] {
+        let instance = edited(rt.alloc(), MINI, old, new)?;
+        let outcome = inspected(rt.alloc(), &instance)?;
+        assert_eq!(rt; outcome.answer(), (2, lines, ""));
+    }
+    Ok(())
+}
+
+#[test]
+fn faults_of_names_and_numbers_in_words(rt: HostRuntime) -> Result<(), Fail> {
+    for (old, new, lines) in [
+        (
+            "a t1 1 1 10",
+            "a t1 one 1 10",
+            "instance: NotANumber at byte 101\nline 10, column 6: one is there, a number was expected\n  a t1 one 1 10\n       ^\nlikely: a number has digits alone\n",
+        ),
+        (
+            "b t2 1 1 12",
+            "a t2 1 1 12",
+            "instance: Repeated at byte 108\nline 11, column 1: a is there, a name that is new was expected\n  a t2 1 1 12\n  ^\nlikely: the name is used twice, first in line 10\n",
+        ),
+        (
+            "q 2 a b",
+            "q 2 a c",
+            "instance: UnknownCourse at byte 151\nline 17, column 7: c is there, the name of a course was expected\n  q 2 a c\n        ^\nlikely: the name is spelled otherwise under COURSES:, where capital letters count\n",
+        ),
+        (
+            "a t1 1 1 10",
+            "art history t1 1 1 10",
+            "instance: NotANumber at byte 108\nline 10, column 13: t1 is there, a number was expected\n  art history t1 1 1 10\n              ^\nlikely: line 10 has 6 words; a course has 5: name, teacher, lectures, days, students; no name has a space\n",
+        ),
+    ] {
+        let instance = edited(rt.alloc(), MINI, old, new)?;
+        let outcome = inspected(rt.alloc(), &instance)?;
+        assert_eq!(rt; outcome.answer(), (2, lines, ""));
+    }
+    Ok(())
+}
+
+#[test]
+fn solutions_in_words(rt: HostRuntime) -> Result<(), Fail> {
+    for (solution, status, added) in [
+        (
+            "a R 0 0\nb R 0 1\n",
+            0,
+            "the solution has 2 lectures\nno hard rule is broken\ncost 1: 1 for students without a seat, 0 for days that courses lack, 0 for lectures of a curriculum that are alone, 0 for changes of room\n",
+        ),
+        (
+            "a R 0 0\n",
+            1,
+            "the solution has 1 lecture\nbroken 1 time: each course has its lectures, in periods of their own (lectures)\ncost 7: 0 for students without a seat, 5 for days that courses lack, 2 for lectures of a curriculum that are alone, 0 for changes of room\ncourse b: 0 of 1 lecture\n",
+        ),
+    ] {
+        let outcome = mini_inspected(rt.alloc(), solution)?;
+        let lines = format!(in rt.alloc(); "{MINI_LINES}{added}")?;
+        assert_eq!(rt; outcome.answer(), (status, lines.as_str(), ""));
+    }
+    Ok(())
+}
+
+#[test]
+fn faults_of_solutions_in_words(rt: HostRuntime) -> Result<(), Fail> {
+    for (solution, lines) in [
+        (
+            "a R 0 0\nb S 0 1\n",
+            "solution: UnknownRoom at byte 10\nline 2, column 3: S is there, the name of a room was expected\n  b S 0 1\n    ^\nlikely: the name is spelled otherwise in the instance, where capital letters count\n",
+        ),
+        (
+            "a R 0",
+            "solution: Ended at byte 5\nline 1, column 6: the file ends there, more was expected\n  a R 0\n       ^\nlikely: line 1 has 3 words; a lecture has 4: course, room, day, period; no name has a space\n",
+        ),
+    ] {
+        let outcome = mini_inspected(rt.alloc(), solution)?;
+        assert_eq!(rt; outcome.answer(), (2, lines, ""));
+    }
+    Ok(())
+}
+
+#[test]
+fn files_that_cannot_be_read(rt: HostRuntime) -> Result<(), Fail> {
+    let files = [StoredFile::new("a.ctt", MINI.as_bytes())];
+    for (words, refused) in [
+        (
+            ["inspect", "b.ctt", "a.sol"],
+            "refused: instance: cannot read: b.ctt: entity not found\n",
+        ),
+        (
+            ["inspect", "a.ctt", "a.sol"],
+            "refused: solution: cannot read: a.sol: entity not found\n",
+        ),
+    ] {
+        let outcome = run_with(rt.alloc(), &words, &files)?;
+        assert_eq!(rt; outcome.answer(), (2, "", refused));
+    }
+    Ok(())
+}

@@ -1,0 +1,16 @@
+use Rattle.std.proofs.Common.{◌≡◌, List}
+use Rattle.tt_instance.specs.declared.cell.Cell.{Cell}
+use Rattle.tt_walk.specs.Improved.{courses_of, LeadsWithin}
+use Rattle.tt_walk.specs.Inner.Pairs.{IsBest}
+use Rattle.tt_walk.proofs.walking.walk.Given as goal
+
+abbrev pub invariant-loop-made : goal.invariant-loop-made
+invariant-loop-made g l = record {
+  problem : l.occupied.problem ≡ l.initial.occupied.problem;
+  courses : courses_of l.occupied.entries ≡ courses_of l.initial.occupied.entries;
+  here : LeadsWithin l.initial.occupied.problem l.initial.occupied.entries l.made l.occupied.entries;
+  reached : l.initial.best.entries.items ≡ l.initial.occupied.entries
+      → LeadsWithin l.initial.occupied.problem l.initial.occupied.entries l.made l.best.entries.items;
+  best : (t : List Cell) → courses_of l.initial.occupied.entries ≡ courses_of t → IsBest l.initial.occupied.problem t l.initial.best
+      → IsBest l.initial.occupied.problem t l.best;
+}
