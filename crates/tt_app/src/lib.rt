@@ -7,4 +7,6 @@ pub use tt_call_searches::{
     BestAnswer, BestSearch, Effort, ImproveSearch, PartsAnswer, TreeEffort, WatchBest, best,
     improve, parts, solve,
 };
-pub use tt_call_texts::{PageNames, WeekTimes, calendar, inspect, page, proved_page, report, table};
+pub use tt_call_texts::{
+    PageNames, WeekTimes, calendar, inspect, page, proved_page, report, table,
+};

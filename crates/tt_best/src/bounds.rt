@@ -11,8 +11,8 @@ use tt_instance::Instance;
 use tt_leaf::Bound;
 use tt_parts::{Effort, Parts, add_up, copy_texts, find_parts};
 use tt_rules::score;
-use tt_watch::Watch;
 use tt_table::Entry;
+use tt_watch::Watch;
 
 /// Checks whether a bound says more than another one: that no timetable exists that breaks no hard rule says more than any number of points.
 fn is_stronger(one: Bound, other: Bound) -> bool {

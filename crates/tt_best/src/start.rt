@@ -17,8 +17,8 @@ use tt_proof_read::Node;
 use tt_proof_write::{WriteFault, write_proof};
 use tt_rules::score;
 use tt_search::construct;
-use tt_watch::Watch;
 use tt_table::Timetable;
+use tt_watch::Watch;
 
 /// The number of nodes of a tree that are opened.
 const TREE_NODES: u32 = 1_000;

@@ -15,8 +15,8 @@ use tt_instance::Instance;
 use tt_leaf::Bound;
 use tt_rules::score;
 use tt_search::{construct, descend, improve};
-use tt_watch::Watch;
 use tt_table::Timetable;
+use tt_watch::Watch;
 
 /// The steps of a turn of the improvement after the descent: the minimum, the maximum, and the steps for each entry in each cell of a room. A turn
 /// takes one or two seconds on an instance of real size.

@@ -14,10 +14,10 @@ use crate::links::Link;
 use crate::tree_node::{NodeState, TreeNode};
 use crate::visit::go_to;
 use std::alloc::{AllocError, Global};
-use tt_path::Path;
-use tt_leaf_find::best_claims;
 use tt_leaf::Leaf;
+use tt_leaf_find::best_claims;
 use tt_leaf_rules::leaf_value;
+use tt_path::Path;
 use tt_proof_read::Node;
 
 /// The nodes of a proof in preorder, and the least value of a Cost leaf, if it was asked for.

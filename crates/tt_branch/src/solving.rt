@@ -14,13 +14,13 @@ use crate::rounds::{Ending, grow};
 use crate::search::Search;
 use crate::visit::{best_worth, open_at};
 use std::alloc::{AllocError, Global};
-use tt_path_trail::TrailPath;
-use tt_path::Path;
 use tt_instance::Instance;
 use tt_leaf::Bound;
+use tt_path::Path;
+use tt_path_trail::TrailPath;
 use tt_proof_read::Node;
-use tt_watch::Watch;
 use tt_table::Timetable;
+use tt_watch::Watch;
 
 /// The result of a search.
 #[derive(Drop)]

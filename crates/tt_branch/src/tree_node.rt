@@ -3,8 +3,8 @@
 ghost use Rattle.std.specs.Prelude.{◌≡◌, true, IfSome, IsNone};
 ghost use Rattle.tt_branch.specs.Inner.Growing.{is_open};
 
-use tt_path::Pattern;
 use tt_leaf::Leaf;
+use tt_path::Pattern;
 
 /// How far a node has been searched.
 #[derive(Drop)]

@@ -20,10 +20,10 @@ use crate::search::{Search, put};
 use crate::tree_node::{ChildGains, NodeState, TreeNode};
 use std::alloc::{AllocError, Global};
 use tt_branch_split::choose_split;
-use tt_path::{Fact, Path, PathFault, Pattern};
-use tt_leaf_find::{best_claims, find_leaf};
 use tt_leaf::Leaf;
+use tt_leaf_find::{best_claims, find_leaf};
 use tt_leaf_rules::leaf_value;
+use tt_path::{Fact, Path, PathFault, Pattern};
 use tt_rules::score;
 
 /// Replaces the facts of a path by those of a node.

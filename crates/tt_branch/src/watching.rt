@@ -1,8 +1,8 @@
 //! Reporting a search to a watch.
 
 use crate::search::Search;
-use tt_watch::{Pair, Progress, Unit, Watch};
 use tt_table::Entry;
+use tt_watch::{Pair, Progress, Unit, Watch};
 
 /// Reports a search that has opened this many nodes, with the place of the open node of the least value: that value is a lower bound for every
 /// timetable that costs less than the best.

@@ -10,8 +10,8 @@ use crate::leeway::Freedom;
 use crate::prospects::Prospects;
 use crate::strong::best_candidate;
 use std::alloc::{AllocError, Global};
-use tt_path::{Cell, Path, Pattern, Who};
 use tt_instance::Instance;
+use tt_path::{Cell, Path, Pattern, Who};
 
 /// The maximum number of ways to choose the periods of all courses, as a logarithm in sixteenths, for fixing one curriculum
 /// after another: then a search below is likely to end.

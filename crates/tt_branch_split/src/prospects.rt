@@ -5,8 +5,8 @@ ghost use Rattle.std.specs.Prelude.{◌<◌, length};
 use crate::leeway::Leeway;
 use std::alloc::{AllocError, Global};
 use tt_bits::without;
-use tt_path::{Path, Who};
 use tt_instance::Instance;
+use tt_path::{Path, Who};
 
 /// The cost of a working day that a course lacks.
 const LACKING_DAY: u64 = 5;

@@ -3,11 +3,11 @@
 use clap::error::ErrorKind;
 use std::io::Write;
 use tt_cli_arguments::{Request, parse_arguments};
-use tt_cli_files::{Printed, Rescued, StandardStream, Unwritten, Whereabouts, WriteFault};
 use tt_cli_checks::{
     answer_bound, answer_calendar, answer_check, answer_inspect, answer_page, answer_stored,
     answer_sum, answer_table, answer_upgrade, answer_validate, report_to,
 };
+use tt_cli_files::{Printed, Rescued, StandardStream, Unwritten, Whereabouts, WriteFault};
 use tt_cli_saving::{CommandFault, Reply, World};
 use tt_cli_searches::{answer_best, answer_improve, answer_parts, answer_solve};
 

@@ -11,8 +11,8 @@ use std::io::Write;
 use std::rt::Files;
 use tt_cli_files::{Batch, Ready};
 use tt_instance::Instance;
-use tt_watch::{Pair, Progress, Watch};
 use tt_table::{Entry, Timetable, write_solution};
+use tt_watch::{Pair, Progress, Watch};
 
 /// The file in which the best timetable of a search is stored.
 pub struct KeptTable<'k, F> {

@@ -3,9 +3,9 @@
 use crate::proof_files::{GROUPS, ProofFolder};
 use std::alloc::AllocError;
 use std::cell::Cell;
+use tt_call_searches::BestAnswer;
 use tt_cli_files::{Batch, Role};
 use tt_cli_saving::{Folder, FolderFile, Prepared, Shelf, World};
-use tt_call_searches::BestAnswer;
 
 /// The file of the best timetable.
 pub const TABLE: FolderFile = FolderFile {

@@ -2,10 +2,10 @@
 
 use crate::best_files::{BestFiles, BestShelf};
 use std::io::Write;
-use tt_cli_saving::{Keeper, World};
 use tt_call_searches::{BestAnswer, WatchBest};
-use tt_watch::{Progress, Watch};
+use tt_cli_saving::{Keeper, World};
 use tt_table::Entry;
+use tt_watch::{Progress, Watch};
 
 /// Shows how far `best` is, ends it in time, and keeps what it has.
 pub struct BestKeeper<'k, 't, 's, 'a, R: World, E: Write> {

@@ -12,8 +12,8 @@ ghost use Rattle.tt_instance_write.specs.Writing.{counted_line, section, header_
 ghost use Rattle.tt_instance.specs.Seen.{name_seen, course_seen, courses_seen, room_seen, rooms_seen, curriculum_seen, curricula_seen, unavailability_seen, unavailabilities_seen, problem_seen};
 
 use std::alloc::{AllocError, Global};
-use tt_instance_read::Word;
 use tt_instance::{CourseRow, CurriculumRow, Instance, Parts, RoomRow, UnavailabilityRow};
+use tt_instance_read::Word;
 use tt_text::{put_number, put_token};
 
 /// Appends a space and a token.

@@ -11,9 +11,9 @@ ghost use Rattle.tt_leaf_find.specs.Found.{IsAnswer, IsFitClaim};
 
 use crate::prices::{has_seats, price_of};
 use std::alloc::{AllocError, Global};
-use tt_path::Path;
 use tt_leaf::{Claim, ClaimList, Leaf};
 use tt_leaf_rules::claim_value;
+use tt_path::Path;
 
 /// Adds a claim if its value is positive.
 pub fn push_if_worth<'i, P: Path<'i>>(

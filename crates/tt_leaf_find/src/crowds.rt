@@ -7,10 +7,10 @@ use crate::group_prices::{Pricing, price_group};
 use crate::prices::{has_seats, price_of};
 use crate::rivals::rivals_of;
 use std::alloc::{AllocError, Global};
-use tt_path::Path;
 use tt_instance::Instance;
 use tt_leaf::Claim;
 use tt_leaf_rules::{claim_value, slot_count};
+use tt_path::Path;
 
 /// The maximum number of cells of an instance in which groups are searched for.
 const MOST_CELLS: u64 = 8192;

@@ -16,9 +16,9 @@ use crate::best::{best_claims, stacked_claims};
 use crate::overfull::overfull_leaf;
 use crate::priced::priced_claims;
 use std::alloc::{AllocError, Global};
-use tt_path::{Fact, Path};
 use tt_leaf::{Bound, CourseList, Leaf};
 use tt_leaf_rules::holds;
+use tt_path::{Fact, Path};
 
 /// Returns whether a leaf is right.
 fn is_right<'i, P: Path<'i>>(path: &P, leaf: &Leaf, bound: Bound) -> bool

@@ -3,8 +3,8 @@
 ghost use Rattle.std.specs.Prelude.{◌<◌, length};
 
 use std::alloc::{AllocError, Global};
-use tt_path::{Cell, Path};
 use tt_leaf_rules::{slot_at, slot_count};
+use tt_path::{Cell, Path};
 
 /// The number of periods in one word.
 const WORD: u32 = 64;

@@ -8,9 +8,9 @@ use crate::best::{push_capacity_of, push_compact, push_if_worth};
 use crate::crowds::{Crowd, find_crowds};
 use crate::group_prices::Pricing;
 use std::alloc::{AllocError, Global};
-use tt_path::Path;
 use tt_leaf::{Claim, ClaimList, Leaf, PriceList};
 use tt_leaf_rules::claim_value;
+use tt_path::Path;
 
 /// The maximum price that may appear in a proof.
 const MOST_PRICE: u32 = 1_000_000;

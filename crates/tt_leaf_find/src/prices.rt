@@ -14,9 +14,9 @@ ghost use Rattle.tt_instance.specs.declared.limit.TheConstants.{MAX_SEATS};
 use itertools::Itertools;
 use std::alloc::{AllocError, Global};
 use std::vec::IntoIter;
-use tt_path::Path;
 use tt_instance::Slot;
 use tt_leaf_rules::{slot_at, slot_count};
+use tt_path::Path;
 
 /// Returns the `k` smallest numbers, in ascending order.
 fn smallest(alloc: Global, numbers: &[u32], k: usize) -> Result<IntoIter<u32>, AllocError>

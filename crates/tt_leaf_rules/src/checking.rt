@@ -16,9 +16,9 @@ use crate::fault::RuleFault;
 use crate::groups::{are_distinct, has_more_lectures, is_clique, open_periods, open_rooms};
 use crate::pinned::pinned_periods;
 use crate::targets::are_claimed_once;
-use tt_path::{Path, Pattern, Who};
 use tt_instance::{MAX_COURSES, MAX_CURRICULA};
 use tt_leaf::{Bound, Claim, Leaf};
+use tt_path::{Path, Pattern, Who};
 
 fn fault_of_empty<'i, P: Path<'i>>(path: &P, pattern: &Pattern) -> Option<RuleFault>
     ensures { result ≡ fault_of (P.problem path.now) (P.facts path.now) Nothing (Empty pattern.now) }

@@ -11,8 +11,8 @@ use crate::days::{days_value, stacked_value};
 use crate::isolated::compact_value;
 use crate::prices::{are_covered, prices_value};
 use crate::stable::stable_value;
-use tt_path::Path;
 use tt_leaf::Claim;
+use tt_path::Path;
 
 /// Returns the value of a claim on a path, in cost points.
 #[tactic(auto, using(crate::proofs::Sizes::prices_below))]

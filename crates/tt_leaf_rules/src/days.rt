@@ -7,8 +7,8 @@ ghost use Rattle.tt_instance.specs.declared.limit.TheConstants.{MAX_DAYS, MAX_MI
 
 use crate::pinned::pinned_periods;
 use tt_bits::is_empty;
-use tt_path::{Path, Who};
 use tt_instance::{MAX_PERIODS, MISSING_DAY_COST};
+use tt_path::{Path, Who};
 
 #[tactic(auto, using(tt_list_laws::proofs::Numbers::count_more))]
 fn live_days<'i, P: Path<'i>>(path: &P, course: u32) -> u32

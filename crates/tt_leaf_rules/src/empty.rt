@@ -8,8 +8,8 @@ ghost use Rattle.tt_leaf_rules.specs.Leaves.{all_dead};
 ghost use Rattle.tt_leaf_rules.specs.Inner.Nested.{are_rooms_dead, is_period_dead, is_course_dead, is_gone_or_dead};
 
 use crate::slots::{slot_at, slot_count};
-use tt_path::{Path, Pattern, Who, is_none_or_equal};
 use tt_instance::Cell;
+use tt_path::{Path, Pattern, Who, is_none_or_equal};
 
 /// Returns whether the course's cells in the period are dead, in the given room if one is given.
 fn are_rooms_dead<'i, P: Path<'i>>(

@@ -15,8 +15,8 @@ ghost use Rattle.tt_instance.specs.declared.limit.TheConstants.{MAX_COURSES, MAX
 use crate::number_set::{MAX_COMPARED, NumberSet};
 use crate::slots::{slot_at, slot_count};
 use tt_bits::{below, count, either};
-use tt_path::Path;
 use tt_instance::{Instance, MAX_PERIODS};
+use tt_path::Path;
 
 fn is_in_conflict_with_each(instance: &Instance<'_>, course: u32, others: &[u32]) -> bool
     ensures { result ≡ list_all (conflict instance.now course) others.now }

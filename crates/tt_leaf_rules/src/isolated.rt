@@ -12,8 +12,8 @@ ghost use Rattle.tt_instance.specs.declared.limit.TheConstants.{MAX_SLOTS};
 
 use crate::groups::open_on;
 use tt_bits::{count, next, previous, without};
-use tt_path::{Path, Who};
 use tt_instance::{ISOLATED_COST, MAX_DAYS, MAX_PERIODS};
+use tt_path::{Path, Who};
 
 /// Returns the pinned periods of a curriculum on a day that have no live neighbour period, as a set.
 fn isolated_on<'i, P: Path<'i>>(path: &P, curriculum: u32, day: u32) -> u64

@@ -6,8 +6,8 @@ ghost use Rattle.tt_path.specs.Live.{pinned_periods};
 ghost use Rattle.tt_instance.specs.declared.limit.TheConstants.{MAX_SLOTS};
 
 use tt_bits::count;
-use tt_path::{Path, Who};
 use tt_instance::MAX_PERIODS;
+use tt_path::{Path, Who};
 
 /// Counts the periods of the week that are pinned for a course or a curriculum.
 pub fn pinned_periods<'i, P: Path<'i>>(path: &P, who: Who) -> u32

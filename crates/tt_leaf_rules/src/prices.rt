@@ -15,8 +15,8 @@ ghost use Rattle.tt_leaf_rules.specs.declared.limit.TheConstants.{MAX_TARGET_VAL
 use crate::room_prices::RoomPrices;
 use crate::slots::{slot_at, slot_count};
 use tt_bits::{below, both, either, has_bit, is_empty, with_if};
-use tt_path::Path;
 use tt_instance::{Instance, MAX_ROOMS, Slot};
+use tt_path::Path;
 
 /// The rooms of a block: a word has one bit for each.
 const BLOCK: u32 = 64;

@@ -16,8 +16,8 @@ use crate::rest::WithoutEntry;
 use tt_bits::{has_bit, next, previous, without};
 use tt_instance::MAX_PERIODS;
 use tt_occupancy::{IsolationChange, one_if};
-use tt_tallies::put;
 use tt_table::Entry;
+use tt_tallies::put;
 
 impl WithoutEntry<'_, '_, '_> {
     /// Checks whether the moved entry has to be counted again in a curriculum.

@@ -8,8 +8,8 @@ ghost use Rattle.tt_tallies.specs.Inner.Tables.{AreTables};
 
 use std::alloc::{AllocError, Global};
 use tt_instance::Instance;
-use tt_tallies::Tables;
 use tt_table::Entry;
+use tt_tallies::Tables;
 
 /// Returns the tables of the entries.
 pub fn tables_of(

@@ -12,9 +12,9 @@ use crate::recounting::recount;
 use std::alloc::Global;
 use std::marker::Model;
 use tt_instance::Instance;
-use tt_tallies::Tables;
 use tt_rules::Score;
 use tt_table::{Entry, Timetable};
+use tt_tallies::Tables;
 
 /// A timetable for whose tables memory ran out.
 #[derive(Drop)]

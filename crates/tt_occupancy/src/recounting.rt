@@ -8,9 +8,9 @@ ghost use Rattle.tt_occupancy.specs.Inner.Counted.{IsCounted};
 use crate::rescoring::rescored;
 use crate::weighing::weigh;
 use tt_instance::Instance;
-use tt_tallies::Tables;
 use tt_rules::Score;
 use tt_table::Entry;
+use tt_tallies::Tables;
 
 /// Updates the tables for an entry that is replaced by another of its course, and returns the new score.
 pub fn recount(

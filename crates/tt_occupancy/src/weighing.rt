@@ -11,8 +11,8 @@ ghost use Rattle.tt_occupancy.specs.Inner.Weights.{IsWeight};
 use crate::isolation_change::isolation_change_at;
 use crate::weight::Weight;
 use tt_instance::{Instance, MISSING_DAY_COST};
-use tt_tallies::Tables;
 use tt_table::Entry;
+use tt_tallies::Tables;
 
 /// Returns 1 if the test passes, else 0.
 pub fn one_if(test: bool) -> u32

@@ -10,8 +10,8 @@ use std::alloc::{AllocError, Global};
 use tt_instance::Instance;
 use tt_leaf::Bound;
 use tt_parts_groups::{GroupSearch, KnownProof, find_groups, write_all};
-use tt_watch::Watch;
 use tt_table::Entry;
+use tt_watch::Watch;
 
 /// The number of relaxations that the search for groups may do for each node allowed.
 const RELAXATIONS_OF_NODE: u64 = 50_000;

@@ -4,12 +4,12 @@ ghost use Rattle.std.specs.Prelude.{All, IfOk};
 ghost use Rattle.tt_leaf.specs.Ranges.{IsClaimOf};
 
 use std::alloc::{AllocError, Global};
-use tt_path_trail::TrailPath;
-use tt_path::Path;
 use tt_instance::Instance;
-use tt_leaf_find::best_claims;
 use tt_leaf::{Bound, Claim, ClaimList, Leaf};
+use tt_leaf_find::best_claims;
 use tt_leaf_rules::claim_value;
+use tt_path::Path;
+use tt_path_trail::TrailPath;
 use tt_proof_read::Node;
 use tt_proof_write::{WriteFault, write_proof};
 

@@ -15,8 +15,8 @@ use std::alloc::{AllocError, Global};
 use tt_groups_read::GroupClaim;
 use tt_instance::Instance;
 use tt_parts_least::Allowance;
-use tt_watch::{Progress, Unit, Watch};
 use tt_table::Entry;
+use tt_watch::{Progress, Unit, Watch};
 
 /// The maximum number of states of a group, stage by stage.
 const STATES: [u32; 3] = [16_384, 65_536, 262_144];

@@ -14,9 +14,9 @@ use crate::settling::settle;
 use crate::watching::{NO_WATCH, Watches};
 use std::alloc::AllocError;
 use tt_bits::Trail;
-use tt_path::{Fact, Pattern};
 use tt_instance::Instance;
 use tt_instance_links::Conflicts;
+use tt_path::{Fact, Pattern};
 
 /// Changes both tables for a no-fact, the last of the facts. `yes` has the patterns of the yes-facts; if one of them is the
 /// no-fact's, which `is_listed` says, no cell is live.

@@ -11,9 +11,9 @@ use crate::settling::settle;
 use crate::watching::Watches;
 use std::alloc::AllocError;
 use tt_bits::Trail;
-use tt_path::{Pattern, Who};
 use tt_instance::Instance;
 use tt_instance_links::Conflicts;
+use tt_path::{Pattern, Who};
 
 /// Returns whether some number agrees with both, as far as they are given.
 fn can_agree(first: Option<u32>, second: Option<u32>) -> bool

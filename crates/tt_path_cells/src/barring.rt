@@ -10,8 +10,8 @@ use crate::periods::{is_allowed, slots_of};
 use crate::removing::remove_rooms;
 use std::alloc::AllocError;
 use tt_bits::Trail;
-use tt_path::Pattern;
 use tt_instance::Instance;
+use tt_path::Pattern;
 
 /// Removes a course's cells that agree with a pattern which gives this day and this period.
 fn remove_at(

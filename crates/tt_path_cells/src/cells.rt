@@ -13,9 +13,9 @@ use crate::watching::Watches;
 use std::alloc::{AllocError, Global};
 use std::marker::Model;
 use tt_bits::{Trail, is_empty};
-use tt_path::{Cell, Fact, Pattern};
 use tt_instance::Instance;
 use tt_instance_links::Conflicts;
+use tt_path::{Cell, Fact, Pattern};
 
 /// The facts, which of them are the first yes-facts of their patterns, these patterns, the cells that are not barred, and the live ones.
 #[derive(Drop)]

@@ -4,8 +4,8 @@ ghost use Rattle.std.specs.Prelude.{◌≡◌};
 ghost use Rattle.tt_path.specs.Inner.Nested.{courses_of};
 
 use std::slice;
-use tt_path::Who;
 use tt_instance::Instance;
+use tt_path::Who;
 
 /// Returns the course that is meant, or the members of the curriculum that is meant.
 pub fn courses_of<'a>(instance: &'a Instance<'_>, who: &'a Who) -> &'a [u32]

@@ -16,9 +16,9 @@ use crate::removing::{keep_rooms, remove_rooms};
 use crate::rooms::Rooms;
 use std::alloc::AllocError;
 use tt_bits::Trail;
-use tt_path::Pattern;
 use tt_instance::Instance;
 use tt_instance_links::Conflicts;
+use tt_path::Pattern;
 
 /// Returns the rooms that a course loses in the period if another course must have one of its free rooms.
 fn rooms_lost_to(

@@ -8,8 +8,8 @@ ghost use Rattle.tt_path_cells.specs.Inner.Slots.{is_allowed, is_left_in, Covers
 
 use crate::asking::has_period;
 use tt_bits::Trail;
-use tt_path::{Pattern, is_none_or_equal};
 use tt_instance::Instance;
+use tt_path::{Pattern, is_none_or_equal};
 
 /// Returns bounds of the numbers of the periods that a pattern allows.
 pub fn slots_of(instance: &Instance<'_>, pattern: &Pattern) -> (u32, u32)

@@ -16,9 +16,9 @@ use crate::rooms::Rooms;
 use crate::watching::{NO_WATCH, Watch, is_spread};
 use std::alloc::AllocError;
 use tt_bits::Trail;
-use tt_path::Pattern;
 use tt_instance::Instance;
 use tt_instance_links::Conflicts;
+use tt_path::Pattern;
 
 /// Removes the live cells that a pattern excludes, if its first free period is this one. Returns this period and the next free one.
 fn settle_from(

@@ -7,8 +7,8 @@ ghost use Rattle.tt_path_cells.specs.Inner.Spread.{IsSpread};
 use crate::periods::is_left_in;
 use std::alloc::{AllocError, Global};
 use tt_bits::Trail;
-use tt_path::Pattern;
 use tt_instance::Instance;
+use tt_path::Pattern;
 
 /// The numbers of two periods, the first below the second; other numbers say that none are known.
 #[derive(Clone, Copy)]

@@ -9,9 +9,9 @@ use crate::fact_table::add_fact;
 use crate::pinning::{pin_period, pin_room};
 use std::alloc::AllocError;
 use tt_bits::Trail;
-use tt_path::Fact;
 use tt_instance::Instance;
 use tt_instance_links::Curricula;
+use tt_path::Fact;
 
 /// Writes the period and the room that a fact pins.
 fn pin(

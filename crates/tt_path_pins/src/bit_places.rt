@@ -4,8 +4,8 @@ ghost use Rattle.std.specs.Prelude.{◌≡◌, ◌<◌, ◌≤◌, ◌*◌, ℕ,
 ghost use Rattle.tt_path_pins.specs.Inner.FactTable.{fact_row, fact_rows, open_place, open_size, closed_place, fact_table_size, bit_place_in, bit_place_at, is_nowhere};
 ghost use Rattle.tt_instance.specs.declared.limit.TheConstants.{MAX_COURSES, MAX_DAYS};
 
-use tt_path::{Fact, Pattern, Who};
 use tt_instance::Instance;
+use tt_path::{Fact, Pattern, Who};
 
 /// A place of the table and a number of the set there.
 #[derive(Clone, Copy)]

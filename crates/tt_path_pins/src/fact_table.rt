@@ -7,8 +7,8 @@ use crate::bit_places::find_bit_place;
 use crate::sets::put;
 use std::alloc::AllocError;
 use tt_bits::Trail;
-use tt_path::Fact;
 use tt_instance::Instance;
+use tt_path::Fact;
 
 /// Writes a fact into the table, if the table has a place for it.
 pub fn add_fact(

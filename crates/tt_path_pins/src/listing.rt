@@ -6,8 +6,8 @@ ghost use Rattle.tt_path_pins.specs.Inner.FactTable.{unplaced_of};
 
 use crate::bit_places::has_bit_place;
 use std::alloc::AllocError;
-use tt_path::{Fact, Pattern};
 use tt_instance::Instance;
+use tt_path::{Fact, Pattern};
 
 /// Adds a fact to the lists it belongs in. Not inlined, since inlining copies the fact field by field.
 #[inline(never)]

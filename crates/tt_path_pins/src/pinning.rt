@@ -10,9 +10,9 @@ use crate::places::{day_place, room_place};
 use crate::sets::put;
 use std::alloc::AllocError;
 use tt_bits::Trail;
-use tt_path::Who;
 use tt_instance::Instance;
 use tt_instance_links::Curricula;
+use tt_path::Who;
 
 /// Adds a period to the set of a course or a curriculum on a day.
 #[inline(always)]

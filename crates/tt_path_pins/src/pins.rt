@@ -14,9 +14,9 @@ use crate::places::{block_place, day_place, room_place, size};
 use std::alloc::{AllocError, Global};
 use std::marker::Model;
 use tt_bits::{Trail, has_bit};
-use tt_path::{Fact, Pattern, Who};
 use tt_instance::Instance;
 use tt_instance_links::Curricula;
+use tt_path::{Fact, Pattern, Who};
 
 /// The facts, with a table of the periods and rooms that they pin and a table of the facts themselves.
 #[derive(Drop)]

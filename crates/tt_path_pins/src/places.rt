@@ -5,8 +5,8 @@ ghost use Rattle.tt_path.specs.Facts.{IsWho};
 ghost use Rattle.tt_path_pins.specs.Inner.Tables.{row_of, rows, day_place, days_size, width, block_place, room_place, size};
 ghost use Rattle.tt_instance.specs.declared.limit.TheConstants.{MAX_COURSES, MAX_CURRICULA};
 
-use tt_path::Who;
 use tt_instance::Instance;
+use tt_path::Who;
 
 /// Returns the row of a course or a curriculum.
 pub fn row_of(instance: &Instance<'_>, who: Who) -> usize

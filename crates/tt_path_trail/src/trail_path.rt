@@ -5,10 +5,10 @@ ghost use Rattle.std.specs.Prelude.{◌≡◌};
 use crate::both::{pop_both, push_both};
 use std::alloc::{AllocError, Global};
 use std::marker::Model;
-use tt_path_cells::Cells;
-use tt_path::{Cell, Fact, MAX_FACTS, Path, PathFault, Pattern, Who};
-use tt_path_pins::Pins;
 use tt_instance::Instance;
+use tt_path::{Cell, Fact, MAX_FACTS, Path, PathFault, Pattern, Who};
+use tt_path_cells::Cells;
+use tt_path_pins::Pins;
 
 /// The facts with tables of the live cells and of the pinned periods and rooms, which only yes-facts change. Only `has` may
 /// go through facts for its answer: for a no-fact, or if the pattern gives no day or no period or is about a curriculum. A pop

@@ -15,8 +15,8 @@ ghost use Rattle.tt_proof_check.specs.Verdicts.{IsVerdict, IsFirstFault, IsFileF
 use crate::fault::{CertifyFault, Verdict};
 use crate::stream::check_proof;
 use std::alloc::Global;
-use tt_instance_read::read_instance;
 use tt_instance::Instance;
+use tt_instance_read::read_instance;
 use tt_leaf::Bound;
 use tt_rules::score;
 use tt_table::{Timetable, read_solution};

@@ -9,10 +9,10 @@ ghost use Rattle.tt_proof_check.specs.Explains.{Explains};
 use crate::fault::NodesFault;
 use crate::walk::{Stop, check_node};
 use std::alloc::Global;
-use tt_path_trail::TrailPath;
-use tt_path::Path;
 use tt_instance::Instance;
 use tt_leaf::Bound;
+use tt_path::Path;
+use tt_path_trail::TrailPath;
 use tt_proof_read::{Node, is_tree};
 
 /// Checks the nodes of a tree, each on its path.

@@ -22,10 +22,10 @@ use crate::fault::CheckFault;
 use crate::visitor::{NoVisitor, NodeVisitor};
 use crate::walk::{Stop, check_node};
 use std::alloc::Global;
-use tt_path_trail::TrailPath;
-use tt_path::Path;
 use tt_instance::Instance;
 use tt_leaf::Bound;
+use tt_path::Path;
+use tt_path_trail::TrailPath;
 use tt_proof_read::{Node, NodeReader};
 use tt_text::Source;
 

@@ -6,9 +6,9 @@ ghost use Rattle.tt_proof_check.specs.Nodes.{IsNodeOf};
 ghost use Rattle.tt_proof_check.specs.Inner.Pending.{ContinuesWith};
 ghost use Rattle.tt_proof_check.specs.Inner.Steps.{Steps, Stops};
 
-use tt_path::{Fact, Path, PathFault};
 use tt_leaf::Bound;
 use tt_leaf_rules::{RuleFault, holds};
+use tt_path::{Fact, Path, PathFault};
 use tt_proof_read::Node;
 
 /// The reason why a node was not taken.

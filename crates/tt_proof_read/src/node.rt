@@ -1,7 +1,7 @@
 //! The nodes of a proof.
 
-use tt_path::Pattern;
 use tt_leaf::Leaf;
+use tt_path::Pattern;
 
 /// A node of a proof; a file has the nodes in preorder.
 #[derive(Debug, Drop)]

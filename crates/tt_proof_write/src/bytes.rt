@@ -12,8 +12,8 @@ ghost use Rattle.tt_proof_write.specs.Inner.Bytes.{clipped};
 ghost use Rattle.tt_proof_write.specs.Written.{priced_pieces, claim_rest, claim_pieces, node_rest, node_pieces, header_pieces, proof_text, tail_text};
 
 use crate::fields::version_text;
-use tt_path::{Pattern, Who};
 use tt_leaf::{Bound, Claim, Leaf};
+use tt_path::{Pattern, Who};
 use tt_proof_read::{Node, Word};
 use tt_text::digit_count;
 

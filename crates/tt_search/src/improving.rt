@@ -14,11 +14,11 @@ use tt_instance::Instance;
 use tt_moves_descend::descend_in;
 use tt_occupancy::Occupied;
 use tt_replan::{Replanner, can_replan};
+use tt_table::Timetable;
 use tt_walk::{
     Best, Cooling, Phase, Schedule, Span, Walker, is_settled, phases_for, samples, walk,
 };
 use tt_watch::Watch;
-use tt_table::Timetable;
 
 /// Walks from the best timetable, and then returns to the best one so far. No memory is allocated.
 fn walk_phase<W: Watch>(

@@ -8,8 +8,8 @@ ghost use Rattle.tt_search.specs.Runs.{RunsUntil};
 use crate::improving::improve;
 use std::alloc::{AllocError, Global};
 use tt_instance::Instance;
-use tt_watch::Watch;
 use tt_table::Timetable;
+use tt_watch::Watch;
 
 /// The seed of a search and its number of steps.
 #[derive(Clone, Copy, Debug, PartialEq, Eq)]

@@ -3,10 +3,10 @@
 use std::alloc::Global;
 use std::test::Fail;
 use tt_app::{AppFault, check};
-use tt_path::{Pattern, Who};
 use tt_instance_read::read_instance;
 use tt_leaf::{Bound, Leaf};
 use tt_leaf_rules::RuleFault;
+use tt_path::{Pattern, Who};
 use tt_proof_check::{CheckFault, NodesFault, check_nodes};
 use tt_proof_read::{Node, TextFault};
 use tt_testing_files::StoredFile;

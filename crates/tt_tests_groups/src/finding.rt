@@ -3,12 +3,12 @@
 use std::alloc::Global;
 use std::test::Fail;
 use tt_groups_read::GroupReader;
-use tt_instance_read::read_instance;
 use tt_instance::Instance;
+use tt_instance_read::read_instance;
 use tt_parts_groups::{GroupSearch, find_groups, write_groups};
-use tt_watch::Unwatched;
 use tt_table::Entry;
 use tt_text::Pieces;
+use tt_watch::Unwatched;
 
 /// Two curricula without a course in common. Each has a course of three lectures on three days and a helper of one lecture: two of the
 /// three lectures are isolated.

@@ -6,11 +6,11 @@ ghost use Rattle.tt_leaf_find.specs.Found.{ArePatterns};
 ghost use Rattle.tt_leaf.specs.Ranges.{IsLeafOf};
 
 use std::alloc::{AllocError, Global};
-use tt_path::{Fact, Path, Pattern, Who};
 use tt_instance::Instance;
-use tt_leaf_find::find_leaf;
 use tt_leaf::{Bound, Leaf};
+use tt_leaf_find::find_leaf;
 use tt_leaf_rules::holds;
+use tt_path::{Fact, Path, Pattern, Who};
 
 fn is_given(given: Option<u32>, count: u32) -> bool
     ensures { result ≡ true → IfSome given (λ n. n < count) }

@@ -7,10 +7,10 @@ use crate::checked::{Found, find, push};
 use crate::each_leaf::is_closed;
 use std::alloc::{AllocError, Global};
 use std::test::Fail;
-use tt_path_trail::TrailPath;
-use tt_path::{Fact, Path, Pattern, PlainPath, Who};
 use tt_instance_read::read_instance;
 use tt_leaf::Bound;
+use tt_path::{Fact, Path, Pattern, PlainPath, Who};
+use tt_path_trail::TrailPath;
 use tt_testing_samples::{GAP, MINI, SAME, SEATS, TOUR, TRIO};
 
 /// The number of random paths for each instance.

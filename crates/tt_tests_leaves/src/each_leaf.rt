@@ -6,10 +6,10 @@ ghost use Rattle.tt_leaf.specs.Ranges.{IsClaimOf, IsLeafOf};
 
 use crate::checked::is_right;
 use std::alloc::{AllocError, Global};
-use tt_path::Path;
-use tt_leaf_find::best_claims;
 use tt_leaf::{Bound, Claim, ClaimList, CourseList, Leaf};
+use tt_leaf_find::best_claims;
 use tt_leaf_rules::claim_value;
+use tt_path::Path;
 
 /// Checks whether the Empty leaf of some yes-fact is right.
 fn is_empty_right<'i, P: Path<'i>>(path: &P, bound: Bound) -> bool

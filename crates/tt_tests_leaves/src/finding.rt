@@ -3,12 +3,12 @@
 use crate::checked::leaf_after;
 use std::alloc::Global;
 use std::test::Fail;
-use tt_path_trail::TrailPath;
-use tt_path::{Fact, Pattern, PlainPath, Who};
-use tt_instance_read::read_instance;
 use tt_instance::Instance;
-use tt_leaf_find::best_claims;
+use tt_instance_read::read_instance;
 use tt_leaf::{Bound, Claim, Leaf};
+use tt_leaf_find::best_claims;
+use tt_path::{Fact, Pattern, PlainPath, Who};
+use tt_path_trail::TrailPath;
 use tt_testing_samples::{GAP, WIDE, edited};
 
 /// Returns a yes-fact of the first course in a period of the first day.

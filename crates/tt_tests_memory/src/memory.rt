@@ -7,20 +7,20 @@ use tt_app::{
     Answer, BestSearch, ImproveSearch, PageNames, TreeEffort, best, check, improve, page, report,
     solve, upgrade, validate,
 };
-use tt_path_trail::TrailPath;
-use tt_path::{Pattern, PlainPath, Who};
-use tt_instance_read::read_instance;
 use tt_instance::Instance;
-use tt_leaf_find::{best_claims, find_leaf};
+use tt_instance_read::read_instance;
 use tt_leaf::{Bound, Claim, ClaimList, Leaf};
+use tt_leaf_find::{best_claims, find_leaf};
 use tt_page::{PageText, put_shown};
+use tt_path::{Pattern, PlainPath, Who};
+use tt_path_trail::TrailPath;
 use tt_proof_check::{NodesFault, Verdict, certify, check_nodes, check_proof};
 use tt_proof_read::Node;
 use tt_proof_upgrade::parse_proof;
 use tt_report::By;
-use tt_watch::Unwatched;
 use tt_testing_samples::{GAP, GAP_PROOF, MARK, MINI, MINI_SOLUTION};
 use tt_text::{Pieces, Writing};
+use tt_watch::Unwatched;
 
 const YES: &str = "yes cost 5 bound 5 optimal\n";
 

@@ -5,8 +5,8 @@ ghost use Rattle.std.specs.Prelude.{◌<◌, ◌↔◌, IsTrue};
 use crate::timetables::{occupied, text_of};
 use std::alloc::Global;
 use std::test::Fail;
-use tt_instance_read::read_instance;
 use tt_instance::Instance;
+use tt_instance_read::read_instance;
 use tt_occupancy::Occupied;
 use tt_testing_samples::{MINI, MINI_SOLUTION};
 

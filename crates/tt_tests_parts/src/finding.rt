@@ -6,11 +6,11 @@ use tt_instance_read::read_instance;
 use tt_leaf::Bound;
 use tt_parts::{Effort, add_up, copy_texts, find_parts};
 use tt_proof_sum::sum_proofs;
-use tt_watch::{Progress, Unwatched, Watch};
 use tt_table::Entry;
 use tt_testing_samples::{GAP, MINI, WIDE};
 use tt_text::Pieces;
 use tt_text_peek::Peeked;
+use tt_watch::{Progress, Unwatched, Watch};
 
 /// Two curricula without a course in common. Each has a course of three lectures on three days and a helper of one lecture: two of the
 /// three lectures are isolated.

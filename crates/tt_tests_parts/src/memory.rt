@@ -6,10 +6,10 @@ use tt_instance_read::read_instance;
 use tt_leaf::Bound;
 use tt_parts::{Effort, find_parts};
 use tt_proof_sum::sum_proofs;
-use tt_watch::Unwatched;
 use tt_testing_samples::{GAP, GAP_PROOF, MARK};
 use tt_text::Pieces;
 use tt_text_peek::Peeked;
+use tt_watch::Unwatched;
 
 /// Claims that the curriculum and the first course of Gap cost 4 together.
 const GAP_GROUPS: &str = "CTTG 1 bound 4\nG 4 q0 / c0 ;\nend\n";

@@ -6,9 +6,9 @@ use crate::instances::{SMALL01, TINY05};
 use crate::large::large_text;
 use std::alloc::Global;
 use std::test::Fail;
-use tt_path_trail::TrailPath;
-use tt_path::{Fact, Path, PlainPath};
 use tt_instance_read::read_instance;
+use tt_path::{Fact, Path, PlainPath};
+use tt_path_trail::TrailPath;
 use tt_testing_samples::GAP;
 
 /// The number of pushes and pops.

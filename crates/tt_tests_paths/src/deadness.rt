@@ -2,9 +2,9 @@
 
 use std::alloc::Global;
 use std::test::Fail;
-use tt_path_trail::TrailPath;
-use tt_path::{Cell, Fact, MAX_FACTS, Path, PathFault, Pattern, PlainPath, Who};
 use tt_instance_read::read_instance;
+use tt_path::{Cell, Fact, MAX_FACTS, Path, PathFault, Pattern, PlainPath, Who};
+use tt_path_trail::TrailPath;
 use tt_testing_samples::{GAP, MINI};
 
 /// Returns a fact about all cells of a course or of a curriculum's members.

@@ -1,7 +1,7 @@
 //! Facts that are drawn from a seed.
 
-use tt_path::{Fact, Pattern, Who};
 use tt_instance::Instance;
+use tt_path::{Fact, Pattern, Who};
 
 /// The numbers of courses, curricula, rooms, days and periods from which facts are drawn.
 #[derive(Clone, Copy)]

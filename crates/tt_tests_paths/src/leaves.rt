@@ -7,11 +7,11 @@ ghost use Rattle.tt_leaf.specs.declared.leaf.Leaf.{Leaf};
 use crate::deadness::{fact_in_period, fact_of, pushed};
 use std::alloc::{AllocError, Global};
 use std::test::Fail;
-use tt_path_trail::TrailPath;
-use tt_path::{Path, Pattern, PlainPath, Who};
 use tt_instance_read::read_instance;
 use tt_leaf::{Bound, Claim, ClaimList, CourseList, Leaf};
 use tt_leaf_rules::{RuleFault, claim_value, holds, leaf_value};
+use tt_path::{Path, Pattern, PlainPath, Who};
+use tt_path_trail::TrailPath;
 use tt_testing_samples::{APART, GAP, MINI, SAME, WIDE};
 
 /// Pins Gap's courses in its first and its last period, and returns whether the path accepted both facts.

@@ -4,9 +4,9 @@ use crate::answers::all_reported;
 use crate::deadness::fact_in_period;
 use crate::dice::{Dice, Ranges, ranges_of};
 use std::test::Fail;
-use tt_path_trail::TrailPath;
-use tt_path::{Path, PathFault, PlainPath, Who};
 use tt_instance_read::read_instance;
+use tt_path::{Path, PathFault, PlainPath, Who};
+use tt_path_trail::TrailPath;
 use tt_testing_samples::{GAP, MARK};
 
 /// The maximum number of facts that are pushed.

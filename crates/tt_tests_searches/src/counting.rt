@@ -2,8 +2,8 @@
 
 use std::alloc::Global;
 use tt_app::{BestAnswer, WatchBest};
-use tt_watch::{Progress, Watch};
 use tt_table::Entry;
+use tt_watch::{Progress, Watch};
 
 /// Ends its search after some questions, and counts what it is shown.
 #[derive(Drop)]

@@ -4,8 +4,8 @@ use crate::counting::Counting;
 use std::alloc::Global;
 use std::test::Fail;
 use tt_app::{AppFault, Effort, ImproveSearch, TreeEffort, improve, parts, solve};
-use tt_watch::Unwatched;
 use tt_testing_samples::{GAP, MINI, MINI_SOLUTION};
+use tt_watch::Unwatched;
 
 /// Returns the line of `improve` on Mini, if its search is ended after some questions.
 fn improved(

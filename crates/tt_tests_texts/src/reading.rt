@@ -2,8 +2,8 @@
 
 use std::alloc::{AllocError, Global};
 use std::test::Fail;
-use tt_instance_read::{InstanceFault, read_instance};
 use tt_instance::Instance;
+use tt_instance_read::{InstanceFault, read_instance};
 use tt_instance_write::write_instance;
 use tt_testing_samples::{GAP, MINI, TOUR, TRIO, WIDE, edited};
 use tt_text::{Pieces, Source, WholeFault, read_whole};

@@ -2,8 +2,8 @@
 
 use std::alloc::Global;
 use std::test::Fail;
-use tt_instance_read::read_instance;
 use tt_instance::Instance;
+use tt_instance_read::read_instance;
 use tt_rules::score;
 use tt_table::{Entry, MAX_ENTRIES, PushFault, Timetable, read_solution, write_solution};
 use tt_testing_samples::{MINI, repeated};

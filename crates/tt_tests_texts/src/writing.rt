@@ -1,8 +1,8 @@
 //! The proofs that `write_proof` refuses, and the texts that it writes.
 
 use std::test::Fail;
-use tt_path::{Pattern, Who};
 use tt_leaf::{Bound, Claim, ClaimList, Leaf};
+use tt_path::{Pattern, Who};
 use tt_proof_read::Node;
 use tt_proof_write::{WriteFault, write_proof};
 

@@ -6,10 +6,10 @@ use tt_branch::solve;
 use tt_instance_read::read_instance;
 use tt_leaf::Bound;
 use tt_proof_check::check_proof;
-use tt_watch::{Progress, Watch};
 use tt_table::Entry;
 use tt_testing_samples::GAP;
 use tt_text::Pieces;
+use tt_watch::{Progress, Watch};
 
 /// A proof on the way, with the bound that its watch was shown.
 #[derive(Drop)]

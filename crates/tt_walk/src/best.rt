@@ -8,8 +8,8 @@ ghost use Rattle.tt_walk.specs.Inner.Pairs.{IsBest};
 use crate::pair::pair_of;
 use std::alloc::{AllocError, Global};
 use tt_occupancy::Occupied;
-use tt_watch::Pair;
 use tt_table::Entry;
+use tt_watch::Pair;
 
 /// The entries of the best timetable so far, and its pair.
 #[derive(Drop)]

@@ -19,17 +19,17 @@ ghost use Rattle.tt_call_answers.specs.declared.fault.AppFault.TheVariants as fa
 use crate::calls::given::read_given;
 use crate::calls::solve::put_bound;
 use std::alloc::{AllocError, Global};
-use tt_call_answers::AppFault;
 use tt_best::{Rounds, Start, WatchRounds, Week, find_best};
-use tt_instance_read::read_instance;
+use tt_call_answers::AppFault;
 use tt_instance::Instance;
+use tt_instance_read::read_instance;
 use tt_leaf::Bound;
 use tt_page_text::{Labels, TextFault};
 use tt_parts::{Parts, copy_texts};
 use tt_rules::score;
-use tt_watch::{Progress, Unwatched, Watch};
 use tt_table::{Entry, Timetable, write_solution};
 use tt_text::{put_line_end, put_number, put_token};
+use tt_watch::{Progress, Unwatched, Watch};
 
 /// A search for a best timetable.
 #[derive(Clone, Copy, Debug)]

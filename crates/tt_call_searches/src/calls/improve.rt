@@ -11,14 +11,14 @@ ghost use Rattle.tt_call_answers.specs.declared.fault.AppFault.TheVariants as fa
 
 use std::alloc::{AllocError, Global};
 use tt_call_answers::{Answer, AppFault};
-use tt_instance_read::read_instance;
 use tt_instance::Instance;
+use tt_instance_read::read_instance;
 use tt_rules::score;
 use tt_search::{Search, improve_in_runs};
 use tt_search_complete::{CompleteFault, complete};
-use tt_watch::Watch;
 use tt_table::{Timetable, read_solution, write_solution};
 use tt_text::{put_line_end, put_number, put_token};
+use tt_watch::Watch;
 
 /// A search for a better timetable.
 #[derive(Clone, Copy, Debug, PartialEq, Eq)]

@@ -13,13 +13,13 @@ use crate::calls::given::read_given;
 use crate::calls::solve::put_bound;
 use std::alloc::{AllocError, Global};
 use tt_call_answers::AppFault;
-use tt_instance_read::read_instance;
 use tt_instance::Instance;
+use tt_instance_read::read_instance;
 use tt_leaf::Bound;
 use tt_parts::{Effort, Parts, find_parts};
-use tt_watch::Watch;
 use tt_table::{Entry, Timetable};
 use tt_text::{put_line_end, put_number, put_token};
+use tt_watch::Watch;
 
 /// The output of `parts`, and the texts of the proofs that it writes.
 #[derive(Debug, Drop)]

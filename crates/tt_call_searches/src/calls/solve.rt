@@ -13,17 +13,17 @@ ghost use Rattle.tt_call_searches.specs.Solved.{IsProofFile, IsOverLong, IsSolve
 ghost use Rattle.tt_call_answers.specs.declared.fault.AppFault.TheVariants as fault;
 
 use std::alloc::{AllocError, Global};
-use tt_call_answers::{Answer, AppFault};
 use tt_branch::Outcome;
-use tt_instance_read::read_instance;
+use tt_call_answers::{Answer, AppFault};
 use tt_instance::Instance;
+use tt_instance_read::read_instance;
 use tt_leaf::Bound;
 use tt_proof_read::Node;
 use tt_proof_write::{WriteFault, write_proof};
 use tt_rules::score;
-use tt_watch::Watch;
 use tt_table::{Timetable, write_solution};
 use tt_text::{put_line_end, put_number, put_token};
+use tt_watch::Watch;
 
 /// The seed of a search by a tree, and the maximum number of nodes that it opens.
 #[derive(Clone, Copy, Debug, PartialEq, Eq)]

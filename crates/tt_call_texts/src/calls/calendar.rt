@@ -6,8 +6,8 @@ ghost use Rattle.tt_call_answers.specs.FaultMaps.{IsNoTerm};
 
 use std::alloc::Global;
 use tt_call_answers::{Answer, AppFault};
-use tt_instance_read::read_instance;
 use tt_instance::Instance;
+use tt_instance_read::read_instance;
 use tt_report::By;
 use tt_report_export::{Term, Week, write_calendar};
 use tt_table::read_solution;

@@ -22,8 +22,8 @@ ghost use Rattle.tt_call_answers.specs.Refusals.{read_failed_at, is_failed_read_
 
 use std::alloc::Global;
 use tt_call_answers::AppFault;
-use tt_instance_read::read_instance;
 use tt_instance::Instance;
+use tt_instance_read::read_instance;
 use tt_page_text::{Labels, LabelsFault};
 use tt_proof_sum::sum_proofs;
 use tt_table::read_solution;

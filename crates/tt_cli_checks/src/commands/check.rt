@@ -3,8 +3,8 @@
 use crate::built_in;
 use std::cell::RefCell;
 use std::io::Write;
-use tt_cli_arguments::CheckRequest;
 use tt_call_checks::check;
+use tt_cli_arguments::CheckRequest;
 use tt_cli_saving::{
     CommandFault, Input, Inputs, Reply, World, clear, fault_over_proof, open_counted, ticker_of,
 };

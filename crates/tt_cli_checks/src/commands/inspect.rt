@@ -1,8 +1,8 @@
 //! The files of `inspect`.
 
+use tt_call_texts::inspect;
 use tt_cli_arguments::InspectRequest;
 use tt_cli_saving::{CommandFault, Input, Inputs, Reply, World};
-use tt_call_texts::inspect;
 
 /// Returns the answer of `inspect`.
 pub fn answer_inspect<R: World>(

@@ -5,13 +5,13 @@ use std::alloc::Global;
 use std::cell::{Cell, RefCell};
 use std::io::{Error, ErrorKind, Write};
 use tt_call_answers::AppFault;
+use tt_call_texts::{PageNames, page, proved_page};
 use tt_cli_arguments::PageRequest;
 use tt_cli_files::{Batch, Draft, Label, OutputFault, Place, Ready, Role, StandardStream, finish};
 use tt_cli_saving::{
     CommandFault, Input, Inputs, LastUnread, Prepared, Reply, Shown, Target, World, Written, clear,
     fault_over, proof_files, ticker_of,
 };
-use tt_call_texts::{PageNames, page, proved_page};
 use tt_page::STYLE;
 use tt_text::{Sink, Writing};
 use tt_text_peek::Peek;

@@ -2,8 +2,8 @@
 
 use std::cell::{Cell, RefCell};
 use std::io::Write;
-use tt_cli_arguments::SumRequest;
 use tt_call_checks::{check_sum, sum};
+use tt_cli_arguments::SumRequest;
 use tt_cli_saving::{
     CommandFault, Input, InputFile, Inputs, Reply, Shown, World, clear, fault_over, proof_files,
     ticker_of,

@@ -1,9 +1,9 @@
 //! The files of `report --csv`.
 
 use crate::timetable::read_timetable;
+use tt_call_texts::table;
 use tt_cli_arguments::TimetableFiles;
 use tt_cli_saving::{CommandFault, Reply, World};
-use tt_call_texts::table;
 
 /// Returns the table of a solution.
 pub fn answer_table<R: World>(rt: &R, files: TimetableFiles<'_>) -> Result<Reply, CommandFault> {

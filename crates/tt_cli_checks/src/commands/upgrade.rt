@@ -2,8 +2,8 @@
 
 use std::cell::RefCell;
 use std::io::Write;
-use tt_cli_arguments::UpgradeRequest;
 use tt_call_checks::upgrade;
+use tt_cli_arguments::UpgradeRequest;
 use tt_cli_files::{Batch, Role};
 use tt_cli_saving::{
     CommandFault, Input, Inputs, Reply, Target, World, clear, fault_over_proof, open_counted,

@@ -1,8 +1,8 @@
 //! The files of `validate`.
 
 use crate::timetable::read_timetable;
-use tt_cli_arguments::TimetableFiles;
 use tt_call_checks::validate;
+use tt_cli_arguments::TimetableFiles;
 use tt_cli_saving::{CommandFault, Reply, World};
 
 /// Returns the answer of `validate`.

@@ -8,13 +8,13 @@ use std::alloc::AllocError;
 use std::cell::Cell;
 use std::io::Write;
 use tt_call_answers::AppFault;
+use tt_call_searches::{BestAnswer, BestSearch, best};
 use tt_cli_arguments::BestRequest;
 use tt_cli_files::Batch;
 use tt_cli_saving::{
     CommandFault, Folder, Input, InputFile, Inputs, Keeper, Prepared, Reply, Ticker, World,
     reply_with, ticker_of,
 };
-use tt_call_searches::{BestAnswer, BestSearch, best};
 use tt_page::STYLE;
 
 /// The texts with which the search begins.

@@ -3,13 +3,13 @@
 use crate::saving::kept_table;
 use std::io::Write;
 use tt_call_answers::{Answer, AppFault};
+use tt_call_searches::{ImproveSearch, improve};
 use tt_cli_arguments::{ImproveRequest, Search};
 use tt_cli_files::{Batch, Role};
 use tt_cli_saving::{
     CommandFault, Input, Inputs, Keeper, NoShelf, Prepared, Reply, Target, Ticker, World,
     reply_with, ticker_of,
 };
-use tt_call_searches::{ImproveSearch, improve};
 
 /// The bytes of an instance and of the solution from which a search begins.
 #[derive(Clone, Copy)]

@@ -3,13 +3,13 @@
 use crate::proof_files::{GROUPS, ProofFolder};
 use std::alloc::AllocError;
 use std::io::Write;
+use tt_call_searches::{PartsAnswer, parts};
 use tt_cli_arguments::{PartSearch, PartsRequest};
 use tt_cli_files::{Batch, Role};
 use tt_cli_saving::{
     CommandFault, Folder, FolderFile, Input, InputFile, Inputs, Keeper, Reply, Shelf, Ticker,
     World, reply_with, ticker_of,
 };
-use tt_call_searches::{PartsAnswer, parts};
 use tt_parts::Effort;
 
 /// The tree proof about rooms.

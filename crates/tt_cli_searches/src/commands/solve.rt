@@ -4,13 +4,13 @@ use crate::saving::kept_table;
 use std::alloc::AllocError;
 use std::io::Write;
 use tt_call_answers::{Answer, AppFault};
+use tt_call_searches::{TreeEffort, solve};
 use tt_cli_arguments::{MAX_SOLVE_NODES, SolveRequest, TreeSearch};
 use tt_cli_files::{Batch, Ready, Role};
 use tt_cli_saving::{
     CommandFault, Input, Inputs, Keeper, Prepared, Reply, Shelf, Target, Ticker, World, reply_with,
     ticker_of,
 };
-use tt_call_searches::{TreeEffort, solve};
 
 /// The file in which the proof of a tree is stored on the way.
 struct ProofShelf<'s, R: World> {
