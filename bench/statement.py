@@ -129,6 +129,8 @@ class Closure:
         self.library = {}
 
     def follow(self, module, name, asker=None):
+        if ".specs.Inner." in module:
+            sys.exit(f"{asker} names {name} of {module}, which is no part of the statement")
         path, is_type = file_of(module)
         if not path:
             if name and module.startswith("Rattle."):
