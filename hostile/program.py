@@ -55,6 +55,11 @@ INPUT_OPTIONS = {"--solution": "solution", "--from": "solution", "--proof": "pro
 FLAGS = {"--keep", "--complete", "--progress", "--quiet", "--csv", "--help", "--version"}
 
 
+def without_older(files):
+    """The files that aren't older ones under their other names."""
+    return {name: text for name, text in files.items() if not name.endswith(".old")}
+
+
 @dataclass
 class Command:
     """A command line with the files that it reads, what it answers, and the files that it writes."""
@@ -334,7 +339,10 @@ class Runs:
         return self.command.split()[1][0]
 
     def is_own(self, outcome, files):
-        return outcome.told() == self.own.told() and files == self.own_files
+        """Whether a run ended as the one without a refusal. With --keep an older file has its other name only if a step on the way was stored."""
+        if outcome.told() != self.own.told():
+            return False
+        return files == self.own_files or (self.command.keeps() and without_older(files) == without_older(self.own_files))
 
     def growths(self):
         """Refuses the first growth, the second and so on, until none is met; answers how often which answer came."""
