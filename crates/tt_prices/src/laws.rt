@@ -1,0 +1,30 @@
+//! The meaning of prices.
+
+ghost use Rattle.std.specs.Prelude.{◌≡◌, ℕ, ◌+◌, ◌*◌, ◌<◌, ℤ, pos, ◌+ℤ◌, ◌≤ℤ◌, List, All, length, map, sum_by};
+ghost use Rattle.tt_instance.specs.Cells.{all_courses, all_rooms, all_slots};
+ghost use Rattle.tt_instance.specs.Problem.{Problem};
+ghost use Rattle.tt_instance.specs.declared.cell.Cell.{Cell};
+ghost use Rattle.tt_instance.specs.declared.cell.Slot.{Slot};
+ghost use Rattle.tt_prices.specs.Prices.{PricedGroup, points, working_days_cost, IsGroupBound, IsCourseBound, IsRelaxedTimetable};
+ghost use Rattle.tt_prices.specs.Signed.{signed_sum};
+ghost use Rattle.tt_rules.specs.Score.{IsFeasible};
+ghost use Rattle.tt_rules.specs.Soft.{capacity_count, days_cost, stability_count};
+
+/// A feasible timetable is a relaxed timetable of each group, and the working days of a course cost in it what the competition says.
+pub fn feasible_timetables_pay()
+    ensures relaxed { (p : Problem) (g : PricedGroup) (t : List Cell) → IsFeasible p t → IsRelaxedTimetable p g t }
+    ensures days { (p : Problem) (t : List Cell) (c : ℕ) → IsFeasible p t → working_days_cost p t c ≡ days_cost p t c }
+{}
+
+/// Any prices bound the cost of each feasible timetable: the bounds of the groups and those of all courses, added up, are at most the points of
+/// the groups, `scale` times, the capacity and the stability of all rooms, `rooms` times, and the rents of all rooms in all periods. So with
+/// `rooms` and all rents 0 the rooms aren't claimed, and with `rooms` the same as `scale` they are.
+pub fn prices_hold()
+    ensures { (p : Problem) (scale rooms : ℕ) (groups : List (PricedGroup × ℤ)) (rent : ℕ → Slot → ℕ) (least : ℕ → ℤ) →
+        All (λ g. IsGroupBound p scale g.0 g.1) groups →
+        ((c : ℕ) → c < length p.courses → IsCourseBound p rooms (map (λ g. g.0) groups) rent c (least c)) →
+        (t : List Cell) → IsFeasible p t →
+        (signed_sum (λ g. g.1) groups +ℤ signed_sum least (all_courses p)) ≤ℤ
+        pos (scale * sum_by (λ g. points p g.0 t) groups + rooms * (capacity_count p t + stability_count p t)
+        + sum_by (λ r. sum_by (rent r) (all_slots p)) (all_rooms p)) }
+{}
