@@ -1,5 +1,7 @@
 pub mod Signed
+mod Examples
 pub mod Groups
 pub mod Rents
+pub mod Rooms
 pub mod Courses
 pub mod Whole

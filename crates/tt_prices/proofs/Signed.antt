@@ -1,8 +1,9 @@
 -- Sums of signed numbers.
 use Rattle.std.proofs.Common.{◌≡◌, ℕ, ◌+◌, Bool, true, false, cond, List, [], ◌∷◌, ◌++◌, refl, sym, ap, ◌∙◌, arith}
-use Rattle.std.specs.Prelude.{ℤ, pos, ◌+ℤ◌, ◌-ℤ◌, ◌≤ℤ◌, filter, sum_by, map}
+use Rattle.std.specs.Prelude.{Contains, ℤ, pos, ◌+ℤ◌, ◌-ℤ◌, ◌≤ℤ◌, filter, sum_by, map}
 use Rattle.std.specs.List.{AllByRecursion}
 use Rattle.std.proofs.lemmas.Int.{ints}
+use Rattle.std.proofs.lemmas.List.Elements.{Contains-append_right}
 use Rattle.std.proofs.lemmas.List.Sums.{sum_by-cons}
 use Rattle.tt_prices.specs.Signed.{signed_sum}
 
@@ -53,3 +54,9 @@ signed_sum-swap f (x ∷ xs) ys =
 pub signed_sum-append : {X : Type 0} (f : X → ℤ) (xs ys : List X) → signed_sum f (xs ++ ys) ≡ signed_sum f xs +ℤ signed_sum f ys
 signed_sum-append f [] ys = omega (arith, ints)
 signed_sum-append f (x ∷ xs) ys = let e = signed_sum-append f xs ys in omega (arith, ints, e)
+
+pub signed_sum-same_member : {X : Type 0} (f g : X → ℤ) (xs : List X) → ((x : X) → Contains xs x → f x ≡ g x) → signed_sum f xs ≡ signed_sum g xs
+signed_sum-same_member f g [] same = refl
+signed_sum-same_member f g (x ∷ xs) same =
+    ap (λ z. z +ℤ signed_sum f xs) (same x (0, omega arith, refl))
+    ∙ ap (λ z. g x +ℤ z) (signed_sum-same_member f g xs (λ y m. same y (Contains-append_right (x ∷ []) xs y m)))

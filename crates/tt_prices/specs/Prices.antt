@@ -1,12 +1,12 @@
 -- Groups that share courses, coupled by prices: what a group and a course cost at the prices, and bounds of that. Rules and costs are those of
 -- the Second International Timetabling Competition (ITC-2007), track 3, as the technical report of Di Gaspero, McCollum and Schaerf defines them.
-use Rattle.std.specs.Prelude.{◌≡◌, ℕ, ◌+◌, ◌-◌, ◌*◌, ℤ, pos, ◌+ℤ◌, ◌-ℤ◌, ◌≤ℤ◌, Bool, true, false, ◌||◌, List, All, length, filter, sum_by}
+use Rattle.std.specs.Prelude.{◌≡◌, ℕ, ◌+◌, ◌-◌, ◌*◌, ◌<◌, ◌≤◌, ◌==◌, ℤ, pos, ◌+ℤ◌, ◌-ℤ◌, ◌≤ℤ◌, Bool, true, false, ◌&&◌, ◌||◌, List, All, length, filter, sum_by, count_by}
 use Rattle.std.specs.List.{list_any}
 use Rattle.tt_list_laws.specs.Words.{has_number}
 use Rattle.tt_instance.specs.declared.limit.TheConstants.{MISSING_DAY_COST}
 use Rattle.tt_instance.specs.Problem.{Problem}
-use Rattle.tt_instance.specs.Cells.{InRange, slot_of}
-use Rattle.tt_instance.specs.Courses.{lectures, min_days, in_curriculum, excess}
+use Rattle.tt_instance.specs.Cells.{InRange, all_slots, slot_of}
+use Rattle.tt_instance.specs.Courses.{lectures, min_days, in_curriculum, excess, unavailable}
 use Rattle.tt_instance.specs.declared.cell.Cell.{Cell}
 use Rattle.tt_instance.specs.declared.cell.Slot.{Slot}
 use Rattle.tt_rules.specs.Hard.{entries_of, periods_of, conflicts_count, availability_count}
@@ -79,3 +79,10 @@ pub record IsPlacing (p : Problem) (c : ℕ) (t : List Cell) : Type 0 where
 abbrev pub IsCourseBound : Problem → ℕ → List PricedGroup → (ℕ → Slot → ℕ) → ℕ → ℤ → Type 0
 IsCourseBound p scale groups rent c b = (t : List Cell) → IsPlacing p c t
     → b ≤ℤ (pos (scale * stability_cost p t c) +ℤ signed_sum (cell_cost p scale groups rent) t)
+
+-- A choice of periods for a course has as many as the course has lectures, each of the week and no two the same, and the course is available in them.
+pub record IsChoice (p : Problem) (c : ℕ) (ss : List Slot) : Type 0 where
+  pub lectures : length ss ≡ lectures p c
+  pub week : All (λ s. (s.day < p.days) × (s.period < p.periods)) ss
+  pub distinct : All (λ s. count_by (λ x. (x.day == s.day) && (x.period == s.period)) ss ≤ 1) (all_slots p)
+  pub available : All (λ s. unavailable p c s.day s.period ≡ false) ss

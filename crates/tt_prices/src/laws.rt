@@ -1,11 +1,12 @@
 //! The meaning of prices.
 
-ghost use Rattle.std.specs.Prelude.{◌≡◌, ℕ, ◌+◌, ◌*◌, ◌<◌, ℤ, pos, ◌+ℤ◌, ◌≤ℤ◌, List, All, length, map, sum_by};
-ghost use Rattle.tt_instance.specs.Cells.{all_courses, all_rooms, all_slots};
+ghost use Rattle.std.specs.Prelude.{◌≡◌, ℕ, ◌+◌, ◌*◌, ◌<◌, ◌≤◌, ℤ, pos, ◌+ℤ◌, ◌≤ℤ◌, List, All, length, map, sum_by};
+ghost use Rattle.tt_instance.specs.Cells.{all_courses, all_rooms, all_slots, cell};
+ghost use Rattle.tt_instance.specs.Courses.{lectures};
 ghost use Rattle.tt_instance.specs.Problem.{Problem};
 ghost use Rattle.tt_instance.specs.declared.cell.Cell.{Cell};
 ghost use Rattle.tt_instance.specs.declared.cell.Slot.{Slot};
-ghost use Rattle.tt_prices.specs.Prices.{PricedGroup, points, working_days_cost, IsGroupBound, IsCourseBound, IsRelaxedTimetable};
+ghost use Rattle.tt_prices.specs.Prices.{PricedGroup, points, working_days_cost, cell_cost, IsGroupBound, IsCourseBound, IsRelaxedTimetable, IsChoice};
 ghost use Rattle.tt_prices.specs.Signed.{signed_sum};
 ghost use Rattle.tt_rules.specs.Score.{IsFeasible};
 ghost use Rattle.tt_rules.specs.Soft.{capacity_count, days_cost, stability_count};
@@ -27,4 +28,15 @@ pub fn prices_hold()
         (signed_sum (λ g. g.1) groups +ℤ signed_sum least (all_courses p)) ≤ℤ
         pos (scale * sum_by (λ g. points p g.0 t) groups + rooms * (capacity_count p t + stability_count p t)
         + sum_by (λ r. sum_by (rent r) (all_slots p)) (all_rooms p)) }
+{}
+
+/// A number bounds a course if it is at most what any choice of periods pays in one room, and at most one further room and what any choice
+/// pays at the lowest price of each period.
+pub fn courses_are_bounded()
+    ensures { (p : Problem) (scale : ℕ) (groups : List PricedGroup) (rent : ℕ → Slot → ℕ) (c : ℕ) (b : ℤ) (lowest : Slot → ℤ) →
+        (lectures p c ≡ 0 → b ≤ℤ pos 0) →
+        ((r : ℕ) → r < length p.rooms → (ss : List Slot) → IsChoice p c ss → b ≤ℤ signed_sum (λ s. cell_cost p scale groups rent (cell c r s)) ss) →
+        ((r : ℕ) → r < length p.rooms → (s : Slot) → lowest s ≤ℤ cell_cost p scale groups rent (cell c r s)) →
+        (2 ≤ lectures p c → (ss : List Slot) → IsChoice p c ss → b ≤ℤ (pos scale +ℤ signed_sum lowest ss)) →
+        IsCourseBound p scale groups rent c b }
 {}
