@@ -1,8 +1,8 @@
 -- Groups that share courses, coupled by prices: what a group and a course cost at the prices, and bounds of that. Rules and costs are those of
 -- the Second International Timetabling Competition (ITC-2007), track 3, as the technical report of Di Gaspero, McCollum and Schaerf defines them.
-use Rattle.std.specs.Prelude.{◌≡◌, ℕ, ◌+◌, ◌-◌, ◌*◌, ◌<◌, ◌≤◌, ◌==◌, ℤ, pos, ◌+ℤ◌, ◌-ℤ◌, ◌≤ℤ◌, Bool, true, false, ◌&&◌, ◌||◌, List, All, length, filter, sum_by, count_by}
+use Rattle.std.specs.Prelude.{◌≡◌, ℕ, ◌+◌, ◌-◌, ◌*◌, ◌<◌, ◌≤◌, ◌==◌, ℤ, pos, ◌+ℤ◌, ◌-ℤ◌, ◌≤ℤ◌, Bool, true, false, ◌&&◌, ◌||◌, List, All, length, filter, flat_map, sum_by, count_by}
 use Rattle.std.specs.List.{list_any}
-use Rattle.tt_list_laws.specs.Words.{has_number}
+use Rattle.tt_list_laws.specs.Words.{has_number, are_distinct}
 use Rattle.tt_instance.specs.declared.limit.TheConstants.{MISSING_DAY_COST}
 use Rattle.tt_instance.specs.Problem.{Problem}
 use Rattle.tt_instance.specs.Cells.{InRange, all_slots, slot_of}
@@ -86,3 +86,10 @@ pub record IsChoice (p : Problem) (c : ℕ) (ss : List Slot) : Type 0 where
   pub week : All (λ s. (s.day < p.days) × (s.period < p.periods)) ss
   pub distinct : All (λ s. count_by (λ x. (x.day == s.day) && (x.period == s.period)) ss ≤ 1) (all_slots p)
   pub available : All (λ s. unavailable p c s.day s.period ≡ false) ss
+
+-- No curriculum and no course whose working days count is in two groups, or twice in one.
+pub record AreApart (p : Problem) (groups : List PricedGroup) : Type 0 where
+  pub curricula : are_distinct (flat_map (λ g. g.curricula) groups) ≡ true
+  pub courses : are_distinct (flat_map (λ g. g.courses) groups) ≡ true
+  pub each_curriculum : All (λ q. q < length p.curricula) (flat_map (λ g. g.curricula) groups)
+  pub each_course : All (λ c. c < length p.courses) (flat_map (λ g. g.courses) groups)

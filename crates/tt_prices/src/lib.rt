@@ -3,4 +3,4 @@
 
 mod laws;
 
-pub use laws::{courses_are_bounded, feasible_timetables_pay, prices_hold};
+pub use laws::{courses_are_bounded, feasible_timetables_pay, prices_bound_the_cost, prices_hold};
