@@ -93,7 +93,7 @@ many_pass p (suc n) (x ∷ xs) le f =
 
 -- ---- some sum is as low
 
-skip : (n : ℕ) (x : ℤ) (xs : List ℤ) (c : ℤ) → IsSumOf n xs c → IsSumOf n (x ∷ xs) c
+pub skip : (n : ℕ) (x : ℤ) (xs : List ℤ) (c : ℤ) → IsSumOf n xs c → IsSumOf n (x ∷ xs) c
 skip zero x xs c is = is
 skip (suc n) x xs c is = inr is
 

@@ -40,6 +40,6 @@ returns c =
     let ys = c.sort_unstable.new.self in
     let all : c.loop-place.place ≡ c.args.count = omega (arith, c.loop-place-test.false, c.loop-place.auto.place-end) in
     let least = sorted_least c.args.count c.args.costs.now ys (omega (arith, c.requires.count, c.sort_unstable.ensures.len))
-        c.sort_unstable.ensures.permutation c.sort_unstable.ensures.sorted in
+    c.sort_unstable.ensures.permutation c.sort_unstable.ensures.sorted in
     subst (IsLeastSum c.args.count c.args.costs.now)
     (sym (c.loop-place.invariant.sum ∙ ap (λ n. signed_sum (λ z. z) (take n ys)) all)) least
