@@ -1,0 +1,8 @@
+pub mod Signed
+mod Examples
+pub mod Groups
+pub mod Rents
+pub mod Rooms
+pub mod Cost
+pub mod Courses
+pub mod Whole
