@@ -1,5 +1,5 @@
 #!/usr/bin/env python3
-"""Runs each command of README as it is written, in a fresh folder, and compares what they say with bench/readme.out.
+"""Runs each command of README, then of docs/GUIDE.md, as it is written, in one fresh folder, and compares what they say with bench/readme.out.
 
     python3 bench/readme.py            # compares; the last line says how many commands ran
     python3 bench/readme.py --write    # writes bench/readme.out anew
@@ -29,7 +29,7 @@ def said_by(command, folder):
 
 def main():
     with open(TOP + "/README.md", encoding="utf-8") as file:
-        commands = list(commands_of(file.read()))
+        commands = list(commands_of(file.read() + open(TOP + "/docs/GUIDE.md", encoding="utf-8").read()))
     with tempfile.TemporaryDirectory() as folder:
         os.symlink(TOP + "/examples", folder + "/examples")
         with open(folder + "/tt", "w", encoding="utf-8") as file:
