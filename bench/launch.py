@@ -10,6 +10,7 @@ import os
 import shutil
 import subprocess
 import sys
+import tarfile
 import tempfile
 import time
 from pathlib import Path
@@ -21,7 +22,7 @@ echo "rt $*" >>"$CALLS"
 [ -z "$EDIT_ON_THE_WAY" ] || echo edited >>"$EDIT_ON_THE_WAY"
 rm -rf crates/*/out
 mkdir -p crates/tt/out
-printf '#!/bin/sh\\necho "%s: $*"\\n' "$(tail -n 1 crates/tt_text/src/lib.rt)" >crates/tt/out/tt
+printf '#!/bin/sh\\n[ "$*" = --version ] && echo "tt 0.1 (stand-in)" || echo "%s: $*"\\n' "$(tail -n 1 crates/tt_text/src/lib.rt)" >crates/tt/out/tt
 chmod +x crates/tt/out/tt
 echo 'rt: tt_text proved'
 exit "${STATUS:-0}"
@@ -39,6 +40,8 @@ FILES = {
     "crates/tt/src/main.rt": "",
     "crates/tt_tests_commands/src/lib.rt": "",
 }
+PACKED = ["LICENSE-MIT", "LICENSE-APACHE", "README.md", "CHANGELOG.md", "docs/RULES.md", "docs/PROOF_FORMAT.md", "docs/GROUPS_FORMAT.md", "examples/mini.ctt"]
+SCRIPTS = ["tt", "gate", "bench/sources.sh", "bench/package.sh"]
 
 
 class Copy:
@@ -48,7 +51,7 @@ class Copy:
         self.folder, self.calls = folder / "copy", folder / "calls"
         for name, text in FILES.items():
             self.write(name, text)
-        for name in ("tt", "gate", "bench/sources.sh"):
+        for name in SCRIPTS:
             (self.folder / name).parent.mkdir(exist_ok=True)
             shutil.copy(TOP / name, self.folder / name)
         (folder / "bin").mkdir()
@@ -194,6 +197,26 @@ def is_not_built(copy):
     copy.uses("first", 1)
 
 
+def is_packed(copy):
+    """Only a program of these sources is packed, and nothing is built for that."""
+    for name in PACKED:
+        copy.write(name, name)
+    copy.write("examples/__pycache__/none", "none")
+    done = copy.run("./tt package")
+    assert (done.returncode, done.stdout, copy.count()) == (2, "", 0) and "./tt build" in done.stderr, f"{done}"
+    copy.uses("first", 1)
+    assert copy.run("./tt package more").returncode == 2
+    done = copy.run("./tt package")
+    name = "tt-0.1-x86_64-linux"
+    assert done.returncode == 0 and done.stdout.endswith(f"\nout/{name}.tar.gz\n"), f"{done}"
+    with tarfile.open(copy.folder / "out" / f"{name}.tar.gz") as archive:
+        files = sorted(it.name for it in archive if it.isfile())
+    assert files == sorted(f"{name}/{it}" for it in [*PACKED, "tt", "NEEDS"]), files
+    assert [it.name for it in (copy.folder / "out").iterdir() if it.name != "program"] == [f"{name}.tar.gz"], "something is left over"
+    copy.write(SOURCE, "second\n")
+    assert copy.run("./tt package").returncode == 2
+
+
 ROWS = [
     is_built_once,
     builds_only,
@@ -207,6 +230,7 @@ ROWS = [
     is_replaced,
     has_no_toolchain,
     is_not_built,
+    is_packed,
 ]
 
 
