@@ -136,9 +136,8 @@ ROWS = [has_plain_names, has_the_repositorys_files, has_its_version, runs_in_an_
 
 
 def main():
-    if len(sys.argv) > 2 or sys.argv[1:2] in (["-h"], ["--help"]):
-        print(__doc__)
-        return 0 if sys.argv[1:] in (["-h"], ["--help"]) else 2
+    if len(sys.argv) > 2:
+        sys.exit(__doc__)
     archive = Path(sys.argv[1]).resolve() if len(sys.argv) == 2 else made()
     failed = left_out = 0
     with tempfile.TemporaryDirectory() as folder:
@@ -159,4 +158,4 @@ def main():
 
 
 if __name__ == "__main__":
-    sys.exit(main())
+    sys.exit(print(__doc__) if sys.argv[1:] == ["--help"] else main())
