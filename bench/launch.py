@@ -3,8 +3,8 @@
 
     python3 bench/launch.py
 
-Each row is what happened to a small repository with these scripts, and whether ./tt then uses the program that is there or builds it again. It
-takes some seconds; the last line is `N passed, M failed`, and the status is 1 where something failed.
+Each row is what happened to a small repository with these scripts, and whether ./tt then uses the program that is there or builds it again, packs
+it, or has it tried before it is built. It takes some seconds; the last line is `N passed, M failed`, and the status is 1 where something failed.
 """
 import os
 import shutil
@@ -20,6 +20,14 @@ TOP = Path(__file__).resolve().parent.parent
 STAND_IN = """#!/bin/sh
 echo "rt $*" >>"$CALLS"
 [ -z "$EDIT_ON_THE_WAY" ] || echo edited >>"$EDIT_ON_THE_WAY"
+if [ "$1" = try ]; then
+  echo "in ${PWD##*/}: $*"
+  cat
+  echo 'a line of the program' >&2
+  echo "checked: ended status=${STATUS:-0}" >&2
+  echo "${LAST:-run=ended status=${STATUS:-0} runners=1 proved=no}" >&2
+  exit "${STATUS:-0}"
+fi
 rm -rf crates/*/out
 mkdir -p crates/tt/out
 printf '#!/bin/sh\\n[ "$*" = --version ] && echo "tt 0.1 (stand-in)" || echo "%s: $*"\\n' "$(tail -n 1 crates/tt_text/src/lib.rt)" >crates/tt/out/tt
@@ -41,7 +49,7 @@ FILES = {
     "crates/tt_tests_commands/src/lib.rt": "",
 }
 PACKED = ["LICENSE-MIT", "LICENSE-APACHE", "README.md", "CHANGELOG.md", "docs/RULES.md", "docs/PROOF_FORMAT.md", "docs/GROUPS_FORMAT.md", "examples/mini.ctt"]
-SCRIPTS = ["tt", "gate", "bench/sources.sh", "bench/package.sh"]
+SCRIPTS = ["tt", "gate", "bench/sources.sh", "bench/package.sh", "bench/look.sh"]
 
 
 class Copy:
@@ -185,6 +193,8 @@ def has_no_toolchain(copy):
                 (bare / it.name).symlink_to(it)
     done = copy.run("./tt --help", str(bare))
     assert (done.returncode, done.stdout) == (2, "") and "rattle-kit-" in done.stderr, f"{done}"
+    done = copy.run("./tt --look --help", str(bare))
+    assert (done.returncode, done.stdout) == (2, "") and "rattle-kit-" in done.stderr, f"{done}"
     assert not (copy.folder / "out").exists(), "something was begun"
     copy.uses("first", 1)
     assert copy.run("./tt --help", str(bare)).stdout == "first: --help\n"
@@ -217,6 +227,52 @@ def is_packed(copy):
     assert copy.run("./tt package").returncode == 2
 
 
+def is_looked_at(copy):
+    """The program runs by rt try, with the caller's paths, input and status, and is built neither before nor after."""
+    copy.write("in it/week.ctt", "week")
+    here = copy.folder / "in it"
+
+    def look(words, given="", **more):
+        done = copy.run(f"cd 'in it' && printf '{given}' | ../tt --look {words}", **more)
+        assert not (copy.folder / "crates/tt/out").exists() and not (copy.folder / "out").exists(), "something was built"
+        return done
+
+    def tried(words, wanted, given=""):
+        done = look(words, given)
+        assert (done.returncode, done.stdout) == (0, f"in tt: try --seconds 600 -- {wanted}\n{given}"), f"{done}"
+        lines = done.stderr.splitlines()
+        assert lines[-1] == "a line of the program" and "nothing is proved" in lines[0] and "./tt build" in lines[1] and len(lines) == 3, f"{done}"
+
+    tried("validate week.ctt ../week.sol", f"validate {here}/week.ctt {here}/../week.sol")
+    tried("check /week.ctt week.sol week.proof --quiet", f"check /week.ctt {here}/week.sol {here}/week.proof --quiet")
+    tried("sum week.ctt --solution week.sol a b", f"sum {here}/week.ctt --solution {here}/week.sol {here}/a {here}/b")
+    tried("sum week.ctt --solution=week.sol a", f"sum {here}/week.ctt --solution={here}/week.sol {here}/a")
+    tried("report week.ctt week.sol --by room", f"report {here}/week.ctt {here}/week.sol --by room")
+    tried("report --ics week.ctt --minutes 90 week.ctt week.sol", f"report --ics week.ctt --minutes 90 {here}/week.ctt {here}/week.sol")
+    tried("inspect -- -week.ctt", f"inspect -- {here}/-week.ctt")
+    tried("bound - week.proof", f"bound - {here}/week.proof", "given")
+    tried("bound week.ctt week.proof", f"bound {here}/week.ctt {here}/week.proof")
+    tried("--version", "--version")
+    done = look("validate week.ctt week.sol", STATUS="1")
+    assert done.returncode == 1 and "run=" not in done.stderr, f"{done}"
+    done = look("validate week.ctt week.sol", STATUS="6", LAST="run=no-answer proved=no")
+    assert done.returncode == 2 and "run=no-answer proved=no" in done.stderr and "no answer" in done.stderr.splitlines()[-1], f"{done}"
+
+
+def is_not_looked_at(copy):
+    """Commands that write files are refused at once, and so is what is no command."""
+    for words in ("solve week.ctt a b", "improve week.ctt a b", "parts week.ctt a", "best week.ctt a", "page week.ctt a b", "upgrade week.ctt a b", "week", "build", ""):
+        done = copy.run(f"./tt --look {words}")
+        assert (done.returncode, done.stdout, copy.count()) == (2, "", 0), f"{done}"
+        assert len(done.stderr.splitlines()) == 1, f"{done}"
+
+
+def is_looked_at_when_it_is_built(copy):
+    copy.uses("first", 1)
+    done = copy.run("./tt --look validate a b")
+    assert (done.returncode, done.stdout, copy.count()) == (0, "first: validate a b\n", 1) and "proved" in done.stderr, f"{done}"
+
+
 ROWS = [
     is_built_once,
     builds_only,
@@ -231,6 +287,9 @@ ROWS = [
     has_no_toolchain,
     is_not_built,
     is_packed,
+    is_looked_at,
+    is_not_looked_at,
+    is_looked_at_when_it_is_built,
 ]
 
 
