@@ -253,6 +253,8 @@ def is_looked_at(copy):
     tried("bound - week.proof", f"bound - {here}/week.proof", "given")
     tried("bound week.ctt week.proof", f"bound {here}/week.ctt {here}/week.proof")
     tried("--version", "--version")
+    done = copy.run("head -c 67108865 /dev/zero | ./tt --look bound - week.proof")
+    assert (done.returncode, done.stdout) == (2, "") and "67108864" in done.stderr, f"{done}"
     done = look("validate week.ctt week.sol", STATUS="1")
     assert done.returncode == 1 and "run=" not in done.stderr, f"{done}"
     done = look("validate week.ctt week.sol", STATUS="6", LAST="run=no-answer proved=no")

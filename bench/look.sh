@@ -2,8 +2,8 @@
 #
 # What rt try of the kit 13f does, as it was tried:
 #
-#   - It compiles the program with all crates below it anew each time, and keeps nothing: some 105 processor seconds, 3.3 minutes
-#     on a processor that others used too, in the first call and in the second.
+#   - It compiles the program with all crates below it anew each time, and keeps nothing: 3.3 minutes on one processor, in the
+#     first call and in the second. Half of that goes to a second process of rt try, which looks for names that a check would refuse.
 #   - Then `validate`, `check`, `bound`, `sum`, `inspect`, `report`, `--help` and `--version` answer in seconds.
 #   - The program runs in a folder of its own with no environment. It reads files by absolute paths, those of --data NAME=FILE as NAME, and
 #     standard input as `-`, which rt try takes up to 64 MiB, and up to a silence of two seconds.
