@@ -15,6 +15,8 @@ import sys
 import tempfile
 from pathlib import Path
 
+from rattle import repository
+
 HERE = Path(__file__).resolve().parent
 PROJECT = HERE.parent
 EXAMPLES = PROJECT / "examples"
@@ -22,31 +24,9 @@ RUNS = 20
 NAMES = ["small01", "small05", "like01", "like02", "like05"]
 
 
-def repository(folder):
-    """A repository with the program of claims/ and the crates below it."""
-    lines = [line.split(":") for line in (PROJECT / "crates.txt").read_text().splitlines() if line and line[0] != "#"]
-    below = {name.strip(): words.split() for name, words in lines}
-    wanted = dict.fromkeys([*below["tt_path_trail"], "tt_path_trail", *below["tt_leaf_find"], "tt_leaf_find"])
-    crates = [name for name in wanted if name in below]
-    (folder / "crates").mkdir(parents=True)
-    for name in crates:
-        for part in ("src", "specs", "proofs", "out/rlib"):
-            if (PROJECT / "crates" / name / part).exists():
-                shutil.copytree(PROJECT / "crates" / name / part, folder / "crates" / name / part)
-    program = folder / "crates" / "tt_claims" / "src"
-    program.mkdir(parents=True)
-    # Only a crate's own files may end in .rt, so these end in .rt.txt.
-    for source in (HERE / "claims").glob("*.rt.txt"):
-        shutil.copy(source, program / source.name.removesuffix(".txt"))
-    shutil.copy(PROJECT / "HANDLES", folder)
-    listed = [f"{name}: {' '.join(below[name])}" for name in crates] + [f"tt_claims: {' '.join(crates)} anyhow"]
-    (folder / "crates.txt").write_text("\n".join(listed) + "\n")
-    return folder / "crates" / "tt_claims"
-
-
 def built(folder, words):
     """The program of claims/, proved."""
-    crate = repository(folder)
+    crate = repository(folder, "claims")
     done = subprocess.run(["rt", "run", "--", *words], cwd=crate, stdout=subprocess.PIPE, stderr=subprocess.STDOUT, text=True, check=False)
     if done.returncode != 0:
         sys.exit(done.stdout[-4000:])
@@ -83,4 +63,4 @@ def main():
 
 
 if __name__ == "__main__":
-    main()
+    sys.exit(print(__doc__) if sys.argv[1:] == ["--help"] else main())

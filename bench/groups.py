@@ -121,4 +121,4 @@ def main():
 
 
 if __name__ == "__main__":
-    main()
+    sys.exit(print(__doc__) if sys.argv[1:] == ["--help"] else main())

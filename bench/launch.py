@@ -3,13 +3,14 @@
 
     python3 bench/launch.py
 
-Each row is what happened to a small repository with these scripts, and whether ./tt then uses the program that is there or builds it again. It
-takes some seconds; the last line is `N passed, M failed`, and the status is 1 where something failed.
+Each row is what happened to a small repository with these scripts, and whether ./tt then uses the program that is there or builds it again, packs
+it, or has it tried before it is built. It takes some seconds; the last line is `N passed, M failed`, and the status is 1 where something failed.
 """
 import os
 import shutil
 import subprocess
 import sys
+import tarfile
 import tempfile
 import time
 from pathlib import Path
@@ -19,9 +20,17 @@ TOP = Path(__file__).resolve().parent.parent
 STAND_IN = """#!/bin/sh
 echo "rt $*" >>"$CALLS"
 [ -z "$EDIT_ON_THE_WAY" ] || echo edited >>"$EDIT_ON_THE_WAY"
+if [ "$1" = try ]; then
+  echo "in ${PWD##*/}: $*"
+  cat
+  echo 'a line of the program' >&2
+  echo "checked: ended status=${STATUS:-0}" >&2
+  echo "${LAST:-run=ended status=${STATUS:-0} runners=1 proved=no}" >&2
+  exit "${STATUS:-0}"
+fi
 rm -rf crates/*/out
 mkdir -p crates/tt/out
-printf '#!/bin/sh\\necho "%s: $*"\\n' "$(tail -n 1 crates/tt_text/src/lib.rt)" >crates/tt/out/tt
+printf '#!/bin/sh\\n[ "$*" = --version ] && echo "tt 0.1 (stand-in)" || echo "%s: $*"\\n' "$(tail -n 1 crates/tt_text/src/lib.rt)" >crates/tt/out/tt
 chmod +x crates/tt/out/tt
 echo 'rt: tt_text proved'
 exit "${STATUS:-0}"
@@ -39,6 +48,8 @@ FILES = {
     "crates/tt/src/main.rt": "",
     "crates/tt_tests_commands/src/lib.rt": "",
 }
+PACKED = ["LICENSE-MIT", "LICENSE-APACHE", "README.md", "CHANGELOG.md", "docs/RULES.md", "docs/PROOF_FORMAT.md", "docs/GROUPS_FORMAT.md", "examples/mini.ctt"]
+SCRIPTS = ["tt", "gate", "bench/sources.sh", "bench/package.sh", "bench/look.sh"]
 
 
 class Copy:
@@ -48,7 +59,7 @@ class Copy:
         self.folder, self.calls = folder / "copy", folder / "calls"
         for name, text in FILES.items():
             self.write(name, text)
-        for name in ("tt", "gate", "bench/sources.sh"):
+        for name in SCRIPTS:
             (self.folder / name).parent.mkdir(exist_ok=True)
             shutil.copy(TOP / name, self.folder / name)
         (folder / "bin").mkdir()
@@ -182,6 +193,8 @@ def has_no_toolchain(copy):
                 (bare / it.name).symlink_to(it)
     done = copy.run("./tt --help", str(bare))
     assert (done.returncode, done.stdout) == (2, "") and "rattle-kit-" in done.stderr, f"{done}"
+    done = copy.run("./tt --look --help", str(bare))
+    assert (done.returncode, done.stdout) == (2, "") and "rattle-kit-" in done.stderr, f"{done}"
     assert not (copy.folder / "out").exists(), "something was begun"
     copy.uses("first", 1)
     assert copy.run("./tt --help", str(bare)).stdout == "first: --help\n"
@@ -192,6 +205,74 @@ def is_not_built(copy):
     assert (done.returncode, done.stdout) == (2, ""), f"{done}"
     assert not (copy.folder / "crates/tt/out").exists() and (copy.folder / "out/program/log").read_text()
     copy.uses("first", 1)
+
+
+def is_packed(copy):
+    """Only a program of these sources is packed, and nothing is built for that."""
+    for name in PACKED:
+        copy.write(name, name)
+    copy.write("examples/__pycache__/none", "none")
+    done = copy.run("./tt package")
+    assert (done.returncode, done.stdout, copy.count()) == (2, "", 0) and "./tt build" in done.stderr, f"{done}"
+    copy.uses("first", 1)
+    assert copy.run("./tt package more").returncode == 2
+    done = copy.run("./tt package")
+    name = "tt-0.1-x86_64-linux"
+    assert done.returncode == 0 and done.stdout.endswith(f"\nout/{name}.tar.gz\n"), f"{done}"
+    with tarfile.open(copy.folder / "out" / f"{name}.tar.gz") as archive:
+        files = sorted(it.name for it in archive if it.isfile())
+    assert files == sorted(f"{name}/{it}" for it in [*PACKED, "tt", "NEEDS"]), files
+    assert [it.name for it in (copy.folder / "out").iterdir() if it.name != "program"] == [f"{name}.tar.gz"], "something is left over"
+    copy.write(SOURCE, "second\n")
+    assert copy.run("./tt package").returncode == 2
+
+
+def is_looked_at(copy):
+    """The program runs by rt try, with the caller's paths, input and status, and is built neither before nor after."""
+    copy.write("in it/week.ctt", "week")
+    here = copy.folder / "in it"
+
+    def look(words, given="", **more):
+        done = copy.run(f"cd 'in it' && printf '{given}' | ../tt --look {words}", **more)
+        assert not (copy.folder / "crates/tt/out").exists() and not (copy.folder / "out").exists(), "something was built"
+        return done
+
+    def tried(words, wanted, given=""):
+        done = look(words, given)
+        assert (done.returncode, done.stdout) == (0, f"in tt: try --seconds 600 -- {wanted}\n{given}"), f"{done}"
+        lines = done.stderr.splitlines()
+        assert lines[-1] == "a line of the program" and "nothing is proved" in lines[0] and "./tt build" in lines[1] and len(lines) == 3, f"{done}"
+
+    tried("validate week.ctt ../week.sol", f"validate {here}/week.ctt {here}/../week.sol")
+    tried("check /week.ctt week.sol week.proof --quiet", f"check /week.ctt {here}/week.sol {here}/week.proof --quiet")
+    tried("sum week.ctt --solution week.sol a b", f"sum {here}/week.ctt --solution {here}/week.sol {here}/a {here}/b")
+    tried("sum week.ctt --solution=week.sol a", f"sum {here}/week.ctt --solution={here}/week.sol {here}/a")
+    tried("report week.ctt week.sol --by room", f"report {here}/week.ctt {here}/week.sol --by room")
+    tried("report --ics week.ctt --minutes 90 week.ctt week.sol", f"report --ics week.ctt --minutes 90 {here}/week.ctt {here}/week.sol")
+    tried("inspect -- -week.ctt", f"inspect -- {here}/-week.ctt")
+    tried("bound - week.proof", f"bound - {here}/week.proof", "given")
+    tried("bound week.ctt week.proof", f"bound {here}/week.ctt {here}/week.proof")
+    tried("--version", "--version")
+    done = copy.run("head -c 67108865 /dev/zero | ./tt --look bound - week.proof")
+    assert (done.returncode, done.stdout) == (2, "") and "67108864" in done.stderr, f"{done}"
+    done = look("validate week.ctt week.sol", STATUS="1")
+    assert done.returncode == 1 and "run=" not in done.stderr, f"{done}"
+    done = look("validate week.ctt week.sol", STATUS="6", LAST="run=no-answer proved=no")
+    assert done.returncode == 2 and "run=no-answer proved=no" in done.stderr and "no answer" in done.stderr.splitlines()[-1], f"{done}"
+
+
+def is_not_looked_at(copy):
+    """Commands that write files are refused at once, and so is what is no command."""
+    for words in ("solve week.ctt a b", "improve week.ctt a b", "parts week.ctt a", "best week.ctt a", "page week.ctt a b", "upgrade week.ctt a b", "week", "build", ""):
+        done = copy.run(f"./tt --look {words}")
+        assert (done.returncode, done.stdout, copy.count()) == (2, "", 0), f"{done}"
+        assert len(done.stderr.splitlines()) == 1, f"{done}"
+
+
+def is_looked_at_when_it_is_built(copy):
+    copy.uses("first", 1)
+    done = copy.run("./tt --look validate a b")
+    assert (done.returncode, done.stdout, copy.count()) == (0, "first: validate a b\n", 1) and "proved" in done.stderr, f"{done}"
 
 
 ROWS = [
@@ -207,6 +288,10 @@ ROWS = [
     is_replaced,
     has_no_toolchain,
     is_not_built,
+    is_packed,
+    is_looked_at,
+    is_not_looked_at,
+    is_looked_at_when_it_is_built,
 ]
 
 
@@ -226,4 +311,4 @@ def main():
 
 
 if __name__ == "__main__":
-    sys.exit(main())
+    sys.exit(print(__doc__) if sys.argv[1:] == ["--help"] else main())

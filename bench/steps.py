@@ -18,6 +18,8 @@ import sys
 import tempfile
 from pathlib import Path
 
+from rattle import repository
+
 HERE = Path(__file__).resolve().parent
 PROJECT = HERE.parent
 EXAMPLES = PROJECT / "examples"
@@ -53,36 +55,9 @@ def files(rng):
     return "\n".join(lines), "".join(f"c{c:03} r{r:02} {d} {p}\n" for c, r, d, p in entries)
 
 
-def crates_from(name, below):
-    """A crate and those that it stands on, however far below: each once, after what it stands on itself."""
-    lower = [crate for word in below[name] if word in below for crate in crates_from(word, below)]
-    return list(dict.fromkeys([*lower, name]))
-
-
-def repository(folder):
-    """A repository with the program of steps/ and the crates below it."""
-    lines = [line.split(":") for line in (PROJECT / "crates.txt").read_text().splitlines() if line and line[0] != "#"]
-    below = {name.strip(): words.split() for name, words in lines}
-    crates = crates_from("tt_moves", below)
-    (folder / "crates").mkdir(parents=True)
-    for name in crates:
-        for part in ("src", "specs", "proofs", "out/rlib"):
-            if (PROJECT / "crates" / name / part).exists():
-                shutil.copytree(PROJECT / "crates" / name / part, folder / "crates" / name / part)
-    program = folder / "crates" / "tt_steps" / "src"
-    program.mkdir(parents=True)
-    # Only a crate's own files may end in .rt, so these end in .rt.txt.
-    for source in (HERE / "steps").glob("*.rt.txt"):
-        shutil.copy(source, program / source.name.removesuffix(".txt"))
-    shutil.copy(PROJECT / "HANDLES", folder)
-    listed = [f"{name}: {' '.join(below[name])}" for name in crates] + [f"tt_steps: {' '.join(crates)} anyhow"]
-    (folder / "crates.txt").write_text("\n".join(listed) + "\n")
-    return folder / "crates" / "tt_steps"
-
-
 def built(folder, paths):
     """The program of steps/, proved."""
-    crate = repository(folder)
+    crate = repository(folder, "steps")
     done = subprocess.run(["rt", "run", "--", *paths], cwd=crate, stdout=subprocess.PIPE, stderr=subprocess.STDOUT, text=True, check=False)
     if done.returncode != 0:
         sys.exit(done.stdout[-4000:])
@@ -132,4 +107,4 @@ def main():
 
 
 if __name__ == "__main__":
-    main()
+    sys.exit(print(__doc__) if sys.argv[1:] == ["--help"] else main())
