@@ -1,7 +1,7 @@
 #!/usr/bin/env python3
 """Checks the documents: README.md, CHANGELOG.md, CONTRIBUTING.md, docs/*.md and each README.md below examples/.
 
-    python3 bench/docs.py               # links, contents lists, and names (bench/names.py)
+    python3 bench/docs.py               # links, contents lists, words, paragraphs, and names (bench/names.py)
     python3 bench/docs.py --commands    # and commands (bench/readme.py, bench/examples.py), which need the built program
 
 A link has to lead to a file of the repository, and its anchor to a heading of that file, as a page of HTML names it; addresses of the web are not
