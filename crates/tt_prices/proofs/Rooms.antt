@@ -1,13 +1,12 @@
 -- What a course pays in one room, and in several.
 use Rattle.std.proofs.Common.{◌≡◌, ℕ, ◌+◌, ◌*◌, ◌-◌, ◌≤◌, ◌<◌, Bool, true, false, not, ◌&&◌, List, [], ◌∷◌, length, map, refl, sym, ap, subst, ◌∙◌, arith, eqb-true, eq-eqb, ne_eqb, inl, inr, zero, suc}
-use Rattle.std.specs.Prelude.{Contains, ◌==◌, ℤ, pos, ◌+ℤ◌, ◌-ℤ◌, ◌≤ℤ◌, All, sum_by, count_by, get_or}
+use Rattle.std.specs.Prelude.{Contains, ◌==◌, ℤ, pos, ◌+ℤ◌, ◌-ℤ◌, ◌≤ℤ◌, count_by, get_or}
 use Rattle.std.specs.List.{list_any, AllByRecursion}
 use Rattle.std.proofs.lemmas.Bool.{and_from, both_ways, cases_Bool, cases_lt, not-true}
 use Rattle.std.proofs.lemmas.Int.{ints}
 use Rattle.std.proofs.Math.Nat.{mul-suc}
 use Rattle.std.proofs.lemmas.List.{length-map}
 use Rattle.std.proofs.lemmas.List.Elements.{All-contains, All-from_recursion, All-map, Contains-get_or}
-use Rattle.tt_list_laws.proofs.Counting.{count_all}
 use Rattle.tt_list_laws.proofs.Members.{at_member, each_member, any_member, member_from_any, member_cases, none_passes, number_below, only_one}
 use Rattle.tt_list_laws.proofs.Sums.{one_if, sum_by-of_map, sum_by-tight, one_if_any, one_if-le, each, each_weaker, each_from_list_any}
 use Rattle.tt_instance.specs.Problem.{Problem}

@@ -1,5 +1,5 @@
 -- Any prices bound the cost of a feasible timetable.
-use Rattle.std.proofs.Common.{◌≡◌, ℕ, ◌+◌, ◌*◌, ◌<◌, Bool, true, false, cond, eqb, ltb, List, [], ◌∷◌, ◌++◌, length, map, refl, sym, ap, subst, ◌∙◌, arith, zero, suc, inl, inr}
+use Rattle.std.proofs.Common.{◌≡◌, ℕ, ◌+◌, ◌*◌, ◌<◌, cond, List, [], ◌∷◌, length, map, refl, sym, ap, subst, ◌∙◌, arith, zero, suc, inl, inr}
 use Rattle.std.specs.Prelude.{◌⊎◌, ◌≤◌, Contains, ◌==◌, nat_lt, ℤ, pos, ◌+ℤ◌, ◌-ℤ◌, ◌≤ℤ◌, All, filter, sum_by}
 use Rattle.std.proofs.lemmas.Bool.{cases_eq, cases_lt, eq-eqb, ne_eqb, lt-ltb, le-ltb}
 use Rattle.std.proofs.lemmas.Int.{ints}
@@ -7,7 +7,6 @@ use Rattle.std.proofs.lemmas.List.Elements.{recursion_from_All, Contains-append_
 use Rattle.std.proofs.Math.Nat.{mul_comm, mul-add}
 use Rattle.tt_list_laws.specs.Words.{range_below}
 use Rattle.tt_list_laws.proofs.Below.{range_below_more, each_below}
-use Rattle.tt_list_laws.proofs.Members.{each_member}
 use Rattle.tt_list_laws.proofs.Sums.{sum_by-plus, sum_by-same, sum_by-times, each_weaker}
 use Rattle.tt_instance.specs.Problem.{Problem}
 use Rattle.tt_instance.specs.Cells.{all_courses, all_rooms, all_slots, slot_of, is_of}
@@ -17,7 +16,7 @@ use Rattle.tt_instance.specs.declared.cell.Slot.{Slot}
 use Rattle.tt_rules.specs.Score.{IsFeasible}
 use Rattle.tt_rules.specs.Soft.{capacity_count, stability_cost, stability_count}
 use Rattle.tt_rules.proofs.Feasible.{in_range}
-use Rattle.tt_prices.specs.Prices.{PricedGroup, concerns, entries_for, points, paid, prices_of, cell_cost, IsGroupBound, IsCourseBound}
+use Rattle.tt_prices.specs.Prices.{PricedGroup, concerns, entries_for, points, prices_of, cell_cost, IsGroupBound, IsCourseBound}
 use Rattle.tt_prices.specs.Signed.{signed_sum}
 use Rattle.tt_prices.proofs.Courses.{placed, stability_own}
 use Rattle.tt_prices.proofs.Groups.{feasible_relaxed}

@@ -1,16 +1,15 @@
 -- What a choice of periods pays is a sum over the open periods, each of which is there or not.
-use Rattle.std.proofs.Common.{◌≡◌, ℕ, zero, suc, ◌+◌, ◌≤◌, ◌<◌, Bool, true, false, not, ◌&&◌, ◌||◌, cond, List, [], ◌∷◌, length, map, refl, sym, ap, subst, ◌∙◌, arith, inl, inr, eqb-true, eq-eqb}
-use Rattle.std.specs.Prelude.{Contains, ◌==◌, ℤ, pos, ◌+ℤ◌, All, filter, sum_by, count_by}
-use Rattle.std.specs.List.{list_any, AllByRecursion}
-use Rattle.std.proofs.lemmas.Bool.{and_from, and_parts, not_from_false, cases_Bool}
+use Rattle.std.proofs.Common.{◌≡◌, ℕ, suc, ◌+◌, ◌≤◌, ◌<◌, Bool, true, false, not, ◌&&◌, ◌||◌, cond, List, [], ◌∷◌, length, map, refl, sym, ap, subst, ◌∙◌, arith, inl, inr, eq-eqb}
+use Rattle.std.specs.Prelude.{Contains, ◌==◌, ℤ, pos, ◌+ℤ◌, count_by}
+use Rattle.std.specs.List.{list_any}
+use Rattle.std.proofs.lemmas.Bool.{and_from, cases_Bool}
 use Rattle.std.proofs.lemmas.Int.{ints}
-use Rattle.std.proofs.lemmas.List.Elements.{All-contains, recursion_from_All}
+use Rattle.std.proofs.lemmas.List.Elements.{All-contains}
 use Rattle.tt_list_laws.proofs.Filters.{count_by-of_filter, list_any-of_filter}
 use Rattle.tt_list_laws.proofs.Counting.{sum_by-ones}
-use Rattle.tt_list_laws.proofs.Members.{at_member, any_member, number_below}
-use Rattle.tt_list_laws.proofs.Sums.{one_if, one_if-le, count_by-cons, count_if_any, sum_by-le, sum_by-same, each, each_from_list_any}
+use Rattle.tt_list_laws.proofs.Sums.{one_if, count_by-cons, sum_by-le, each}
 use Rattle.tt_instance.specs.Problem.{Problem}
-use Rattle.tt_instance.specs.Cells.{all_slots, cell, slot_of, is_at}
+use Rattle.tt_instance.specs.Cells.{all_slots, cell}
 use Rattle.tt_instance.specs.Courses.{lectures, unavailable}
 use Rattle.tt_instance.specs.declared.cell.Slot.{Slot}
 use Rattle.tt_instance.proofs.Cells.{is_at-slot}
@@ -18,7 +17,7 @@ use Rattle.tt_instance.proofs.Places.{any_slot, count_slots}
 use Rattle.tt_groups.proofs.Lists.{member_before}
 use Rattle.tt_prices.specs.Prices.{IsChoice}
 use Rattle.tt_prices.specs.Signed.{signed_sum}
-use Rattle.tt_prices.proofs.Signed.{signed_sum-same, signed_sum-same_member, signed_sum-swap, signed_sum-nothing, signed_sum-pos}
+use Rattle.tt_prices.proofs.Signed.{signed_sum-same, signed_sum-same_member, signed_sum-swap, signed_sum-pos}
 use Rattle.tt_prices_rooms.specs.Least.{IsSumOf}
 use Rattle.tt_prices_rooms.specs.Terms.{open_slots, IsPaid}
 use Rattle.tt_prices_rooms.proofs.Sums.{skip}
