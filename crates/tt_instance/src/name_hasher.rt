@@ -6,7 +6,7 @@ use sha2::{Digest, Sha256};
 use std::hash::{BuildHasher, DefaultHasher, Hasher};
 
 /// What makes the hashers of a file's names. Whoever writes the file picks them, so the hashes depend on all of its bytes: a change of
-/// one name changes the hash of each, and no names can be picked that collide.
+/// one name changes the hash of each, and names that collide are only found by trying whole files.
 #[derive(Clone, Copy)]
 pub struct NameHasher {
     initial: DefaultHasher,

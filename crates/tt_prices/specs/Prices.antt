@@ -42,7 +42,8 @@ pub record IsRelaxedTimetable (p : Problem) (g : PricedGroup) (t : List Cell) : 
 abbrev pub later_lectures : Problem → List Cell → ℕ → ℕ
 later_lectures p t c = entries_of t c - days_of p t c
 
--- 5 for each day below the minimum if all other lectures of the course are on days of their own.
+-- 5 for each day by which the minimum and the later lectures are above all lectures. Where a course has all its lectures, that is what its
+-- working days cost.
 abbrev pub working_days_cost : Problem → List Cell → ℕ → ℕ
 working_days_cost p t c = MISSING_DAY_COST * ((min_days p c + later_lectures p t c) - lectures p c)
 
