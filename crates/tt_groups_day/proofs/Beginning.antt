@@ -71,7 +71,7 @@ get_left [] ys i x e = absurd (none e)
 get_left (y ∷ xs) ys zero x e = e
 get_left (y ∷ xs) ys (suc i) x e = get_left xs ys i x e
 
-count_one_more : (f : CourseSet → Bool) (xs : List CourseSet) (x : CourseSet) → count_by f (xs ++ x ∷ []) ≡ count_by f xs + one_if (f x)
+pub count_one_more : (f : CourseSet → Bool) (xs : List CourseSet) (x : CourseSet) → count_by f (xs ++ x ∷ []) ≡ count_by f xs + one_if (f x)
 count_one_more f [] x = omega (arith, count_by-cons f x [])
 count_one_more f (y ∷ xs) x = omega (arith, count_by-cons f y (xs ++ x ∷ []), count_by-cons f y xs, count_one_more f xs x)
 

@@ -30,15 +30,15 @@ use Rattle.tt_groups_day.proofs.Searching.{no_set, no_period}
 
 -- ---- places of a list of sets
 
-nothing_there : (s : ℕ) (x : CourseSet) → slice_get {X = CourseSet} [] s ≡ Some x → ⊥
+pub nothing_there : (s : ℕ) (x : CourseSet) → slice_get {X = CourseSet} [] s ≡ Some x → ⊥
 nothing_there s x e = cc
 
-got_there : (xs : List CourseSet) (s : ℕ) (x : CourseSet) → slice_get xs s ≡ Some x → get_or xs s no_set ≡ x
+pub got_there : (xs : List CourseSet) (s : ℕ) (x : CourseSet) → slice_get xs s ≡ Some x → get_or xs s no_set ≡ x
 got_there [] s x e = absurd (nothing_there s x e)
 got_there (y ∷ xs) zero x e = cc
 got_there (y ∷ xs) (suc s) x e = got_there xs s x e
 
-is_there : (xs : List CourseSet) (s : ℕ) → s < length xs → slice_get xs s ≡ Some (get_or xs s no_set)
+pub is_there : (xs : List CourseSet) (s : ℕ) → s < length xs → slice_get xs s ≡ Some (get_or xs s no_set)
 is_there [] s h = absurd (omega arith)
 is_there (y ∷ xs) zero h = refl
 is_there (y ∷ xs) (suc s) h = is_there xs s (omega (arith, h))
@@ -46,18 +46,18 @@ is_there (y ∷ xs) (suc s) h = is_there xs s (omega (arith, h))
 -- ---- the day that has these sets
 
 -- a period has the courses of its set
-abbrev day_of : List ℕ → List CourseSet → Day
+abbrev pub day_of : List ℕ → List CourseSet → Day
 day_of cs before s c = list_any (λ i. (slice_index cs i == c) && has_course (get_or before s no_set) i) (range_below (length cs))
 
 module _ (p : Problem) (g : Group) (cs : List ℕ) (before : List CourseSet) where
-  held : (s c : ℕ) → day_of cs before s c ≡ true → (i : ℕ) × (i < length cs) × (slice_index cs i ≡ c)
+  pub held : (s c : ℕ) → day_of cs before s c ≡ true → (i : ℕ) × (i < length cs) × (slice_index cs i ≡ c)
       × (has_course (get_or before s no_set) i ≡ true)
   held s c e =
       let w = member_from_any (λ i. (slice_index cs i == c) && has_course (get_or before s no_set) i) (range_below (length cs)) e in
       let k = and_parts (slice_index cs w.0 == c) (has_course (get_or before s no_set) w.0) w.2 in
       (w.0, below_member (length cs) w.0 w.1, eqb-true (slice_index cs w.0) c k.0, k.1)
 
-  begins_day : AreDistinct cs → Begins p g cs (day_of cs before) before
+  pub begins_day : AreDistinct cs → Begins p g cs (day_of cs before) before
   begins_day distinct s x e i l =
       same_truth (has_course x i) (day_of cs before s (slice_index cs i))
       (λ h. any_below (λ j. (slice_index cs j == slice_index cs i) && has_course (get_or before s no_set) j) (length cs) i l
@@ -115,7 +115,7 @@ pub open_first : (p : Problem) (cs : List ℕ) (d : ℕ) → AreOpenSets p cs d 
 open_first p cs d = record { apart = λ s x e. absurd (nothing_there s x e); available = λ s x i e l h. absurd (nothing_there s x e) }
 
 -- another set
-open_more : (p : Problem) (g : Group) (cs : List ℕ) (d : ℕ) (before : List CourseSet) (x : CourseSet) → AreOpenSets p cs d before
+pub open_more : (p : Problem) (g : Group) (cs : List ℕ) (d : ℕ) (before : List CourseSet) (x : CourseSet) → AreOpenSets p cs d before
     → IsApart p cs x
     → ((i : ℕ) → i < length cs → has_course x i ≡ true → unavailable p (slice_index cs i) d (length before) ≡ false)
     → AreOpenSets p cs d (before ++ x ∷ [])

@@ -52,7 +52,7 @@ tried-end most periods sets b s m table end small low p g cs weights d before da
 
 -- ---- after all sets
 
-begins-more : (p : Problem) (g : Group) (cs : List ℕ) (day : Day) (before : List CourseSet) (x : CourseSet) → Begins p g cs day before
+pub begins-more : (p : Problem) (g : Group) (cs : List ℕ) (day : Day) (before : List CourseSet) (x : CourseSet) → Begins p g cs day before
     → IsSetOf p g cs day (length before) x → Begins p g cs day (before ++ x ∷ [])
 begins-more p g cs day before x begins here s y e = elim (at_cases before (x ∷ []) s y e) [
   | inl h ↦ begins s y h

@@ -12,6 +12,6 @@ mod work;
 
 pub use days::list_days;
 pub use fault::DaysFault;
-pub use morning::{COURSES, CourseSet};
+pub use morning::{COURSES, CourseSet, fits};
 pub use sets::{MAX_SETS, SetsFault, list_sets};
 pub use work::DayWork;

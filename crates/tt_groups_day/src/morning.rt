@@ -58,7 +58,7 @@ fn sums(counts: &[u8; COURSES], more: &[u8; COURSES]) -> [u8; COURSES]
 }
 
 /// Checks that no number is above that of the other list.
-fn fits(numbers: &[u8; COURSES], most: &[u8; COURSES]) -> bool
+pub fn fits(numbers: &[u8; COURSES], most: &[u8; COURSES]) -> bool
     ensures yes { result ≡ true → (i : ℕ) → i < COURSES → slice_index numbers.now i ≤ slice_index most.now i }
     ensures no { result ≡ false → (i : ℕ) × (i < COURSES) × (slice_index most.now i < slice_index numbers.now i) }
 {

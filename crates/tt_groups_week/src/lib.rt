@@ -11,4 +11,5 @@ mod week;
 pub use digits::{Digits, MAX_PLACES};
 pub use fault::WeekFault;
 pub use moves::{Move, moves_of};
+pub use state::{State, Step, advance, state_at};
 pub use week::week_holds;
