@@ -1,5 +1,5 @@
 -- A feasible timetable is a relaxed timetable of each group with prices.
-use Rattle.std.proofs.Common.{◌≡◌, ℕ, ◌-◌, ◌≤◌, ◌&&◌, List, arith}
+use Rattle.std.proofs.Common.{◌≡◌, ℕ, ◌≤◌, ◌&&◌, List, arith}
 use Rattle.std.specs.Prelude.{Contains, sum_by, count_by}
 use Rattle.std.specs.List.{list_any}
 use Rattle.std.proofs.lemmas.Bool.{both_ways}

@@ -1,10 +1,11 @@
 -- Sums of signed numbers.
-use Rattle.std.proofs.Common.{◌≡◌, ℕ, ◌+◌, Bool, true, false, cond, List, [], ◌∷◌, ◌++◌, refl, sym, ap, ◌∙◌, arith}
-use Rattle.std.specs.Prelude.{Contains, ℤ, pos, ◌+ℤ◌, ◌-ℤ◌, ◌≤ℤ◌, filter, sum_by, map}
-use Rattle.std.specs.List.{AllByRecursion}
+use Rattle.std.proofs.Common.{◌≡◌, ℕ, ◌+◌, ◌≤◌, Bool, true, false, cond, ◌||◌, List, [], ◌∷◌, ◌++◌, refl, sym, ap, ◌∙◌, arith}
+use Rattle.std.specs.Prelude.{Contains, ℤ, pos, ◌+ℤ◌, ◌-ℤ◌, ◌≤ℤ◌, filter, flat_map, sum_by, count_by, map}
+use Rattle.std.specs.List.{list_any, AllByRecursion}
 use Rattle.std.proofs.lemmas.Int.{ints}
 use Rattle.std.proofs.lemmas.List.Elements.{Contains-append_right}
 use Rattle.std.proofs.lemmas.List.Sums.{sum_by-cons}
+use Rattle.tt_list_laws.proofs.Sums.{one_if, count_by-cons}
 use Rattle.tt_prices.specs.Signed.{signed_sum}
 
 module _ {X : Type 0} where
@@ -60,3 +61,32 @@ signed_sum-same_member f g [] same = refl
 signed_sum-same_member f g (x ∷ xs) same =
     ap (λ z. z +ℤ signed_sum f xs) (same x (0, omega arith, refl))
     ∙ ap (λ z. g x +ℤ z) (signed_sum-same_member f g xs (λ y m. same y (Contains-append_right (x ∷ []) xs y m)))
+
+pub signed_sum-of_flat_map : {X Y : Type 0} (f : Y → ℤ) (h : X → List Y) (xs : List X)
+    → signed_sum f (flat_map h xs) ≡ signed_sum (λ x. signed_sum f (h x)) xs
+signed_sum-of_flat_map f h [] = refl
+signed_sum-of_flat_map f h (x ∷ xs) =
+    signed_sum-append f (h x) (flat_map h xs) ∙ ap (λ z. signed_sum f (h x) +ℤ z) (signed_sum-of_flat_map f h xs)
+
+-- if no element counts, a sum of the elements that count is 0
+signed_sum-none : {X : Type 0} (q : X → Bool) (z : ℤ) (xs : List X) → count_by q xs ≡ 0 → signed_sum (λ x. cond (q x) z (pos 0)) xs ≡ pos 0
+signed_sum-none q z [] none = refl
+signed_sum-none q z (x ∷ xs) none = by_test (q x) (count_by-cons q x xs) (λ e. signed_sum-none q z xs e)
+  where
+    by_test : (b : Bool) → count_by q (x ∷ xs) ≡ one_if b + count_by q xs
+        → (count_by q xs ≡ 0 → signed_sum (λ y. cond (q y) z (pos 0)) xs ≡ pos 0)
+        → cond b z (pos 0) +ℤ signed_sum (λ y. cond (q y) z (pos 0)) xs ≡ pos 0
+    by_test true e rest = absurd (omega (arith, e, none))
+    by_test false e rest = let r = rest (omega (arith, e, none)) in omega (arith, ints, r)
+
+-- if at most one element counts, the sum is its term
+pub signed_sum-once : {X : Type 0} (q : X → Bool) (z : ℤ) (xs : List X) → count_by q xs ≤ 1
+    → signed_sum (λ x. cond (q x) z (pos 0)) xs ≡ cond (list_any q xs) z (pos 0)
+signed_sum-once q z [] once = refl
+signed_sum-once q z (x ∷ xs) once = by_test (q x) (count_by-cons q x xs) (λ e. signed_sum-once q z xs e)
+  where
+    by_test : (b : Bool) → count_by q (x ∷ xs) ≡ one_if b + count_by q xs
+        → (count_by q xs ≤ 1 → signed_sum (λ y. cond (q y) z (pos 0)) xs ≡ cond (list_any q xs) z (pos 0))
+        → cond b z (pos 0) +ℤ signed_sum (λ y. cond (q y) z (pos 0)) xs ≡ cond (b || list_any q xs) z (pos 0)
+    by_test true e rest = let r = signed_sum-none q z xs (omega (arith, e, once)) in omega (arith, ints, r)
+    by_test false e rest = let r = rest (omega (arith, e, once)) in omega (arith, ints, r)

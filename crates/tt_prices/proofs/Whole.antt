@@ -26,7 +26,7 @@ use Rattle.tt_prices.proofs.Signed.{signed_sum-same, signed_sum-plus, signed_sum
 -- ---- sums by course
 
 -- the term of one number, among all numbers below a bound
-one_below : (i : ℕ) (z : ℤ) (n : ℕ) → signed_sum (λ c. cond (i == c) z (pos 0)) (range_below n) ≡ cond (nat_lt i n) z (pos 0)
+pub one_below : (i : ℕ) (z : ℤ) (n : ℕ) → signed_sum (λ c. cond (i == c) z (pos 0)) (range_below n) ≡ cond (nat_lt i n) z (pos 0)
 one_below i z zero = rw (le-ltb i zero (omega arith)) refl
 one_below i z (suc n) =
     let f : ℕ → ℤ = λ c. cond (i == c) z (pos 0) in

@@ -1,2 +1,5 @@
+pub mod Days
+pub mod Limits
 pub mod Prices
+pub mod Rows
 pub mod Signed

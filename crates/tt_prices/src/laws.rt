@@ -1,12 +1,14 @@
 //! The meaning of prices.
 
-ghost use Rattle.std.specs.Prelude.{◌≡◌, ℕ, ◌+◌, ◌*◌, ◌<◌, ◌≤◌, ℤ, pos, ◌+ℤ◌, ◌<ℤ◌, ◌≤ℤ◌, List, All, length, map, sum_by};
+ghost use Rattle.std.specs.Prelude.{◌≡◌, true, ℕ, ◌+◌, ◌*◌, ◌<◌, ◌≤◌, ℤ, pos, ◌+ℤ◌, ◌<ℤ◌, ◌≤ℤ◌, List, All, length, map, sum_by};
 ghost use Rattle.tt_instance.specs.Cells.{all_courses, all_rooms, all_slots, cell};
 ghost use Rattle.tt_instance.specs.Courses.{lectures};
 ghost use Rattle.tt_instance.specs.Problem.{Problem};
 ghost use Rattle.tt_instance.specs.declared.cell.Cell.{Cell};
 ghost use Rattle.tt_instance.specs.declared.cell.Slot.{Slot};
-ghost use Rattle.tt_prices.specs.Prices.{PricedGroup, points, working_days_cost, cell_cost, IsGroupBound, IsCourseBound, IsRelaxedTimetable, IsChoice, AreApart};
+ghost use Rattle.tt_groups.specs.Plans.{Week, week_of};
+ghost use Rattle.tt_prices.specs.Days.{IsPricedPlan, plan_paid};
+ghost use Rattle.tt_prices.specs.Prices.{PricedGroup, concerns, paid, points, working_days_cost, cell_cost, IsGroupBound, IsCourseBound, IsRelaxedTimetable, IsChoice, AreApart};
 ghost use Rattle.tt_prices.specs.Signed.{signed_sum};
 ghost use Rattle.tt_rules.specs.Score.{IsFeasible, cost};
 ghost use Rattle.tt_rules.specs.Soft.{capacity_count, days_cost, stability_count};
@@ -51,4 +53,19 @@ pub fn prices_bound_the_cost()
         pos (scale * b + sum_by (λ r. sum_by (rent r) (all_slots p)) (all_rooms p)) <ℤ
         ((signed_sum (λ g. g.1) groups +ℤ signed_sum least (all_courses p)) +ℤ pos scale) →
         (t : List Cell) → IsFeasible p t → b ≤ cost p t }
+{}
+
+/// The week of a relaxed timetable is a plan. If the courses that the group concerns are the instance's, the plan pays exactly what the group
+/// pays in the timetable.
+pub fn relaxed_timetables_are_priced_plans()
+    ensures plan { (p : Problem) (g : PricedGroup) (t : List Cell) → IsRelaxedTimetable p g t → IsPricedPlan p g (week_of t) }
+    ensures paid { (p : Problem) (scale : ℕ) (g : PricedGroup) (t : List Cell) → IsRelaxedTimetable p g t →
+        ((c : ℕ) → concerns p g c ≡ true → c < length p.courses) → plan_paid p scale g (week_of t) ≡ paid p scale g t }
+{}
+
+/// A plan is the week of some relaxed timetable, in which the group pays exactly what the plan pays, at any scale. The courses that the group
+/// concerns are the instance's.
+pub fn priced_plans_are_relaxed_timetables()
+    ensures { (p : Problem) (g : PricedGroup) (week : Week) → IsPricedPlan p g week → ((c : ℕ) → concerns p g c ≡ true → c < length p.courses) →
+        (t : List Cell) × IsRelaxedTimetable p g t × ((scale : ℕ) → paid p scale g t ≡ plan_paid p scale g week) }
 {}

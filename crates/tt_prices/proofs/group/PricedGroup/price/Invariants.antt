@@ -1,0 +1,8 @@
+use Rattle.std.proofs.Common.{◌≡◌, drop}
+use Rattle.tt_instance.specs.Cells.{slot}
+use Rattle.tt_prices.specs.Rows.{price_in}
+use Rattle.tt_prices.proofs.group.PricedGroup.price.Given as goal
+
+abbrev pub invariant-loop-row : goal.invariant-loop-row
+invariant-loop-row l =
+    price_in l.self.periods l.self.rows.items l.course (slot l.day l.period) ≡ price_in l.self.periods (drop l.row-index l.self.rows.items) l.course (slot l.day l.period)
