@@ -1,0 +1,10 @@
+pub mod Beginning
+pub mod Leading
+pub mod Listing
+pub mod Lowest
+pub mod Reaching
+pub mod Relaxing
+pub mod Spent
+pub mod Stepping
+pub mod Suiting
+pub mod Timetables
