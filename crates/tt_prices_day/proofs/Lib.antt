@@ -1,0 +1,10 @@
+pub mod Caps
+pub mod Ends
+pub mod Growing
+pub mod Kept
+pub mod Layered
+pub mod Listed
+pub mod Places
+pub mod Priced
+pub mod Steps
+pub mod Within

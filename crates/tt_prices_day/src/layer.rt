@@ -1,0 +1,126 @@
+//! The layers of a day: for each key of the first periods, what they pay at least.
+
+ghost use Rattle.std.specs.Prelude.{◌≡◌, ◌⊎◌, ℕ, ◌+◌, ◌*◌, ◌^◌, ◌<◌, ◌≤◌, ◌≤ℤ◌, length, slice_index, Contains, All, OnOk, IfOk, Err};
+ghost use Rattle.tt_groups_day.specs.declared.fault.DaysFault.TheVariants as fault;
+ghost use Rattle.tt_prices_day.specs.Inner.Layers.{IsNext, IsOver, IsNodeWithin, IsLetterWithin, AreFollowed, AreReached, IsEndOf, AreEnded, AreEndsOf};
+ghost use Rattle.tt_prices.specs.Limits.{IsWithin};
+ghost use Rattle.tt_prices_day.specs.declared.letters.Letter.{Letter};
+ghost use Rattle.tt_prices_day.specs.declared.node.Node.{Node};
+
+use crate::cheapest::keep_cheapest;
+use crate::letters::Letter;
+use crate::node::{Key, MAX_SCALE, Node, next_node};
+use crate::rules::Rules;
+use std::alloc::{AllocError, Global};
+use tt_groups_day::DaysFault;
+use tt_instance::ISOLATED_COST;
+
+/// Adds the nodes to which a letter leads.
+fn follow(
+    rules: &Rules,
+    scale: u32,
+    letter: &Letter,
+    nodes: &[Node],
+    next: &mut Vec<Node>,
+) -> Result<(), AllocError>
+    requires scale { scale ≤ MAX_SCALE }
+    requires letter { IsLetterWithin letter.now }
+    requires caps { (i : ℕ) → slice_index rules.now.caps i ≤ 254 }
+    requires paying { (i : ℕ) → slice_index rules.now.paying i ≤ 1 }
+    requires nodes { All (IsNodeWithin (2 ^ 60)) nodes.now }
+    ensures kept { OnOk result ((y : Node) → Contains next.old.items y → Contains next.new.items y) }
+    ensures followed { OnOk result ((x : Node) → Contains nodes.now x → IsOver rules.now letter.now x ⊎
+        ((y : Node) × Contains next.new.items y × IsNext rules.now scale letter.now x y)) }
+    ensures reached { OnOk result ((y : Node) → Contains next.new.items y → Contains next.old.items y ⊎
+        ((x : Node) × Contains nodes.now x × IsNext rules.now scale letter.now x y)) }
+    ensures within { OnOk result ((n : ℕ) → All (IsNodeWithin n) nodes.now → All (IsNodeWithin (n + 2 ^ 31)) next.old.items →
+        All (IsNodeWithin (n + 2 ^ 31)) next.new.items) }
+{
+    for node in nodes {
+        if let Some(found) = next_node(rules, scale, letter, node) {
+            next.push(found)?;
+        }
+    }
+    Ok(())
+}
+
+/// Returns the layer of one period more. The steps that are left go down by 1 with each letter that is tried at a node; if too few are left,
+/// all are used up.
+pub fn next_layer(
+    alloc: Global,
+    rules: &Rules,
+    scale: u32,
+    letters: &[Letter],
+    layer: &[Node],
+    steps: &mut u64,
+) -> Result<Vec<Node>, DaysFault>
+    requires scale { scale ≤ MAX_SCALE }
+    requires letters { All IsLetterWithin letters.now }
+    requires caps { (i : ℕ) → slice_index rules.now.caps i ≤ 254 }
+    requires paying { (i : ℕ) → slice_index rules.now.paying i ≤ 1 }
+    requires layer { All (IsNodeWithin (2 ^ 60)) layer.now }
+    ensures followed { IfOk result (λ v. AreFollowed rules.now scale letters.now layer.now v.items) }
+    ensures reached { IfOk result (λ v. AreReached rules.now scale letters.now layer.now v.items) }
+    ensures within { IfOk result (λ v. (n : ℕ) → All (IsNodeWithin n) layer.now → All (IsNodeWithin (n + 2 ^ 31)) v.items) }
+    ensures used_up { result ≡ Err fault.TooMuchWork → steps.new ≡ 0 }
+{
+    use_up(steps, layer.len() as u64, letters.len() as u64)?;
+    let mut next = Vec::new(alloc);
+    for letter in letters {
+        follow(rules, scale, letter, layer, &mut next)?;
+    }
+    let mut kept = Vec::new(alloc);
+    keep_cheapest(next.as_mut_slice(), &mut kept)?;
+    Ok(kept)
+}
+
+/// Subtracts a step for each pair of a node and a letter.
+fn use_up(steps: &mut u64, nodes: u64, letters: u64) -> Result<(), DaysFault>
+    ensures used_up { result ≡ Err fault.TooMuchWork → steps.new ≡ 0 }
+{
+    match steps.checked_sub(nodes.saturating_mul(letters)) {
+        Some(left) => {
+            *steps = left;
+            Ok(())
+        }
+        None => {
+            *steps = 0;
+            Err(DaysFault::TooMuchWork)
+        }
+    }
+}
+
+/// Returns the layer at the end of a day: the last period's curricula that are still pending are paid for.
+pub fn last_layer(alloc: Global, scale: u32, layer: &[Node]) -> Result<Vec<Node>, AllocError>
+    requires scale { scale ≤ MAX_SCALE }
+    requires layer { All (IsNodeWithin (2 ^ 60)) layer.now }
+    ensures followed { IfOk result (λ v. AreEnded scale layer.now v.items) }
+    ensures reached { IfOk result (λ v. AreEndsOf scale layer.now v.items) }
+    ensures within { IfOk result (λ v. (n : ℕ) → All (IsNodeWithin n) layer.now → All (IsNodeWithin (n + 2 ^ 31)) v.items) }
+{
+    let mut next = Vec::new(alloc);
+    for node in layer {
+        next.push(ended(scale, node))?;
+    }
+    let mut kept = Vec::new(alloc);
+    keep_cheapest(next.as_mut_slice(), &mut kept)?;
+    Ok(kept)
+}
+
+/// Returns the node at the end of the day.
+fn ended(scale: u32, node: &Node) -> Node
+    requires scale { scale ≤ MAX_SCALE }
+    requires node { IsNodeWithin (2 ^ 60) node.now }
+    ensures value { IsEndOf scale node.now result }
+    ensures within { (n : ℕ) → IsNodeWithin n node.now → IsNodeWithin (n + 2 ^ 31) result }
+{
+    let points = ISOLATED_COST * node.key.pending.count_ones();
+    Node {
+        key: Key {
+            counts: node.key.counts,
+            occupied: 0,
+            pending: 0,
+        },
+        paid: node.paid + i64::from(scale * points),
+    }
+}
