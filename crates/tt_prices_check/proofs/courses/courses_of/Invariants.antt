@@ -1,0 +1,9 @@
+use Rattle.std.proofs.Common.{◌≡◌}
+use Rattle.std.specs.Prelude.{filter}
+use Rattle.tt_list_laws.specs.Words.{range_below}
+use Rattle.tt_prices.specs.Prices.{concerns}
+use Rattle.tt_prices.specs.Rows.{group_of}
+use Rattle.tt_prices_check.proofs.courses.courses_of.Given as goal
+
+abbrev pub invariant-loop-course : goal.invariant-loop-course
+invariant-loop-course l = l.courses.items ≡ filter (concerns l.instance (group_of l.group)) (range_below l.course)

@@ -1,0 +1,13 @@
+//! The least that a group with prices pays in a relaxed timetable.
+#![tactic(auto)]
+
+mod courses;
+mod fault;
+mod group;
+mod width;
+mod work;
+
+pub use fault::PricedFault;
+pub use group::least_of_group;
+pub use width::{MAX_GROUP_COURSES, MAX_GROUP_CURRICULA};
+pub use work::{MAX_RELAXATIONS, MAX_STEPS, PricedWork};
