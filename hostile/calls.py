@@ -13,7 +13,7 @@ FAILED = 101
 MAKES_TABLES = {"memory::the_call_trail_path_new"}
 # Calls that have nothing to keep.
 TAKE_NOTHING = {"memory::the_call_find_leaf_for_nothing", "memory::the_call_report"}
-OUT_OF_MEMORY = re.compile(rb"(out of memory|error: (AllocError|OutOfMemory))\nthe test failed: its result gives status 1\n")
+OUT_OF_MEMORY = re.compile(rb"(out of memory|error: (AllocError|OutOfMemory|SumStop { file: [0-9]+, stop: OutOfMemory }))\nthe test failed: its result gives status 1\n")
 
 
 def programs():

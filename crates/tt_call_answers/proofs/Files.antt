@@ -47,4 +47,6 @@ only_memory i s p t fault.PeriodNames both h = absurd h
 only_memory i s p t (fault.Term f) both h = absurd h
 only_memory i s p t (fault.Complete f) both h = absurd h
 only_memory i s p t (fault.Proof f) both h = absurd h
-only_memory i s p t (fault.Sum f) both h = absurd h
+only_memory i s p t (fault.Sum n f) both h = absurd h
+only_memory i s p t fault.ReadFailed both h = absurd h
+only_memory i s p t (fault.ReadFailedIn n) both h = absurd h

@@ -1,23 +1,31 @@
 -- Sums of proofs, as calls report them.
-use Rattle.std.proofs.Common.{ℕ, ◌<◌, ◌^◌, List, refl, ap, subst, inl, inr}
+use Rattle.std.proofs.Common.{ℕ, ◌<◌, ◌^◌, List, refl, subst, inl, inr}
 use Rattle.tt_instance.specs.Problem.{Problem}
 use Rattle.tt_instance.specs.Spelling.{Spells}
 use Rattle.tt_leaf.specs.declared.leaf.Bound.{Bound}
-use Rattle.tt_proof_sum.specs.Faults.{IsSilentSum, all_points}
+use Rattle.tt_stop.specs.Stops.{OnFault}
+use Rattle.tt_stop.specs.declared.stop.Stop.{Stop}
+use Rattle.tt_stop.specs.declared.stop.Stop.TheVariants.{Fault, ReadFailed, OutOfMemory}
+use Rattle.tt_proof_sum.specs.Faults.{IsUnfinished, all_points}
 use Rattle.tt_proof_sum.specs.Sums.{IsSum}
-use Rattle.tt_proof_sum.specs.declared.fault.SumFault.{SumFault}
-use Rattle.tt_proof_sum.specs.declared.fault.SumFault.TheVariants as sum
-use Rattle.tt_call_answers.specs.FaultMaps.{fault_from_sum}
+use Rattle.tt_proof_sum.specs.declared.fault.FileFault.{FileFault}
+use Rattle.tt_proof_sum.specs.declared.fault.FileFault.TheVariants as file
+use Rattle.tt_proof_sum.specs.declared.fault.SumStop.{SumStop}
+use Rattle.tt_call_answers.specs.FaultMaps.{fault_at_file, fault_from_sum}
 use Rattle.tt_call_answers.specs.Refusals.{IsSilentRefusal}
 use Rattle.tt_instance_read.proofs.Laws.{spelled_once}
 
--- a silent error says nothing about the bytes
-pub silent_refusal : (f : SumFault) → IsSilentSum f → IsSilentRefusal (fault_from_sum f)
-silent_refusal (sum.Proof n f) h = inr (inl (n, ap (λ x. fault_from_sum (sum.Proof n x)) h))
-silent_refusal (sum.Groups n f) h = inr (inr (record { file = n; found = f; is = refl; open_claim = h }))
-silent_refusal (sum.ClaimedElsewhere n k e) h = absurd h
-silent_refusal (sum.TooLarge n) h = absurd h
-silent_refusal sum.OutOfMemory h = inl refl
+-- a sum that is stopped or left open says nothing against the bytes
+pub silent_refusal : (s : SumStop) → OnFault s.stop IsUnfinished → IsSilentRefusal (fault_from_sum s)
+silent_refusal s h = on s.file s.stop h
+  where
+    on : (n : ℕ) (x : Stop FileFault) → OnFault x IsUnfinished → IsSilentRefusal (fault_at_file n x)
+    on n (Fault (file.Proof f)) h = absurd h
+    on n (Fault (file.Groups f)) h = inr (inr (record { file = n; found = f; is = refl; open_claim = h }))
+    on n (Fault (file.ClaimedElsewhere k e)) h = absurd h
+    on n (Fault file.TooLarge) h = absurd h
+    on n ReadFailed h = inr (inl (n, refl))
+    on n OutOfMemory h = inl refl
 
 -- a sum for the instance that the bytes spell is a sum for the instance that was read
 pub record SumHere (p : Problem) (proofs : List (List ℕ)) (b : Bound) : Type 0 where

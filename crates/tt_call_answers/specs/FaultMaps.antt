@@ -1,12 +1,13 @@
 -- The report of a layer's error by a call: being out of memory is always the same error.
-use Rattle.std.specs.Prelude.{◌≡◌, ⊤}
+use Rattle.std.specs.Prelude.{ℕ, ⊤}
+use Rattle.tt_stop.specs.declared.stop.Stop.{Stop}
+use Rattle.tt_stop.specs.declared.stop.Stop.TheVariants.{Fault, ReadFailed, OutOfMemory}
 use Rattle.tt_instance_read.specs.declared.fault.InstanceFault.{InstanceFault}
 use Rattle.tt_instance_read.specs.declared.fault.InstanceFault.TheVariants as instance
 use Rattle.tt_table.specs.declared.fault.SolutionFault.{SolutionFault}
 use Rattle.tt_table.specs.declared.fault.SolutionFault.TheVariants as solution
-use Rattle.tt_proof_check.specs.Faults.{OutOfMemoryIsNoTextFault}
+use Rattle.tt_proof_check.specs.Verdicts as checks
 use Rattle.tt_proof_check.specs.declared.fault.CheckFault.{CheckFault}
-use Rattle.tt_proof_check.specs.declared.fault.CheckFault.TheVariants as check
 use Rattle.tt_proof_check.specs.declared.fault.CertifyFault.{CertifyFault}
 use Rattle.tt_proof_check.specs.declared.fault.CertifyFault.TheVariants as certify
 use Rattle.tt_proof_upgrade.specs.declared.fault.UpgradeFault.{UpgradeFault}
@@ -18,12 +19,12 @@ use Rattle.tt_page.specs.declared.fault.PageFault.TheVariants as page
 use Rattle.tt_page_text.specs.declared.fault.LabelsFault.{LabelsFault}
 use Rattle.tt_page_text.specs.declared.fault.LabelsFault.TheVariants as labels
 use Rattle.tt_report.specs.declared.fault.ReportFault.{ReportFault}
-use Rattle.tt_proof_sum.specs.Faults.{OutOfMemoryIsOneFault as OneFaultOfSum}
-use Rattle.tt_proof_sum.specs.declared.fault.SumFault.TheVariants as sum
+use Rattle.tt_proof_sum.specs.Faults as sums
+use Rattle.tt_proof_sum.specs.declared.fault.FileFault.{FileFault}
 use Rattle.tt_report.specs.declared.fault.ReportFault.TheVariants as report
 use Rattle.tt_call_answers.specs.declared.fault.AppFault.{AppFault}
 use Rattle.tt_call_answers.specs.declared.fault.AppFault.TheVariants as fault
-use Rattle.tt_proof_sum.specs.declared.fault.SumFault.{SumFault}
+use Rattle.tt_proof_sum.specs.declared.fault.SumStop.{SumStop}
 
 -- The fault of a call for a fault of the reader of instances.
 abbrev pub fault_from_instance : InstanceFault → AppFault
@@ -35,10 +36,11 @@ abbrev pub fault_from_solution : SolutionFault → AppFault
 fault_from_solution solution.OutOfMemory = fault.OutOfMemory
 fault_from_solution f = fault.Solution f
 
--- The fault of a call for a fault of the check of a proof.
-abbrev pub fault_from_check : CheckFault → AppFault
-fault_from_check check.OutOfMemory = fault.OutOfMemory
-fault_from_check f = fault.Proof f
+-- The fault of a call after the check of a proof was stopped.
+abbrev pub fault_from_check : Stop CheckFault → AppFault
+fault_from_check (Fault f) = fault.Proof f
+fault_from_check ReadFailed = fault.ReadFailed
+fault_from_check OutOfMemory = fault.OutOfMemory
 
 -- The fault of a call for a fault of the writer of reports.
 abbrev pub fault_from_report : ReportFault → AppFault
@@ -51,18 +53,20 @@ fault_from_page page.Write = fault.CannotWrite
 fault_from_page page.TooLarge = fault.PageTooLarge
 fault_from_page page.OutOfMemory = fault.OutOfMemory
 
--- The fault of a call for a fault of the check of an instance, a solution and a proof.
-abbrev pub fault_from_certify : CertifyFault → AppFault
-fault_from_certify (certify.Instance f) = fault_from_instance f
-fault_from_certify (certify.Solution f) = fault_from_solution f
-fault_from_certify (certify.Proof f) = fault_from_check f
-fault_from_certify certify.OutOfMemory = fault.OutOfMemory
+-- The fault of a call after the check of an instance, a solution and a proof was stopped.
+abbrev pub fault_from_certify : Stop CertifyFault → AppFault
+fault_from_certify (Fault (certify.Instance f)) = fault.Instance f
+fault_from_certify (Fault (certify.Solution f)) = fault.Solution f
+fault_from_certify (Fault (certify.Proof f)) = fault.Proof f
+fault_from_certify ReadFailed = fault.ReadFailed
+fault_from_certify OutOfMemory = fault.OutOfMemory
 
--- The fault of a call for a fault of the upgrade of a proof to version 2.
-abbrev pub fault_from_upgrade : UpgradeFault → AppFault
-fault_from_upgrade (upgrade.Proof f) = fault_from_check f
-fault_from_upgrade upgrade.TooLarge = fault.ProofTooLarge
-fault_from_upgrade upgrade.OutOfMemory = fault.OutOfMemory
+-- The fault of a call after the upgrade of a proof to version 2 was stopped.
+abbrev pub fault_from_upgrade : Stop UpgradeFault → AppFault
+fault_from_upgrade (Fault (upgrade.Proof f)) = fault.Proof f
+fault_from_upgrade (Fault upgrade.TooLarge) = fault.ProofTooLarge
+fault_from_upgrade ReadFailed = fault.ReadFailed
+fault_from_upgrade OutOfMemory = fault.OutOfMemory
 
 -- The fault of a call for a fault of the completion of a timetable.
 abbrev pub fault_from_completion : CompleteFault → AppFault
@@ -75,18 +79,23 @@ fault_from_labels labels.Days = fault.DayNames
 fault_from_labels labels.Periods = fault.PeriodNames
 fault_from_labels labels.OutOfMemory = fault.OutOfMemory
 
--- Being out of memory is reported as itself, regardless of its source.
-abbrev pub OutOfMemoryIsOneFault : AppFault → Type 0
-OutOfMemoryIsOneFault (fault.Instance f) = ¬ (f ≡ instance.OutOfMemory)
-OutOfMemoryIsOneFault (fault.Solution f) = ¬ (f ≡ solution.OutOfMemory)
-OutOfMemoryIsOneFault (fault.Proof f) = ¬ (f ≡ check.OutOfMemory) × OutOfMemoryIsNoTextFault f
-OutOfMemoryIsOneFault (fault.Sum f) = ¬ (f ≡ sum.OutOfMemory) × OneFaultOfSum f
-OutOfMemoryIsOneFault _ = ⊤
+-- The fault holds no fault of memory or of a failed read.
+abbrev pub HoldsNoStop : AppFault → Type 0
+HoldsNoStop (fault.Instance f) = checks.HoldsNoStop (certify.Instance f)
+HoldsNoStop (fault.Solution f) = checks.HoldsNoStop (certify.Solution f)
+HoldsNoStop (fault.Proof f) = checks.HoldsNoStop (certify.Proof f)
+HoldsNoStop (fault.Sum n f) = sums.HoldsNoStop f
+HoldsNoStop _ = ⊤
 
--- The fault of a call for a fault of a sum of proofs.
-abbrev pub fault_from_sum : SumFault → AppFault
-fault_from_sum sum.OutOfMemory = fault.OutOfMemory
-fault_from_sum f = fault.Sum f
+-- The fault of a call after the sum was stopped at this file.
+abbrev pub fault_at_file : ℕ → Stop FileFault → AppFault
+fault_at_file n (Fault f) = fault.Sum n f
+fault_at_file n ReadFailed = fault.ReadFailedIn n
+fault_at_file n OutOfMemory = fault.OutOfMemory
+
+-- The fault of a call after a sum of proofs was stopped.
+abbrev pub fault_from_sum : SumStop → AppFault
+fault_from_sum s = fault_at_file s.file s.stop
 
 -- whether the error is a refusal of dates and times
 abbrev pub IsNoTerm : AppFault → Type 0

@@ -6,11 +6,12 @@ use tt_instance_read::InstanceFault;
 use tt_page::PageFault;
 use tt_page_text::LabelsFault;
 use tt_proof_check::{CertifyFault, CheckFault};
-use tt_proof_sum::SumFault;
+use tt_proof_sum::{FileFault, SumStop};
 use tt_proof_upgrade::UpgradeFault;
 use tt_report::ReportFault;
 use tt_report_export::TermFault;
 use tt_search_complete::CompleteFault;
+use tt_stop::Stop;
 use tt_table::SolutionFault;
 
 /// The reason why a call was refused.
@@ -22,8 +23,15 @@ pub enum AppFault {
     Solution(SolutionFault),
     #[error("proof: {0}")]
     Proof(CheckFault),
-    #[error("{0}")]
-    Sum(SumFault),
+    /// The file of a sum with this number, counted from 1, has this fault.
+    #[error("proof {0}: {1}")]
+    Sum(u64, FileFault),
+    /// A read of the proof failed.
+    #[error("proof: Read")]
+    ReadFailed,
+    /// A read of the file of a sum with this number, counted from 1, failed.
+    #[error("proof {0}: Read")]
+    ReadFailedIn(u64),
     #[error("proof too large")]
     ProofTooLarge,
     /// The page would have more than 67,108,864 bytes.
@@ -129,16 +137,17 @@ impl From<SolutionFault> for AppFault {
     }
 }
 
-impl From<CheckFault> for AppFault {
+impl From<Stop<CheckFault>> for AppFault {
     ghost use Rattle.std.specs.Prelude.{◌≡◌};
     ghost use Rattle.tt_call_answers.specs.FaultMaps.{fault_from_check};
 
-    ghost from_gives = { λ f e. e ≡ fault_from_check f };
+    ghost from_gives = { λ s e. e ≡ fault_from_check s };
 
-    fn from(fault: CheckFault) -> AppFault {
-        match fault {
-            CheckFault::OutOfMemory => AppFault::OutOfMemory,
-            fault => AppFault::Proof(fault),
+    fn from(stop: Stop<CheckFault>) -> AppFault {
+        match stop {
+            Stop::Fault(fault) => AppFault::Proof(fault),
+            Stop::ReadFailed => AppFault::ReadFailed,
+            Stop::OutOfMemory => AppFault::OutOfMemory,
         }
     }
 }
@@ -172,47 +181,50 @@ impl From<PageFault> for AppFault {
     }
 }
 
-impl From<CertifyFault> for AppFault {
+impl From<Stop<CertifyFault>> for AppFault {
     ghost use Rattle.std.specs.Prelude.{◌≡◌};
     ghost use Rattle.tt_call_answers.specs.FaultMaps.{fault_from_certify};
 
-    ghost from_gives = { λ f e. e ≡ fault_from_certify f };
+    ghost from_gives = { λ s e. e ≡ fault_from_certify s };
 
-    fn from(fault: CertifyFault) -> AppFault {
-        match fault {
-            CertifyFault::Instance(fault) => fault.into(),
-            CertifyFault::Solution(fault) => fault.into(),
-            CertifyFault::Proof(fault) => fault.into(),
-            CertifyFault::OutOfMemory => AppFault::OutOfMemory,
+    fn from(stop: Stop<CertifyFault>) -> AppFault {
+        match stop {
+            Stop::Fault(CertifyFault::Instance(fault)) => AppFault::Instance(fault),
+            Stop::Fault(CertifyFault::Solution(fault)) => AppFault::Solution(fault),
+            Stop::Fault(CertifyFault::Proof(fault)) => AppFault::Proof(fault),
+            Stop::ReadFailed => AppFault::ReadFailed,
+            Stop::OutOfMemory => AppFault::OutOfMemory,
         }
     }
 }
 
-impl From<UpgradeFault> for AppFault {
+impl From<Stop<UpgradeFault>> for AppFault {
     ghost use Rattle.std.specs.Prelude.{◌≡◌};
     ghost use Rattle.tt_call_answers.specs.FaultMaps.{fault_from_upgrade};
 
-    ghost from_gives = { λ f e. e ≡ fault_from_upgrade f };
+    ghost from_gives = { λ s e. e ≡ fault_from_upgrade s };
 
-    fn from(fault: UpgradeFault) -> AppFault {
-        match fault {
-            UpgradeFault::Proof(fault) => fault.into(),
-            UpgradeFault::TooLarge => AppFault::ProofTooLarge,
-            UpgradeFault::OutOfMemory => AppFault::OutOfMemory,
+    fn from(stop: Stop<UpgradeFault>) -> AppFault {
+        match stop {
+            Stop::Fault(UpgradeFault::Proof(fault)) => AppFault::Proof(fault),
+            Stop::Fault(UpgradeFault::TooLarge) => AppFault::ProofTooLarge,
+            Stop::ReadFailed => AppFault::ReadFailed,
+            Stop::OutOfMemory => AppFault::OutOfMemory,
         }
     }
 }
 
-impl From<SumFault> for AppFault {
+impl From<SumStop> for AppFault {
     ghost use Rattle.std.specs.Prelude.{◌≡◌};
     ghost use Rattle.tt_call_answers.specs.FaultMaps.{fault_from_sum};
 
-    ghost from_gives = { λ f e. e ≡ fault_from_sum f };
+    ghost from_gives = { λ s e. e ≡ fault_from_sum s };
 
-    fn from(fault: SumFault) -> AppFault {
-        match fault {
-            SumFault::OutOfMemory => AppFault::OutOfMemory,
-            fault => AppFault::Sum(fault),
+    fn from(stop: SumStop) -> AppFault {
+        match stop.stop {
+            Stop::Fault(fault) => AppFault::Sum(stop.file, fault),
+            Stop::ReadFailed => AppFault::ReadFailedIn(stop.file),
+            Stop::OutOfMemory => AppFault::OutOfMemory,
         }
     }
 }

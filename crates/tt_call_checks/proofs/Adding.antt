@@ -7,11 +7,13 @@ use Rattle.tt_instance_read.specs.declared.fault.InstanceFault.{InstanceFault}
 use Rattle.tt_instance_read.specs.declared.fault.InstanceFault.TheVariants as instance
 use Rattle.tt_instance_read.proofs.Laws.{is_read}
 use Rattle.tt_leaf.specs.declared.leaf.Bound.{Bound}
-use Rattle.tt_proof_sum.specs.Faults.{IsSumFault}
-use Rattle.tt_proof_sum.specs.declared.fault.SumFault.{SumFault}
-use Rattle.tt_proof_sum.specs.declared.fault.SumFault.TheVariants as sum
+use Rattle.tt_stop.specs.declared.stop.Stop.{Stop}
+use Rattle.tt_stop.specs.declared.stop.Stop.TheVariants.{Fault, ReadFailed, OutOfMemory}
+use Rattle.tt_proof_sum.specs.Faults.{IsSumStop}
+use Rattle.tt_proof_sum.specs.declared.fault.FileFault.{FileFault}
+use Rattle.tt_proof_sum.specs.declared.fault.SumStop.{SumStop}
 use Rattle.tt_call_checks.specs.Summed.{IsSumRefusal, AnswersSum}
-use Rattle.tt_call_answers.specs.FaultMaps.{fault_from_sum, fault_from_instance}
+use Rattle.tt_call_answers.specs.FaultMaps.{fault_at_file, fault_from_sum, fault_from_instance}
 
 -- if the bytes spell an instance, reading it is refused only for being out of memory
 pub spelled_memory : (i : List ℕ) (p : Problem) (f : InstanceFault) (b : Bound) → Spells i p → Fails f (instance_of i)
@@ -25,11 +27,13 @@ spelled_memory i p (instance.Repeated n) b spells h = let e = is_read i p spells
 spelled_memory i p (instance.UnknownCourse n) b spells h = let e = is_read i p spells in absurd cc
 spelled_memory i p (instance.OutOfRange n) b spells h = let e = is_read i p spells in absurd cc
 
--- an error of the proofs is reported
-pub sum_tells : (i : List ℕ) (p : Problem) (gives : List (List ℕ) → Type 0) (f : SumFault) → Spells i p
-    → ((proofs : List (List ℕ)) → gives proofs → IsSumFault p proofs f) → IsSumRefusal i gives (fault_from_sum f)
-sum_tells i p gives (sum.Proof n f) spells h = record { problem = p; spelled = spells; fails = h }
-sum_tells i p gives (sum.Groups n f) spells h = record { problem = p; spelled = spells; fails = h }
-sum_tells i p gives (sum.ClaimedElsewhere n k e) spells h = record { problem = p; spelled = spells; fails = h }
-sum_tells i p gives (sum.TooLarge n) spells h = record { problem = p; spelled = spells; fails = h }
-sum_tells i p gives sum.OutOfMemory spells h = tt
+-- a sum that was stopped is reported
+pub sum_tells : (i : List ℕ) (p : Problem) (gives : List (List ℕ) → Type 0) (s : SumStop) → Spells i p
+    → ((proofs : List (List ℕ)) → gives proofs → IsSumStop p proofs s.file s.stop) → IsSumRefusal i gives (fault_from_sum s)
+sum_tells i p gives s spells h = on s.file s.stop h
+  where
+    on : (n : ℕ) (x : Stop FileFault) → ((proofs : List (List ℕ)) → gives proofs → IsSumStop p proofs n x)
+        → IsSumRefusal i gives (fault_at_file n x)
+    on n (Fault f) h = record { problem = p; spelled = spells; fails = h }
+    on n ReadFailed h = record { problem = p; spelled = spells; fails = h }
+    on n OutOfMemory h = tt

@@ -1,5 +1,5 @@
 -- The answer of `check_sum`, from the results of its steps.
-use Rattle.std.proofs.Common.{◌≡◌, ℕ, ◌+◌, ◌<◌, ◌≤◌, ◌^◌, List, Err, refl, sym, ap, subst, ◌∙◌, inl, inr}
+use Rattle.std.proofs.Common.{◌≡◌, ℕ, ◌+◌, ◌<◌, ◌≤◌, ◌^◌, List, sym, subst, ◌∙◌}
 use Rattle.tt_instance.specs.Problem.{Problem}
 use Rattle.tt_instance.specs.Spelling.{Spells}
 use Rattle.tt_instance.specs.declared.cell.Cell.{Cell}
@@ -11,22 +11,16 @@ use Rattle.tt_leaf.specs.declared.leaf.Bound.TheVariants.{AtLeast}
 use Rattle.tt_proof_check.specs.Derives.{HoldsOfAll}
 use Rattle.tt_proof_check.specs.Headline.{Solves, BoundsAll}
 use Rattle.tt_proof_check.proofs.Files.{one_table}
-use Rattle.tt_proof_sum.specs.Faults.{IsSumFault, IsSilentSum, all_points}
+use Rattle.tt_stop.specs.declared.stop.Stop.{Stop}
+use Rattle.tt_stop.specs.declared.stop.Stop.TheVariants.{Fault, ReadFailed, OutOfMemory}
+use Rattle.tt_proof_sum.specs.Faults.{IsSumStop, all_points}
 use Rattle.tt_proof_sum.specs.Sums.{IsSum}
-use Rattle.tt_proof_sum.specs.declared.fault.SumFault.{SumFault}
-use Rattle.tt_proof_sum.specs.declared.fault.SumFault.TheVariants as sum
+use Rattle.tt_proof_sum.specs.declared.fault.FileFault.{FileFault}
+use Rattle.tt_proof_sum.specs.declared.fault.SumStop.{SumStop}
 use Rattle.tt_call_answers.specs.Sums.{CertifiesSum}
-use Rattle.tt_call_checks.specs.Summed.{IsSumYes, IsSumCheckFault, AnswersSumYes}
-use Rattle.tt_call_answers.specs.FaultMaps.{fault_from_sum}
+use Rattle.tt_call_checks.specs.Summed.{IsSumYes, IsSumCheckFault}
+use Rattle.tt_call_answers.specs.FaultMaps.{fault_at_file, fault_from_sum}
 use Rattle.tt_instance_read.proofs.Laws.{spelled_once}
-
--- a silent error says nothing about the bytes
-pub silent_yes : (f : SumFault) (c b : ℕ) → IsSilentSum f → AnswersSumYes (Err (fault_from_sum f)) c b
-silent_yes (sum.Proof n f) c b h = inr (inl (n, ap (λ x. fault_from_sum (sum.Proof n x)) h))
-silent_yes (sum.Groups n f) c b h = inr (inr (record { file = n; found = f; is = refl; open_claim = h }))
-silent_yes (sum.ClaimedElsewhere n k e) c b h = absurd h
-silent_yes (sum.TooLarge n) c b h = absurd h
-silent_yes sum.OutOfMemory c b h = inl refl
 
 abbrev broken_by : Score → ℕ
 broken_by s = s.lectures + s.conflicts + s.availability + s.room_occupancy
@@ -69,14 +63,16 @@ module _ (i s : List ℕ) (p : Problem) (t : List Cell) (spelled : Spells i p) (
     abbrev solves_here : broken_by score ≡ 0 → Solves i s (costs_of score)
     solves_here e = record { problem = p; table = t; both = both; feasible = feasible_here e; costs = sym (cost_is p t score is) }
 
-    -- an error of the proofs is reported
-    pub sum_fails : (gives : List (List ℕ) → Type 0) (f : SumFault) → broken_by score ≡ 0
-        → ((files : List (List ℕ)) → gives files → IsSumFault p files f) → IsSumCheckFault i s gives (fault_from_sum f)
-    sum_fails gives (sum.Proof n f) e h = record { problem = p; table = t; both = both; feasible = feasible_here e; fails = h }
-    sum_fails gives (sum.Groups n f) e h = record { problem = p; table = t; both = both; feasible = feasible_here e; fails = h }
-    sum_fails gives (sum.ClaimedElsewhere n k x) e h = record { problem = p; table = t; both = both; feasible = feasible_here e; fails = h }
-    sum_fails gives (sum.TooLarge n) e h = record { problem = p; table = t; both = both; feasible = feasible_here e; fails = h }
-    sum_fails gives sum.OutOfMemory e h = tt
+    -- a sum that was stopped is reported
+    pub sum_fails : (gives : List (List ℕ) → Type 0) (x : SumStop) → broken_by score ≡ 0
+        → ((files : List (List ℕ)) → gives files → IsSumStop p files x.file x.stop) → IsSumCheckFault i s gives (fault_from_sum x)
+    sum_fails gives x e h = on x.file x.stop h
+      where
+        on : (n : ℕ) (y : Stop FileFault) → ((files : List (List ℕ)) → gives files → IsSumStop p files n y)
+            → IsSumCheckFault i s gives (fault_at_file n y)
+        on n (Fault f) h = record { problem = p; table = t; both = both; feasible = feasible_here e; fails = h }
+        on n ReadFailed h = record { problem = p; table = t; both = both; feasible = feasible_here e; fails = h }
+        on n OutOfMemory h = tt
 
     pub sum_yes : (gives : List (List ℕ) → Type 0) (b : ℕ) → broken_by score ≡ 0
         → ((files : List (List ℕ)) → gives files → IsSum p files (AtLeast b)) → HoldsOfAll p (AtLeast b)

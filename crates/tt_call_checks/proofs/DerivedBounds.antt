@@ -1,5 +1,5 @@
 -- The answer of `bound`, from the results of its steps.
-use Rattle.std.proofs.Common.{◌≡◌, ℕ, List, Option, Some, None, Err, refl, sym, subst, inl, inr}
+use Rattle.std.proofs.Common.{◌≡◌, ℕ, List, Option, Some, None, Result, Ok, Err, refl, subst, inl, inr}
 use Rattle.std.specs.Prelude.{IfSome}
 use Rattle.tt_instance.specs.Problem.{Problem}
 use Rattle.tt_instance_read.specs.Reading.{instance_of, Fails}
@@ -9,9 +9,11 @@ use Rattle.tt_instance_read.specs.declared.fault.InstanceFault.TheVariants as in
 use Rattle.tt_instance_read.proofs.Laws.{is_read, spelled_once}
 use Rattle.tt_leaf.specs.declared.leaf.Bound.{Bound}
 use Rattle.tt_proof_check.specs.Derives.{HoldsOfAll}
-use Rattle.tt_proof_check.specs.Streams.{IsProved, IsEnvironmental, stream_of, IsProofFault}
+use Rattle.tt_proof_check.specs.Streams.{IsProved, stream_of, IsProofFault}
 use Rattle.tt_proof_check.specs.declared.fault.CheckFault.{CheckFault}
-use Rattle.tt_proof_check.specs.declared.fault.CheckFault.TheVariants as check
+use Rattle.tt_stop.specs.Stops.{OnFault}
+use Rattle.tt_stop.specs.declared.stop.Stop.{Stop}
+use Rattle.tt_stop.specs.declared.stop.Stop.TheVariants.{Fault, ReadFailed, OutOfMemory}
 use Rattle.tt_call_checks.specs.Bounded.{IsBoundAnswer, IsBounded, IsBoundRefusal, AnswersBound}
 use Rattle.tt_call_answers.specs.FaultMaps.{fault_from_instance, fault_from_check}
 use Rattle.tt_call_answers.specs.declared.answer.Answer.{Answer}
@@ -34,20 +36,27 @@ reported None P h = tt
 reported (Some bytes) P h = h bytes refl
 
 -- an error of the proof is reported
-pub proof_tells : (i : List ℕ) (p : Problem) (q : Option (List ℕ)) (f : CheckFault) → Spells i p
-    → ((bytes : List ℕ) → q ≡ Some bytes → IsProofFault p (stream_of bytes) f) → IsBoundRefusal i q (fault_from_check f)
-proof_tells i p q check.OutOfMemory spells h = tt
-proof_tells i p q (check.Text f) spells h =
-    record { problem = p; spelled = spells; fails = reported q (λ bytes. IsProofFault p (stream_of bytes) (check.Text f)) h }
-proof_tells i p q (check.Rule n f) spells h =
-    record { problem = p; spelled = spells; fails = reported q (λ bytes. IsProofFault p (stream_of bytes) (check.Rule n f)) h }
-proof_tells i p q (check.TooDeep n) spells h =
-    record { problem = p; spelled = spells; fails = reported q (λ bytes. IsProofFault p (stream_of bytes) (check.TooDeep n)) h }
+pub proof_tells : (i : List ℕ) (p : Problem) (q : Option (List ℕ)) (s : Stop CheckFault) → Spells i p
+    → OnFault s (λ f. (bytes : List ℕ) → q ≡ Some bytes → IsProofFault p (stream_of bytes) f) → IsBoundRefusal i q (fault_from_check s)
+proof_tells i p q (Fault f) spells h =
+    record { problem = p; spelled = spells; fails = reported q (λ bytes. IsProofFault p (stream_of bytes) f) h }
+proof_tells i p q ReadFailed spells h = (p, spells)
+proof_tells i p q OutOfMemory spells h = tt
 
--- a silent error says nothing about the bytes
-pub silent_bound : (f : CheckFault) (b : Bound) → IsEnvironmental f → AnswersBound (Err (fault_from_check f)) b
-silent_bound f b (inl e) = subst (λ g. AnswersBound (Err (fault_from_check g)) b) (sym e) (inl refl)
-silent_bound f b (inr e) = subst (λ g. AnswersBound (Err (fault_from_check g)) b) (sym e) (inr refl)
+abbrev bound_is : Bound → Result Bound CheckFault
+bound_is b = Ok b
+
+abbrev no_bound : CheckFault → Result Bound CheckFault
+no_bound f = Err f
+
+-- a check that was stopped says nothing about the bytes
+pub silent_bound : (s : Stop CheckFault) (b : Bound) → OnFault s (λ f. no_bound f ≡ Ok b) → AnswersBound (Err (fault_from_check s)) b
+silent_bound (Fault f) b h = absurd cc
+silent_bound ReadFailed b h = inr refl
+silent_bound OutOfMemory b h = inl refl
+
+pub ok_bound : (c b : Bound) → bound_is c ≡ bound_is b → c ≡ b
+ok_bound c b e = cc
 
 -- a bound that is derived on the instance that the bytes spell is derived on the instance that was read
 pub proved_here : (i bytes : List ℕ) (p read : Problem) (b : Bound) → Spells i p → Spells i read → IsProved p bytes b

@@ -1,12 +1,14 @@
 -- The answer of `upgrade`, from the results of its steps.
-use Rattle.std.proofs.Common.{◌≡◌, ℕ, List, Option, Some, Err, refl, sym, subst, inl, inr}
+use Rattle.std.proofs.Common.{◌≡◌, ℕ, List, Option, Some, Err, refl, inl, inr}
 use Rattle.tt_instance.specs.Problem.{Problem}
 use Rattle.tt_instance.specs.Spelling.{Spells}
 use Rattle.tt_leaf.specs.declared.leaf.Bound.{Bound}
 use Rattle.tt_proof_check.specs.Derives.{HoldsOfAll}
 use Rattle.tt_proof_check.specs.Streams.{stream_of}
-use Rattle.tt_proof_check.specs.declared.fault.CheckFault.TheVariants as check
-use Rattle.tt_proof_upgrade.specs.Upgrades.{IsUpgraded, IsEnvironmental, IsUpgradeFault}
+use Rattle.tt_stop.specs.Stops.{OnFault}
+use Rattle.tt_stop.specs.declared.stop.Stop.{Stop}
+use Rattle.tt_stop.specs.declared.stop.Stop.TheVariants.{Fault, ReadFailed, OutOfMemory}
+use Rattle.tt_proof_upgrade.specs.Upgrades.{IsUpgraded, IsUpgradeFault}
 use Rattle.tt_proof_upgrade.specs.declared.fault.UpgradeFault.{UpgradeFault}
 use Rattle.tt_proof_upgrade.specs.declared.fault.UpgradeFault.TheVariants as upgrade
 use Rattle.tt_call_checks.specs.Bounded.{AnswersBound}
@@ -25,15 +27,13 @@ module _ (i : List ℕ) (p : Problem) (q : Option (List ℕ)) (spells : Spells i
   whole : (f : UpgradeFault) → ((bytes : List ℕ) → q ≡ Some bytes → IsUpgradeFault p (stream_of bytes) f) → FailsWhole i q f
   whole f h = record { problem = p; spelled = spells; fails = reported q (λ bytes. IsUpgradeFault p (stream_of bytes) f) h }
 
-  -- an error of the proof is reported
-  pub upgrade_tells : (f : UpgradeFault) → ((bytes : List ℕ) → q ≡ Some bytes → IsUpgradeFault p (stream_of bytes) f)
-      → IsUpgradeRefusal i q (fault_from_upgrade f)
-  upgrade_tells (upgrade.Proof check.OutOfMemory) h = tt
-  upgrade_tells (upgrade.Proof (check.Text f)) h = whole (upgrade.Proof (check.Text f)) h
-  upgrade_tells (upgrade.Proof (check.Rule n f)) h = whole (upgrade.Proof (check.Rule n f)) h
-  upgrade_tells (upgrade.Proof (check.TooDeep n)) h = whole (upgrade.Proof (check.TooDeep n)) h
-  upgrade_tells upgrade.TooLarge h = whole upgrade.TooLarge h
-  upgrade_tells upgrade.OutOfMemory h = tt
+  -- an upgrade that was stopped is reported
+  pub upgrade_tells : (s : Stop UpgradeFault) → OnFault s (λ f. (bytes : List ℕ) → q ≡ Some bytes → IsUpgradeFault p (stream_of bytes) f)
+      → IsUpgradeRefusal i q (fault_from_upgrade s)
+  upgrade_tells (Fault (upgrade.Proof f)) h = whole (upgrade.Proof f) h
+  upgrade_tells (Fault upgrade.TooLarge) h = whole upgrade.TooLarge h
+  upgrade_tells ReadFailed h = (p, spells)
+  upgrade_tells OutOfMemory h = tt
 
   pub rewritten : (a : Answer) (b : Bound) (out : List ℕ) → ((bytes : List ℕ) → q ≡ Some bytes → IsUpgraded p bytes b out)
       → HoldsOfAll p b → IsUpgradeAnswer a b out → IsRewritten i q a
@@ -48,8 +48,10 @@ module _ (i : List ℕ) (p : Problem) (q : Option (List ℕ)) (spells : Spells i
         answer = answer;
       }
 
--- a silent error says nothing against the proof
-pub silent_upgrade : (f : UpgradeFault) (b : Bound) → IsEnvironmental f → AnswersUpgrade (Err (fault_from_upgrade f)) b
-silent_upgrade f b (inl e) = subst (λ g. AnswersUpgrade (Err (fault_from_upgrade g)) b) (sym e) (inl refl)
-silent_upgrade f b (inr (inl e)) = subst (λ g. AnswersUpgrade (Err (fault_from_upgrade g)) b) (sym e) (inr (inl refl))
-silent_upgrade f b (inr (inr e)) = subst (λ g. AnswersUpgrade (Err (fault_from_upgrade g)) b) (sym e) (inr (inr refl))
+-- an upgrade that was stopped, or whose text grew too large, says nothing against the proof
+pub silent_upgrade : (s : Stop UpgradeFault) (b : Bound) → OnFault s (λ f. f ≡ upgrade.TooLarge)
+    → AnswersUpgrade (Err (fault_from_upgrade s)) b
+silent_upgrade (Fault (upgrade.Proof f)) b h = absurd cc
+silent_upgrade (Fault upgrade.TooLarge) b h = inr (inr refl)
+silent_upgrade ReadFailed b h = inr (inl refl)
+silent_upgrade OutOfMemory b h = inl refl

@@ -8,7 +8,6 @@ use Rattle.tt_proof_check.specs.Derives.{HoldsOfAll}
 use Rattle.tt_proof_check.specs.Streams.{IsProved, stream_of, IsProofFault}
 use Rattle.tt_proof_check.specs.declared.fault.CheckFault.{CheckFault}
 use Rattle.tt_call_checks.specs.Checked.{NoFiles}
-use Rattle.tt_call_answers.specs.Refusals.{read_failed}
 use Rattle.tt_call_answers.specs.Lines.{bound_line}
 use Rattle.tt_call_answers.specs.declared.answer.Answer.{Answer}
 use Rattle.tt_call_answers.specs.declared.fault.AppFault.{AppFault}
@@ -35,10 +34,15 @@ pub record FailsAlone (instance : List ℕ) (proof : Option (List ℕ)) (f : Che
   pub spelled : Spells instance problem
   pub fails : IfSome proof (λ bytes. IsProofFault problem (stream_of bytes) f)
 
--- a refusal reports the first error: the instance's, then the proof's
+-- the bytes spell an instance
+abbrev pub IsSpelled : List ℕ → Type 0
+IsSpelled instance = (p : Problem) × Spells instance p
+
+-- a refusal reports the first error: the instance's, then the proof's; the proof is read only if the bytes spell an instance
 abbrev pub IsBoundRefusal : List ℕ → Option (List ℕ) → AppFault → Type 0
 IsBoundRefusal i proof (fault.Instance f) = instance_of i ≡ Err f
 IsBoundRefusal i proof (fault.Proof f) = FailsAlone i proof f
+IsBoundRefusal i proof fault.ReadFailed = IsSpelled i
 IsBoundRefusal i proof fault.OutOfMemory = ⊤
 IsBoundRefusal i proof _ = ⊥
 
@@ -50,4 +54,4 @@ IsOfInstance _ = ⊥
 -- the answer is this bound, unless memory runs out or a read of the proof fails
 abbrev pub AnswersBound : Result Answer AppFault → Bound → Type 0
 AnswersBound (Ok a) b = IsBoundAnswer a b
-AnswersBound (Err f) b = (f ≡ fault.OutOfMemory) ⊎ (f ≡ read_failed)
+AnswersBound (Err f) b = (f ≡ fault.OutOfMemory) ⊎ (f ≡ fault.ReadFailed)

@@ -1,11 +1,11 @@
 -- The answer of `check` for the bytes of an instance, of a solution and of a proof.
 use Rattle.std.specs.Prelude.{◌≡◌, ℕ, ◌+◌, ◌⊎◌, List, Option, None, Result, Ok, Err, ⊤}
+use Rattle.tt_proof_check.specs.Headline.{Solves}
 use Rattle.tt_proof_check.specs.Verdicts.{IsVerdict, IsFirstFault}
 use Rattle.tt_proof_check.specs.declared.fault.CertifyFault.TheVariants as certify
 use Rattle.tt_proof_check.specs.declared.fault.Verdict.{Verdict}
 use Rattle.tt_proof_check.specs.declared.fault.Verdict.TheVariants.{Yes, Breaks}
 use Rattle.tt_call_answers.specs.Lines.{yes_line, broken_line}
-use Rattle.tt_call_answers.specs.Refusals.{read_failed}
 use Rattle.tt_call_answers.specs.declared.answer.Answer.{Answer}
 use Rattle.tt_call_answers.specs.declared.fault.AppFault.{AppFault}
 use Rattle.tt_call_answers.specs.declared.fault.AppFault.TheVariants as fault
@@ -42,11 +42,12 @@ pub record IsChecked (instance solution : List ℕ) (proof : Option (List ℕ)) 
 
 -- ---- refusals
 
--- a refusal reports the first error: the instance's, then the solution's, then the proof's
+-- a refusal reports the first error: the instance's, then the solution's, then the proof's, which is read only if no hard rule is broken
 abbrev pub IsCheckRefusal : List ℕ → List ℕ → Option (List ℕ) → AppFault → Type 0
 IsCheckRefusal i s proof (fault.Instance f) = IsFirstFault i s proof (certify.Instance f)
 IsCheckRefusal i s proof (fault.Solution f) = IsFirstFault i s proof (certify.Solution f)
 IsCheckRefusal i s proof (fault.Proof f) = IsFirstFault i s proof (certify.Proof f)
+IsCheckRefusal i s proof fault.ReadFailed = (c : ℕ) × Solves i s c
 IsCheckRefusal i s proof fault.OutOfMemory = ⊤
 IsCheckRefusal i s proof _ = ⊥
 
@@ -61,7 +62,7 @@ IsFileFault _ = ⊥
 -- the answer is `yes` with c and b, unless memory runs out or a read of the proof fails
 abbrev pub AnswersYes : Result Answer AppFault → ℕ → ℕ → Type 0
 AnswersYes (Ok a) c b = IsYesAnswer a c b
-AnswersYes (Err f) c b = (f ≡ fault.OutOfMemory) ⊎ (f ≡ read_failed)
+AnswersYes (Err f) c b = (f ≡ fault.OutOfMemory) ⊎ (f ≡ fault.ReadFailed)
 
 -- the answer is that a hard rule is broken, unless memory runs out
 abbrev pub AnswersBroken : Result Answer AppFault → Type 0

@@ -10,7 +10,7 @@ use Rattle.tt_proof_upgrade.specs.Texts.{IsReadUpToFailedRead}
 use Rattle.tt_proof_upgrade.specs.Upgrades.{IsUpgraded, IsUpgradeFault}
 use Rattle.tt_proof_upgrade.specs.declared.fault.UpgradeFault.{UpgradeFault}
 use Rattle.tt_proof_upgrade.specs.declared.fault.UpgradeFault.TheVariants as upgrade
-use Rattle.tt_call_answers.specs.Refusals.{read_failed}
+use Rattle.tt_call_checks.specs.Bounded.{IsSpelled}
 use Rattle.tt_call_answers.specs.Lines.{bound_line}
 use Rattle.tt_call_answers.specs.declared.answer.Answer.{Answer}
 use Rattle.tt_call_answers.specs.declared.fault.AppFault.{AppFault}
@@ -44,13 +44,14 @@ abbrev pub IsUpgradeRefusal : List ℕ → Option (List ℕ) → AppFault → Ty
 IsUpgradeRefusal i proof (fault.Instance f) = instance_of i ≡ Err f
 IsUpgradeRefusal i proof (fault.Proof f) = FailsWhole i proof (upgrade.Proof f)
 IsUpgradeRefusal i proof fault.ProofTooLarge = FailsWhole i proof upgrade.TooLarge
+IsUpgradeRefusal i proof fault.ReadFailed = IsSpelled i
 IsUpgradeRefusal i proof fault.OutOfMemory = ⊤
 IsUpgradeRefusal i proof _ = ⊥
 
 -- the answer is this bound, unless memory runs out, a read of the proof fails or its text grows too large
 abbrev pub AnswersUpgrade : Result Answer AppFault → Bound → Type 0
 AnswersUpgrade (Ok a) b = a.out.items ≡ bound_line b
-AnswersUpgrade (Err f) b = (f ≡ fault.OutOfMemory) ⊎ (f ≡ read_failed) ⊎ (f ≡ fault.ProofTooLarge)
+AnswersUpgrade (Err f) b = (f ≡ fault.OutOfMemory) ⊎ (f ≡ fault.ReadFailed) ⊎ (f ≡ fault.ProofTooLarge)
 
 -- A read of the proof failed: the bytes spell an instance, and all the bytes of the proof that the source gave before it have been read for the
 -- instance.

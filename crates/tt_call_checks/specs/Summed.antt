@@ -11,9 +11,11 @@ use Rattle.tt_proof_check.specs.Derives.{HoldsOfAll}
 use Rattle.tt_table.specs.Spelling.{SpellsBoth}
 use Rattle.tt_proof_check.specs.Headline.{Solves, BoundsAll}
 use Rattle.tt_proof_check.specs.Verdicts.{IsBroken, FailsSolution}
-use Rattle.tt_proof_sum.specs.Faults.{IsSumFault}
+use Rattle.tt_stop.specs.declared.stop.Stop.{Stop}
+use Rattle.tt_stop.specs.declared.stop.Stop.TheVariants.{Fault, ReadFailed}
+use Rattle.tt_proof_sum.specs.Faults.{IsSumStop}
 use Rattle.tt_proof_sum.specs.Sums.{IsSum}
-use Rattle.tt_proof_sum.specs.declared.fault.SumFault.{SumFault}
+use Rattle.tt_proof_sum.specs.declared.fault.FileFault.{FileFault}
 use Rattle.tt_call_checks.specs.Bounded.{IsBoundAnswer}
 use Rattle.tt_call_checks.specs.Checked.{IsYesAnswer, IsBrokenAnswer}
 use Rattle.tt_call_answers.specs.Refusals.{IsSilentRefusal}
@@ -33,16 +35,17 @@ pub record IsSummed (instance : List ℕ) (gives : List (List ℕ) → Type 0) (
   pub holds : HoldsOfAll problem bound
   pub answer : IsBoundAnswer a bound
 
--- the bytes spell an instance, and those of the proofs have this error
-pub record FailsSum (instance : List ℕ) (gives : List (List ℕ) → Type 0) (f : SumFault) : Type 0 where
+-- the bytes spell an instance, and the sum of the proofs is stopped at this file
+pub record FailsSum (instance : List ℕ) (gives : List (List ℕ) → Type 0) (n : ℕ) (stop : Stop FileFault) : Type 0 where
   pub problem : Problem
   pub spelled : Spells instance problem
-  pub fails : (proofs : List (List ℕ)) → gives proofs → IsSumFault problem proofs f
+  pub fails : (proofs : List (List ℕ)) → gives proofs → IsSumStop problem proofs n stop
 
 -- a refusal reports the first error: the instance's, then that of the first proof that is refused
 abbrev pub IsSumRefusal : List ℕ → (List (List ℕ) → Type 0) → AppFault → Type 0
 IsSumRefusal i gives (fault.Instance f) = instance_of i ≡ Err f
-IsSumRefusal i gives (fault.Sum f) = FailsSum i gives f
+IsSumRefusal i gives (fault.Sum n f) = FailsSum i gives n (Fault f)
+IsSumRefusal i gives (fault.ReadFailedIn n) = FailsSum i gives n ReadFailed
 IsSumRefusal i gives fault.OutOfMemory = ⊤
 IsSumRefusal i gives _ = ⊥
 
@@ -77,19 +80,20 @@ pub record IsBrokenOfSum (instance solution : List ℕ) (a : Answer) : Type 0 wh
 abbrev pub IsSumChecked : List ℕ → List ℕ → (List (List ℕ) → Type 0) → Answer → Type 0
 IsSumChecked i s gives a = IsYesOfSum i s gives a ⊎ IsBrokenOfSum i s a
 
--- the solution breaks no hard rule, and the proofs have this error
-pub record FailsSumOfBoth (instance solution : List ℕ) (gives : List (List ℕ) → Type 0) (f : SumFault) : Type 0 where
+-- the solution breaks no hard rule, and the sum of the proofs is stopped at this file
+pub record FailsSumOfBoth (instance solution : List ℕ) (gives : List (List ℕ) → Type 0) (n : ℕ) (stop : Stop FileFault) : Type 0 where
   pub problem : Problem
   pub table : List Cell
   pub both : SpellsBoth instance solution problem table
   pub feasible : IsFeasible problem table
-  pub fails : (proofs : List (List ℕ)) → gives proofs → IsSumFault problem proofs f
+  pub fails : (proofs : List (List ℕ)) → gives proofs → IsSumStop problem proofs n stop
 
 -- a refusal reports the first error: the instance's, then the solution's, then that of the first proof that is refused
 abbrev pub IsSumCheckFault : List ℕ → List ℕ → (List (List ℕ) → Type 0) → AppFault → Type 0
 IsSumCheckFault i s gives (fault.Instance f) = instance_of i ≡ Err f
 IsSumCheckFault i s gives (fault.Solution f) = FailsSolution i s f
-IsSumCheckFault i s gives (fault.Sum f) = FailsSumOfBoth i s gives f
+IsSumCheckFault i s gives (fault.Sum n f) = FailsSumOfBoth i s gives n (Fault f)
+IsSumCheckFault i s gives (fault.ReadFailedIn n) = FailsSumOfBoth i s gives n ReadFailed
 IsSumCheckFault i s gives fault.OutOfMemory = ⊤
 IsSumCheckFault i s gives _ = ⊥
 

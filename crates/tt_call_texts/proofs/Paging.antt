@@ -17,11 +17,13 @@ use Rattle.tt_page_text.specs.declared.fault.LabelsFault.{LabelsFault}
 use Rattle.tt_page_text.specs.declared.fault.LabelsFault.TheVariants as labels
 use Rattle.tt_proof_check.specs.Derives.{HoldsOfAll}
 use Rattle.tt_proof_check.proofs.Files.{one_table}
-use Rattle.tt_proof_sum.specs.Faults.{IsSumFault}
+use Rattle.tt_stop.specs.declared.stop.Stop.{Stop}
+use Rattle.tt_stop.specs.declared.stop.Stop.TheVariants.{Fault, ReadFailed, OutOfMemory}
+use Rattle.tt_proof_sum.specs.Faults.{IsSumStop}
 use Rattle.tt_proof_sum.specs.Sums.{IsSum}
-use Rattle.tt_proof_sum.specs.declared.fault.SumFault.{SumFault}
-use Rattle.tt_proof_sum.specs.declared.fault.SumFault.TheVariants as sum
-use Rattle.tt_call_answers.specs.FaultMaps.{fault_from_labels, fault_from_page, fault_from_sum}
+use Rattle.tt_proof_sum.specs.declared.fault.FileFault.{FileFault}
+use Rattle.tt_proof_sum.specs.declared.fault.SumStop.{SumStop}
+use Rattle.tt_call_answers.specs.FaultMaps.{fault_from_labels, fault_from_page, fault_at_file, fault_from_sum}
 use Rattle.tt_call_texts.specs.Paged.{labels_for, IsNotPut, IsPageRefusal, IsProvedPageRefusal}
 use Rattle.tt_call_texts.specs.declared.calls.page.PageNames.{PageNames}
 use Rattle.tt_call_answers.specs.declared.fault.AppFault.{AppFault}
@@ -70,20 +72,18 @@ module _ (i s : List ℕ) (p : Problem) (t : List Cell) (names : PageNames) (spe
   names_tell_proved style gives before after labels.Periods h = record { problem = p; table = t; both = both; fails = h }
   names_tell_proved style gives before after labels.OutOfMemory h = tt
 
-  -- an error of the proofs is reported
-  pub sum_tells_page : (style : List ℕ) (l : Labelled) (gives : List (List ℕ) → Type 0) (before after : Option (List ℕ)) (f : SumFault)
+  -- a sum that was stopped is reported
+  pub sum_tells_page : (style : List ℕ) (l : Labelled) (gives : List (List ℕ) → Type 0) (before after : Option (List ℕ)) (x : SumStop)
       → labels_for p names ≡ Ok l
-      → ((proofs : List (List ℕ)) → gives proofs → IsSumFault p proofs f) → IsProvedPageRefusal i s names style gives before after
-      (fault_from_sum f)
-  sum_tells_page style l gives before after (sum.Proof n f) named h =
-      record { problem = p; table = t; labels = l; both = both; named = named; fails = h }
-  sum_tells_page style l gives before after (sum.Groups n f) named h =
-      record { problem = p; table = t; labels = l; both = both; named = named; fails = h }
-  sum_tells_page style l gives before after (sum.ClaimedElsewhere n k e) named h =
-      record { problem = p; table = t; labels = l; both = both; named = named; fails = h }
-  sum_tells_page style l gives before after (sum.TooLarge n) named h =
-      record { problem = p; table = t; labels = l; both = both; named = named; fails = h }
-  sum_tells_page style l gives before after sum.OutOfMemory named h = tt
+      → ((proofs : List (List ℕ)) → gives proofs → IsSumStop p proofs x.file x.stop)
+      → IsProvedPageRefusal i s names style gives before after (fault_from_sum x)
+  sum_tells_page style l gives before after x named h = on x.file x.stop h
+    where
+      on : (n : ℕ) (y : Stop FileFault) → ((proofs : List (List ℕ)) → gives proofs → IsSumStop p proofs n y)
+          → IsProvedPageRefusal i s names style gives before after (fault_at_file n y)
+      on n (Fault f) h = record { problem = p; table = t; labels = l; both = both; named = named; fails = h }
+      on n ReadFailed h = record { problem = p; table = t; labels = l; both = both; named = named; fails = h }
+      on n OutOfMemory h = tt
 
   -- an error of the page's output is reported
   pub plain_page_tells : (style : List ℕ) (l : Labelled) (before after : Option (List ℕ)) (f : PageFault) → labels_for p names ≡ Ok l

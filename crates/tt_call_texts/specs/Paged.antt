@@ -15,9 +15,11 @@ use Rattle.tt_page_text.specs.declared.fault.LabelsFault.{LabelsFault}
 use Rattle.tt_page_text.specs.declared.fault.LabelsFault.TheVariants as labels
 use Rattle.tt_proof_check.specs.Derives.{HoldsOfAll}
 use Rattle.tt_proof_check.specs.Verdicts.{FailsSolution}
-use Rattle.tt_proof_sum.specs.Faults.{IsSumFault}
+use Rattle.tt_stop.specs.declared.stop.Stop.{Stop}
+use Rattle.tt_stop.specs.declared.stop.Stop.TheVariants.{Fault, ReadFailed}
+use Rattle.tt_proof_sum.specs.Faults.{IsSumStop}
 use Rattle.tt_proof_sum.specs.Sums.{IsSum}
-use Rattle.tt_proof_sum.specs.declared.fault.SumFault.{SumFault}
+use Rattle.tt_proof_sum.specs.declared.fault.FileFault.{FileFault}
 use Rattle.tt_text.specs.Sinks.{TakesPart}
 use Rattle.tt_table.specs.Spelling.{SpellsBoth}
 use Rattle.tt_call_answers.specs.Refusals.{IsSilentRefusal}
@@ -116,14 +118,14 @@ pub record IsProvedPageTooLarge (instance solution : List ℕ) (names : PageName
   pub sum : (proofs : List (List ℕ)) → gives proofs → IsSum paged.problem proofs bound
   pub holds : HoldsOfAll paged.problem bound
 
--- the files are spelled and the names fit, and the proofs have this error
-pub record FailsSumOfPage (instance solution : List ℕ) (names : PageNames) (gives : List (List ℕ) → Type 0) (f : SumFault) : Type 0 where
+-- the files are spelled and the names fit, and the sum of the proofs is stopped at this file
+pub record FailsSumOfPage (instance solution : List ℕ) (names : PageNames) (gives : List (List ℕ) → Type 0) (n : ℕ) (stop : Stop FileFault) : Type 0 where
   pub problem : Problem
   pub table : List Cell
   pub labels : Labelled
   pub both : SpellsBoth instance solution problem table
   pub named : labels_for problem names ≡ Ok labels
-  pub fails : (proofs : List (List ℕ)) → gives proofs → IsSumFault problem proofs f
+  pub fails : (proofs : List (List ℕ)) → gives proofs → IsSumStop problem proofs n stop
 
 -- a refusal reports the first error: the instance's, then the solution's, then the names', then that of the first proof that is refused, then
 -- that the page is too large, then that of a write
@@ -132,7 +134,8 @@ IsProvedPageRefusal instance solution names style gives before after (fault.Inst
 IsProvedPageRefusal instance solution names style gives before after (fault.Solution f) = FailsSolution instance solution f
 IsProvedPageRefusal instance solution names style gives before after fault.DayNames = FailsNames instance solution names labels.Days
 IsProvedPageRefusal instance solution names style gives before after fault.PeriodNames = FailsNames instance solution names labels.Periods
-IsProvedPageRefusal instance solution names style gives before after (fault.Sum f) = FailsSumOfPage instance solution names gives f
+IsProvedPageRefusal instance solution names style gives before after (fault.Sum n f) = FailsSumOfPage instance solution names gives n (Fault f)
+IsProvedPageRefusal instance solution names style gives before after (fault.ReadFailedIn n) = FailsSumOfPage instance solution names gives n ReadFailed
 IsProvedPageRefusal instance solution names style gives before after fault.OutOfMemory = ⊤
 IsProvedPageRefusal instance solution names style gives before after fault.PageTooLarge = IsProvedPageTooLarge instance solution names style gives
 IsProvedPageRefusal instance solution names style gives before after fault.CannotWrite = IsProvedPagedPartly instance solution names style gives before after

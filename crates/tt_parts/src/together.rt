@@ -8,7 +8,8 @@ ghost use Rattle.tt_parts.specs.Found.{texts_of};
 use std::alloc::{AllocError, Global};
 use tt_instance::Instance;
 use tt_leaf::Bound;
-use tt_proof_sum::{SumFault, sum_proofs};
+use tt_proof_sum::{SumStop, sum_proofs};
+use tt_stop::Stop;
 use tt_text::Pieces;
 use tt_text_peek::Peeked;
 
@@ -42,7 +43,12 @@ pub fn sum_of(
     }
     match sum_proofs(alloc, instance, sources.as_mut_slice()) {
         Ok(bound) => Ok(Some(bound)),
-        Err(SumFault::OutOfMemory) => Err(AllocError),
+        Err(
+            SumStop {
+                stop: Stop::OutOfMemory,
+                ..
+            },
+        ) => Err(AllocError),
         Err(_) => Ok(None),
     }
 }

@@ -1,9 +1,14 @@
 -- The result of `certify`, from the results of its steps.
-use Rattle.std.proofs.Common.{◌≡◌, ℕ, zero, suc, ◌+◌, ◌<◌, ◌≤◌, Bool, true, false, if◌then◌else◌, List, Option, Some, None, Result, Ok, Err, IfOk, refl, sym, ap, subst, ◌∙◌, arith, inl, inr}
-use Rattle.std.specs.Prelude.{IfSome, ◌↔◌, IsTrue, ◌⊎◌}
-use Rattle.tt_text.specs.declared.feed.FeedFault.TheVariants as feed
+use Rattle.std.proofs.Common.{◌≡◌, ℕ, zero, suc, ◌+◌, ◌<◌, ◌≤◌, Bool, true, false, List, Option, Some, None, Result, Ok, Err, IfOk, refl, sym, ap, subst, ◌∙◌, arith}
+use Rattle.std.specs.Prelude.{IfSome, ◌↔◌, IsTrue}
+use Rattle.tt_stop.proofs.Stops.{OnFault-weaker, OnFault-each, at_mapped}
+use Rattle.tt_stop.specs.Stops.{OnFault, is_failed_read}
+use Rattle.tt_stop.specs.declared.stop.Stop.{Stop}
+use Rattle.tt_stop.specs.declared.stop.Stop.TheVariants.{Fault, ReadFailed, OutOfMemory}
 use Rattle.tt_instance.specs.Problem.{Problem}
 use Rattle.tt_instance.specs.Spelling.{Spells}
+use Rattle.tt_instance_read.specs.Reading.{instance_of, Fails as FailsInstance}
+use Rattle.tt_table.specs.Reading.{solution_of, Fails as FailsSolutionText}
 use Rattle.tt_instance.specs.declared.cell.Cell.{Cell}
 use Rattle.tt_instance_read.specs.declared.fault.InstanceFault.{InstanceFault}
 use Rattle.tt_instance_read.specs.declared.fault.InstanceFault.TheVariants as instance
@@ -13,33 +18,45 @@ use Rattle.tt_table.specs.declared.fault.SolutionFault.TheVariants as solution
 use Rattle.tt_rules.specs.Score.{IsScore, IsFeasible, hard, cost}
 use Rattle.tt_rules.specs.declared.counts.Score.{Score}
 use Rattle.tt_rules.proofs.Scores.{hard_is, cost_is, feasible_is}
+use Rattle.tt_leaf.specs.declared.leaf.Bound.{Bound}
 use Rattle.tt_leaf.specs.declared.leaf.Bound.TheVariants.{AtLeast}
-use Rattle.tt_proof_read.specs.declared.fault.TextFault.TheVariants as text
 use Rattle.tt_proof_check.specs.Derives.{HoldsOfAll}
 use Rattle.tt_proof_check.specs.Faults as checks
-use Rattle.tt_proof_check.specs.Faults.{OutOfMemoryIsNoTextFault}
 use Rattle.tt_proof_check.specs.Headline.{Solves, BreaksARule, Certifies, BoundsAll}
-use Rattle.tt_proof_check.specs.Streams.{IsProved, IsEnvironmental, stream_of, IsProofFault}
-use Rattle.tt_proof_check.specs.Verdicts.{IsYes, IsBroken, IsVerdict, IsFirstFault, IsFileFault, AnswersYes, AnswersBroken, GivesBound, IsBoundFault, OutOfMemoryIsOneFault, fault_from_instance, fault_from_solution, fault_from_check, read_failed, is_failed_read}
+use Rattle.tt_proof_check.specs.Streams.{IsProved, stream_of, IsProofFault}
+use Rattle.tt_proof_check.specs.Verdicts.{IsYes, IsBroken, IsVerdict, FailsProof, IsFirstFault, IsFileFault, HoldsNoStop, stop_from_instance, stop_from_solution, stop_from_check}
 use Rattle.tt_proof_check.specs.declared.fault.CheckFault.{CheckFault}
-use Rattle.tt_proof_check.specs.declared.fault.CheckFault.TheVariants as check
 use Rattle.tt_proof_check.specs.declared.fault.Verdict.{Verdict}
 use Rattle.tt_proof_check.specs.declared.fault.Verdict.TheVariants.{Yes, Breaks}
 use Rattle.tt_proof_check.specs.declared.fault.CertifyFault.{CertifyFault}
 use Rattle.tt_proof_check.specs.declared.fault.CertifyFault.TheVariants as fault
-use Rattle.tt_proof_check.proofs.Files.{FailsFiles, one_table, only_memory}
+use Rattle.tt_proof_check.proofs.Files.{FailsFiles, one_table, tells_instance, tells_solution, files_faultless}
 use Rattle.tt_instance_read.proofs.Laws.{spelled_once}
 
--- ---- before the score is known
+-- the result that a fault is, and the verdict `Yes`
+abbrev refused : CertifyFault → Result Verdict CertifyFault
+refused f = Err f
 
--- files that are certified are refused only for being out of memory
-pub certified_memory : (i s bytes : List ℕ) (c b : ℕ) (f : CertifyFault) → Certifies i s bytes c b → FailsFiles i s f
-    → AnswersYes (Err f) c b
-certified_memory i s bytes c b f h explains = inl (only_memory i s h.solves.problem h.solves.table f h.solves.both explains)
+abbrev yes_with : ℕ → ℕ → Result Verdict CertifyFault
+yes_with c b = Ok (Yes c b)
 
--- files of a timetable that breaks a hard rule are refused only for being out of memory
-pub broken_memory : (i s : List ℕ) (f : CertifyFault) → BreaksARule i s → FailsFiles i s f → AnswersBroken (Err f)
-broken_memory i s f k explains = only_memory i s k.problem k.table f k.both explains
+abbrev verdict : Verdict → Result Verdict CertifyFault
+verdict v = Ok v
+
+-- the verdict is `Yes` with c and b
+abbrev pub yes_is : Verdict → ℕ → ℕ → Type 0
+yes_is (Yes n m) c b = (n ≡ c) × (m ≡ b)
+yes_is (Breaks score) c b = ⊥
+
+abbrev ok_value : ℕ → Result ℕ CheckFault
+ok_value n = Ok n
+
+abbrev err_bound : CheckFault → Result ℕ CheckFault
+err_bound f = Err f
+
+-- the bound that was given is the only one
+pub ok_bound : (c b : ℕ) → ok_value c ≡ ok_value b → c ≡ b
+ok_bound c b e = cc
 
 -- a test for no points
 pub points : (b : Bool) (n : ℕ) → (IsTrue b ↔ (n ≡ 0)) → b ≡ false → n ≡ 0 → ⊥
@@ -48,66 +65,103 @@ points b n both broken e = let feasible : IsTrue b = both.1 e in absurd cc
 pub no_points : (b : Bool) (n : ℕ) → (IsTrue b ↔ (n ≡ 0)) → b ≡ true → n ≡ 0
 no_points b n both feasible = both.0 feasible
 
--- ---- the proof's bound
+-- a check that is stopped gives no bound of either form
+abbrev no_bound : CheckFault → Result Bound CheckFault
+no_bound f = Err f
 
--- an error of the check is reported as an error of the proof
-pub check_reported : (p : Problem) (bytes : List ℕ) (f : CheckFault) → IsProofFault p (stream_of bytes) f
-    → IsBoundFault p bytes (fault_from_check f)
-check_reported p bytes check.OutOfMemory h = tt
-check_reported p bytes (check.Text f) h = h
-check_reported p bytes (check.Rule n f) h = h
-check_reported p bytes (check.TooDeep n) h = h
+pub only_bound : (s : Stop CheckFault) (b : ℕ) → OnFault s (λ f. no_bound f ≡ Ok (AtLeast b)) → OnFault s (λ f. err_bound f ≡ Ok b)
+only_bound (Fault f) b h = absurd cc
+only_bound ReadFailed b h = tt
+only_bound OutOfMemory b h = tt
 
--- a silent error says nothing about the bytes
-pub silent_reported : (f : CheckFault) (b : ℕ) → IsEnvironmental f → GivesBound (Err (fault_from_check f)) b
-silent_reported f b (inl e) = subst (λ g. GivesBound (Err (fault_from_check g)) b) (sym e) (inl refl)
-silent_reported f b (inr e) = subst (λ g. GivesBound (Err (fault_from_check g)) b) (sym e) (inr refl)
+-- ---- before the score is known: the instance or the solution was refused
 
--- an error of the proof is not an error of the instance or the solution
-pub bound_not_files : (f : CheckFault) → IsFileFault (fault_from_check f) → ⊥
-bound_not_files check.OutOfMemory of = of
-bound_not_files (check.Text f) of = of
-bound_not_files (check.Rule n f) of = of
-bound_not_files (check.TooDeep n) of = of
+pub instance_told : (i s : List ℕ) (f : InstanceFault) (x : Stop CertifyFault) → x ≡ stop_from_instance f → FailsInstance f (instance_of i)
+    → OnFault x (FailsFiles i s)
+instance_told i s f x e h = subst (λ (y : Stop CertifyFault). OnFault y (FailsFiles i s)) (sym e) (tells_instance i s f h)
 
--- being out of memory is reported as itself
-pub memory_instance : (f : InstanceFault) → OutOfMemoryIsOneFault (fault_from_instance f)
-memory_instance instance.OutOfMemory = tt
-memory_instance f = λ e. cc
+pub solution_told : (i s : List ℕ) (p : Problem) (f : SolutionFault) (x : Stop CertifyFault) → x ≡ stop_from_solution f → Spells i p
+    → FailsSolutionText f (solution_of p s) → OnFault x (FailsFiles i s)
+solution_told i s p f x e spelled h =
+    subst (λ (y : Stop CertifyFault). OnFault y (FailsFiles i s)) (sym e) (tells_solution i s p f spelled h)
 
-pub memory_solution : (f : SolutionFault) → OutOfMemoryIsOneFault (fault_from_solution f)
-memory_solution solution.OutOfMemory = tt
-memory_solution f = λ e. cc
+-- a fault of the files is the first one
+pub files_first : (i s : List ℕ) (q : Option (List ℕ)) (x : Stop CertifyFault) → OnFault x (FailsFiles i s) → OnFault x (IsFirstFault i s q)
+files_first i s q (Fault (fault.Instance f)) h = h
+files_first i s q (Fault (fault.Solution f)) h = h
+files_first i s q (Fault (fault.Proof f)) h = absurd h
+files_first i s q ReadFailed h = tt
+files_first i s q OutOfMemory h = tt
 
-pub memory_check : (f : CheckFault) → OutOfMemoryIsNoTextFault f → OutOfMemoryIsOneFault (fault_from_check f)
-memory_check check.OutOfMemory h = tt
-memory_check (check.Text f) h = (λ e. cc, h)
-memory_check (check.Rule n f) h = (λ e. cc, h)
-memory_check (check.TooDeep n) h = (λ e. cc, h)
+-- files that are refused aren't certified
+pub files_exactly : (i s bytes : List ℕ) (c b : ℕ) (x : Stop CertifyFault) → OnFault x (FailsFiles i s)
+    → OnFault x (λ f. (refused f ≡ yes_with c b) ↔ Certifies i s bytes c b)
+files_exactly i s bytes c b (Fault f) h =
+    (λ e. absurd cc, λ k. absurd (files_faultless i s k.solves.problem k.solves.table f k.solves.both h))
+files_exactly i s bytes c b ReadFailed h = tt
+files_exactly i s bytes c b OutOfMemory h = tt
 
--- only a failed read is reported as one
-pub read_checked : (f : CheckFault) → fault_from_check f ≡ read_failed → f ≡ check.Text (text.Feed feed.Read)
-read_checked check.OutOfMemory e = cc
-read_checked (check.Text f) e = cc
-read_checked (check.Rule n f) e = cc
-read_checked (check.TooDeep n) e = cc
+-- files of a timetable that breaks a hard rule are refused only if memory runs out
+pub instance_broken : (i s : List ℕ) (f : InstanceFault) (x : Stop CertifyFault) → x ≡ stop_from_instance f
+    → FailsInstance f (instance_of i) → BreaksARule i s → x ≡ OutOfMemory
+instance_broken i s instance.OutOfMemory x e h k = e
+instance_broken i s f x e h k = absurd (files_faultless i s k.problem k.table (fault.Instance f) k.both h)
 
--- whether a read has failed after an error of the check, said of the error that it becomes
-pub check_reads : (f : CheckFault) (before after : Bool) → after ≡ (if checks.is_failed_read f then true else before)
-    → after ≡ (if is_failed_read (fault_from_check f) then true else before)
-check_reads check.OutOfMemory before after h = h
-check_reads (check.Text f) before after h = h
-check_reads (check.Rule n f) before after h = h
-check_reads (check.TooDeep n) before after h = h
+pub solution_broken : (i s : List ℕ) (p : Problem) (f : SolutionFault) (x : Stop CertifyFault) → x ≡ stop_from_solution f → Spells i p
+    → FailsSolutionText f (solution_of p s) → BreaksARule i s → x ≡ OutOfMemory
+solution_broken i s p solution.OutOfMemory x e spelled h k = e
+solution_broken i s p f x e spelled h k =
+    absurd (files_faultless i s k.problem k.table (fault.Solution f) k.both (record { problem = p; spelled = spelled; fails = h }))
 
--- an error of the instance or of the solution is no failed read
-pub instance_reads : (f : InstanceFault) (before : Bool) → before ≡ (if is_failed_read (fault_from_instance f) then true else before)
-instance_reads instance.OutOfMemory before = refl
-instance_reads f before = refl
+-- their faults hold none of memory
+lower_instance : (f : InstanceFault) → OnFault (stop_from_instance f) HoldsNoStop
+lower_instance instance.OutOfMemory = tt
+lower_instance f = refl
 
-pub solution_reads : (f : SolutionFault) (before : Bool) → before ≡ (if is_failed_read (fault_from_solution f) then true else before)
-solution_reads solution.OutOfMemory before = refl
-solution_reads f before = refl
+lower_solution : (f : SolutionFault) → OnFault (stop_from_solution f) HoldsNoStop
+lower_solution solution.OutOfMemory = tt
+lower_solution f = refl
+
+pub instance_lower : (f : InstanceFault) (x : Stop CertifyFault) → x ≡ stop_from_instance f → OnFault x HoldsNoStop
+instance_lower f x e = subst (λ (y : Stop CertifyFault). OnFault y HoldsNoStop) (sym e) (lower_instance f)
+
+pub solution_lower : (f : SolutionFault) (x : Stop CertifyFault) → x ≡ stop_from_solution f → OnFault x HoldsNoStop
+solution_lower f x e = subst (λ (y : Stop CertifyFault). OnFault y HoldsNoStop) (sym e) (lower_solution f)
+
+-- no read is reported
+reads_instance : (f : InstanceFault) → is_failed_read (stop_from_instance f) ≡ false
+reads_instance instance.OutOfMemory = refl
+reads_instance f = refl
+
+reads_solution : (f : SolutionFault) → is_failed_read (stop_from_solution f) ≡ false
+reads_solution solution.OutOfMemory = refl
+reads_solution f = refl
+
+pub instance_reads : (f : InstanceFault) (x : Stop CertifyFault) → x ≡ stop_from_instance f → is_failed_read x ≡ false
+instance_reads f x e = ap (λ (y : Stop CertifyFault). is_failed_read y) e ∙ reads_instance f
+
+pub solution_reads : (f : SolutionFault) (x : Stop CertifyFault) → x ≡ stop_from_solution f → is_failed_read x ≡ false
+solution_reads f x e = ap (λ (y : Stop CertifyFault). is_failed_read y) e ∙ reads_solution f
+
+-- ---- the check of the proof was stopped
+
+module _ (s : Stop CheckFault) (x : Stop CertifyFault) (is : x ≡ stop_from_check s) where
+  pub check_lower : OnFault s checks.HoldsNoStop → OnFault x HoldsNoStop
+  check_lower h = at_mapped fault.Proof s x is HoldsNoStop h
+
+  -- it isn't a fault of the instance or of the solution
+  pub check_file : (Z : Type 0) → OnFault x (λ f. IsFileFault f → Z)
+  check_file Z = at_mapped fault.Proof s x is (λ f. IsFileFault f → Z) (OnFault-each s _ (λ f of. absurd of))
+
+  -- a proof that is refused certifies nothing
+  pub check_exactly : (c b : ℕ) (Z : Type 0) → (Z → OnFault s (λ f. err_bound f ≡ Ok b)) → OnFault x (λ f. (refused f ≡ yes_with c b) ↔ Z)
+  check_exactly c b Z h = at_mapped fault.Proof s x is (λ f. (refused f ≡ yes_with c b) ↔ Z) (on s h)
+    where
+      on : (s : Stop CheckFault) → (Z → OnFault s (λ f. err_bound f ≡ Ok b))
+          → OnFault s (λ f. (refused (fault.Proof f) ≡ yes_with c b) ↔ Z)
+      on (Fault f) h = (λ e. absurd cc, λ z. absurd (let e = h z in cc))
+      on ReadFailed h = tt
+      on OutOfMemory h = tt
 
 abbrev broken_by : Score → ℕ
 broken_by s = s.lectures + s.conflicts + s.availability + s.room_occupancy
@@ -122,7 +176,7 @@ record Certified (p : Problem) (t : List Cell) (bytes : List ℕ) (c b : ℕ) : 
   proved : IsProved p bytes (AtLeast b)
 
 module _ (i s : List ℕ) (p : Problem) (t : List Cell) (spelled : Spells i p) (solved : SpellsTable p s t) where
-  both : SpellsBoth i s p t
+  pub both : SpellsBoth i s p t
   both = record { spelled = spelled; solved = solved }
 
   at_table : (P : List Cell → Type 0) (u : List Cell) → SpellsTable p s u → P u → P t
@@ -173,18 +227,18 @@ module _ (i s : List ℕ) (p : Problem) (t : List Cell) (spelled : Spells i p) (
     pub not_broken : broken_by score ≡ 0 → BreaksARule i s → ⊥
     not_broken e k = omega (arith, e, hard_is p t score is, broken_here k)
 
-    -- an error of the proof is the first error
-    pub bound_tells : (q : Option (List ℕ)) (f : CertifyFault) → broken_by score ≡ 0 → (IsFileFault f → ⊥)
-        → ((bytes : List ℕ) → q ≡ Some bytes → IsBoundFault p bytes f) → IsFirstFault i s q f
-    bound_tells q (fault.Proof f) e own h = record { problem = p; table = t; both = both; feasible = is_feasible e; fails = reported q h }
+    -- a fault of the proof is the first fault
+    pub bound_tells : (q : Option (List ℕ)) (x : Stop CheckFault) (y : Stop CertifyFault) → y ≡ stop_from_check x → broken_by score ≡ 0
+        → OnFault x (λ f. (bytes : List ℕ) → q ≡ Some bytes → IsProofFault p (stream_of bytes) f) → OnFault y (IsFirstFault i s q)
+    bound_tells q x y is e h = at_mapped fault.Proof x y is (IsFirstFault i s q) (OnFault-weaker x _ _ first h)
       where
-        reported : (k : Option (List ℕ)) → ((bytes : List ℕ) → k ≡ Some bytes → IsProofFault p (stream_of bytes) f)
+        reported : (f : CheckFault) (k : Option (List ℕ)) → ((bytes : List ℕ) → k ≡ Some bytes → IsProofFault p (stream_of bytes) f)
             → IfSome k (λ bytes. IsProofFault p (stream_of bytes) f)
-        reported None h = tt
-        reported (Some bytes) h = h bytes refl
-    bound_tells q fault.OutOfMemory e own h = tt
-    bound_tells q (fault.Instance f) e own h = absurd (own tt)
-    bound_tells q (fault.Solution f) e own h = absurd (own tt)
+        reported f None h = tt
+        reported f (Some bytes) h = h bytes refl
+
+        first : (f : CheckFault) → ((bytes : List ℕ) → q ≡ Some bytes → IsProofFault p (stream_of bytes) f) → FailsProof i s q f
+        first f h = record { problem = p; table = t; both = both; feasible = is_feasible e; fails = reported f q h }
 
     pub certified_proof : (bytes : List ℕ) (c b : ℕ) → Certifies i s bytes c b → IsProved p bytes (AtLeast b)
     certified_proof bytes c b h = (certified_here bytes c b h).proved
@@ -192,7 +246,7 @@ module _ (i s : List ℕ) (p : Problem) (t : List Cell) (spelled : Spells i p) (
     pub certified_cost : (bytes : List ℕ) (c b : ℕ) → Certifies i s bytes c b → costs_of score ≡ c
     certified_cost bytes c b h = cost_is p t score is ∙ (certified_here bytes c b h).costs
 
-    abbrev solves_here : broken_by score ≡ 0 → Solves i s (costs_of score)
+    abbrev pub solves_here : broken_by score ≡ 0 → Solves i s (costs_of score)
     solves_here e = record { problem = p; table = t; both = both; feasible = is_feasible e; costs = sym (cost_is p t score is) }
 
     pub yes_found : (q : Option (List ℕ)) (b : ℕ) → broken_by score ≡ 0
@@ -210,26 +264,11 @@ module _ (i s : List ℕ) (p : Problem) (t : List Cell) (spelled : Spells i p) (
 
 -- -- the whole result
 
--- no error of the instance or of the solution is reported as a failed read
-pub not_read_instance : (f : InstanceFault) → fault_from_instance f ≡ read_failed → ⊥
-not_read_instance instance.OutOfMemory e = cc
-not_read_instance f e = cc
-
-pub not_read_solution : (f : SolutionFault) → fault_from_solution f ≡ read_failed → ⊥
-not_read_solution solution.OutOfMemory e = cc
-not_read_solution f e = cc
-
--- the verdict `Yes`
-abbrev yes_with : ℕ → ℕ → Result Verdict CertifyFault
-yes_with c b = Ok (Yes c b)
-
 module _ (i s : List ℕ) (q : Option (List ℕ)) where
-  -- if memory doesn't run out and no read fails, the verdict is `Yes` with c and b if and only if they are certified
-  pub exactly_certified : (r : Result Verdict CertifyFault) (fails : Bool) (bytes : List ℕ) → q ≡ Some bytes
-      → (r ≡ Err read_failed → fails ≡ true) → IfOk r (IsVerdict i s q)
-      → ((c b : ℕ) → Certifies i s bytes c b → AnswersYes r c b) → (c b : ℕ) → fails ≡ false → ¬ (r ≡ Err fault.OutOfMemory)
-      → (r ≡ Ok (Yes c b)) ↔ Certifies i s bytes c b
-  exactly_certified (Ok (Yes n m)) fails bytes known failed found answers c b reads memory = (there, here)
+  -- the verdict is `Yes` with c and b if and only if they are certified
+  pub exactly_certified : (v : Verdict) (bytes : List ℕ) → q ≡ Some bytes → IsVerdict i s q v
+      → ((c b : ℕ) → Certifies i s bytes c b → yes_is v c b) → (c b : ℕ) → (verdict v ≡ yes_with c b) ↔ Certifies i s bytes c b
+  exactly_certified (Yes n m) bytes known found answers c b = (there, here)
     where
       there : yes_with n m ≡ yes_with c b → Certifies i s bytes c b
       there e =
@@ -241,16 +280,10 @@ module _ (i s : List ℕ) (q : Option (List ℕ)) where
 
       here : Certifies i s bytes c b → yes_with n m ≡ yes_with c b
       here h = let z = answers c b h in rw (z.0, z.1) refl
-  exactly_certified (Ok (Breaks score)) fails bytes known failed found answers c b reads memory =
-      (λ e. absurd cc, λ h. absurd (answers c b h))
-  exactly_certified (Err f) fails bytes known failed found answers c b reads memory = (λ e. absurd cc, λ h. absurd (silent (answers c b h)))
-    where
-      silent : (f ≡ fault.OutOfMemory) ⊎ (f ≡ read_failed) → ⊥
-      silent (inl e) = memory (ap (λ k. Err k) e)
-      silent (inr e) = let t = failed (ap (λ k. Err k) e) in cc
+  exactly_certified (Breaks score) bytes known found answers c b = (λ e. absurd cc, λ h. absurd (answers c b h))
 
   -- if the verdict is `Yes`, every timetable that breaks no hard rule costs at least b
-  pub certified_bounds : (r : Result Verdict CertifyFault) → IfOk r (IsVerdict i s q) → (c b : ℕ) → r ≡ Ok (Yes c b) → BoundsAll i b
+  pub certified_bounds : (r : Result Verdict (Stop CertifyFault)) → IfOk r (IsVerdict i s q) → (c b : ℕ) → r ≡ Ok (Yes c b) → BoundsAll i b
   certified_bounds (Ok (Yes n m)) found c b e = let y : m ≡ b = cc in subst (BoundsAll i) y found.bounds
   certified_bounds (Ok (Breaks score)) found c b e = absurd cc
   certified_bounds (Err f) found c b e = absurd cc

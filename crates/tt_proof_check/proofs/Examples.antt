@@ -111,19 +111,16 @@ a_split_breaks_off = inr (
   AtLeast 5,
   first,
   begun_header,
-  inl (
-    record {
-      nodes = node.Split (when 0 0) ∷ [];
-      rest = second;
-      reads = (second, begun_split, refl);
-      tree = gap_tree;
-      next = node.Split (when 1 2);
-      more = node.Leaf five ∷ node.Leaf (Clique (1 ∷ [])) ∷ node.Split (when 0 2) ∷ node.Split (when 1 0) ∷ node.Leaf five ∷ node.Leaf
-          (Clique (1 ∷ [])) ∷ node.Leaf (Clique (0 ∷ [])) ∷ [];
-      begins = refl;
-      passed = All-from_recursion (Passes gap (AtLeast 5)) (take 1 (on_paths [] gap_tree)) ((lit≤ tt, tt), tt);
-      fails = tt;
-    },
-    no_second,
-  ),
+  inl (record {
+    nodes = node.Split (when 0 0) ∷ [];
+    rest = second;
+    reads = (second, begun_split, refl);
+    tree = gap_tree;
+    next = node.Split (when 1 2);
+    more = node.Leaf five ∷ node.Leaf (Clique (1 ∷ [])) ∷ node.Split (when 0 2) ∷ node.Split (when 1 0) ∷ node.Leaf five ∷ node.Leaf
+        (Clique (1 ∷ [])) ∷ node.Leaf (Clique (0 ∷ [])) ∷ [];
+    begins = refl;
+    passed = All-from_recursion (Passes gap (AtLeast 5)) (take 1 (on_paths [] gap_tree)) ((lit≤ tt, tt), tt);
+    fails = no_second;
+  }),
 )

@@ -1,5 +1,5 @@
 -- The bytes of an instance and of a solution, and the results of reading them.
-use Rattle.std.proofs.Common.{◌≡◌, ℕ, List, Err, refl, subst}
+use Rattle.std.proofs.Common.{◌≡◌, ℕ, List, Err, subst}
 use Rattle.tt_instance.specs.Problem.{Problem}
 use Rattle.tt_instance_read.specs.Reading.{instance_of, Fails}
 use Rattle.tt_instance.specs.Spelling.{Spells}
@@ -12,7 +12,8 @@ use Rattle.tt_table.specs.Spelling.{SpellsBoth, SpellsTable}
 use Rattle.tt_table.specs.declared.fault.SolutionFault.{SolutionFault}
 use Rattle.tt_table.specs.declared.fault.SolutionFault.TheVariants as solution
 use Rattle.tt_table.proofs.EntryLaws.{solution_read}
-use Rattle.tt_proof_check.specs.Verdicts.{fault_from_instance, fault_from_solution, FailsSolution}
+use Rattle.tt_stop.specs.Stops.{OnFault}
+use Rattle.tt_proof_check.specs.Verdicts.{stop_from_instance, stop_from_solution, FailsSolution}
 use Rattle.tt_proof_check.specs.declared.fault.CertifyFault.{CertifyFault}
 use Rattle.tt_proof_check.specs.declared.fault.CertifyFault.TheVariants as fault
 
@@ -24,32 +25,29 @@ one_table bytes i p t u s a b =
     let f = solution_read p bytes u limits b in
     cc
 
--- whether the error is that of the instance or of the solution, or that of memory
+-- the fault is that of the instance or of the solution
 abbrev pub FailsFiles : List ℕ → List ℕ → CertifyFault → Type 0
 FailsFiles i s (fault.Instance f) = instance_of i ≡ Err f
 FailsFiles i s (fault.Solution f) = FailsSolution i s f
 FailsFiles i s (fault.Proof f) = ⊥
-FailsFiles i s fault.OutOfMemory = Unit {0}
 
--- an error of the instance is reported
-pub tells_instance : (i s : List ℕ) (f : InstanceFault) → Fails f (instance_of i) → FailsFiles i s (fault_from_instance f)
+-- a fault of the instance is reported
+pub tells_instance : (i s : List ℕ) (f : InstanceFault) → Fails f (instance_of i) → OnFault (stop_from_instance f) (FailsFiles i s)
 tells_instance i s instance.OutOfMemory h = tt
 tells_instance i s f h = h
 
--- an error of the solution is reported
+-- a fault of the solution is reported
 pub tells_solution : (i s : List ℕ) (p : Problem) (f : SolutionFault) → Spells i p → FailsTable f (solution_of p s)
-    → FailsFiles i s (fault_from_solution f)
+    → OnFault (stop_from_solution f) (FailsFiles i s)
 tells_solution i s p solution.OutOfMemory spelled h = tt
 tells_solution i s p f spelled h = record { problem = p; spelled = spelled; fails = h }
 
--- if both are spelled, the only error is being out of memory
-pub only_memory : (i s : List ℕ) (p : Problem) (t : List Cell) (f : CertifyFault) → SpellsBoth i s p t → FailsFiles i s f
-    → f ≡ fault.OutOfMemory
-only_memory i s p t (fault.Instance f) both h = let e = is_read i p both.spelled in absurd cc
-only_memory i s p t (fault.Solution f) both h =
+-- if both are spelled, they have no fault
+pub files_faultless : (i s : List ℕ) (p : Problem) (t : List Cell) (f : CertifyFault) → SpellsBoth i s p t → FailsFiles i s f → ⊥
+files_faultless i s p t (fault.Instance f) both h = let e = is_read i p both.spelled in cc
+files_faultless i s p t (fault.Solution f) both h =
     let same : h.problem ≡ p = spelled_once i h.problem p h.spelled both.spelled in
     let e = solution_read p s t (spelled_instance i p both.spelled).within both.solved in
     let g : solution_of p s ≡ Err f = subst (λ (q : Problem). solution_of q s ≡ Err f) same h.fails in
-    absurd cc
-only_memory i s p t (fault.Proof f) both h = absurd h
-only_memory i s p t fault.OutOfMemory both h = refl
+    cc
+files_faultless i s p t (fault.Proof f) both h = h

@@ -1,9 +1,12 @@
 -- Whole lists of nodes that are checked in order, and the errors that are possible for the nodes of a proof.
-use Rattle.std.proofs.Common.{◌≡◌, ℕ, zero, suc, ◌+◌, ◌≤◌, ◌<◌, Bool, true, false, List, [], ◌∷◌, ◌++◌, length, take, drop, get_or, Some, Result, Ok, Err, IfErr, OnOk, refl, sym, ap, ◌∙◌, subst, arith}
+use Rattle.std.proofs.Common.{◌≡◌, ℕ, zero, suc, ◌+◌, ◌≤◌, ◌<◌, Bool, true, false, List, [], ◌∷◌, ◌++◌, length, take, drop, get_or, Some, Result, Ok, Err, OnOk, refl, sym, ap, ◌∙◌, subst, arith}
 use Rattle.std.specs.Prelude.{All, slice_get, IsOkUnless}
 use Rattle.std.specs.List.{AllByRecursion}
 use Rattle.std.proofs.lemmas.List.{take_all, take-append-drop, length-take-le}
 use Rattle.std.proofs.lemmas.List.Elements.{All-from_recursion, recursion_from_All}
+use Rattle.tt_stop.specs.Stops.{IfFault, is_read_failed}
+use Rattle.tt_stop.specs.declared.stop.Stop.{Stop}
+use Rattle.tt_stop.specs.declared.stop.Stop.TheVariants.{Fault, ReadFailed, OutOfMemory}
 use Rattle.tt_instance.specs.Problem.{Problem}
 use Rattle.tt_path.specs.declared.facts.Fact.{Fact}
 use Rattle.tt_path.specs.declared.path.TheConstants.{MAX_FACTS}
@@ -15,7 +18,7 @@ use Rattle.tt_proof_read.specs.declared.node.Node.{Node}
 use Rattle.tt_proof_read.proofs.Depth.{nodes_low}
 use Rattle.tt_proof_check.specs.declared.fault.NodesFault.{NodesFault}
 use Rattle.tt_proof_check.specs.declared.fault.NodesFault.TheVariants as reported
-use Rattle.tt_proof_check.specs.declared.walk.Stop.TheVariants.{Rule, TooDeep}
+use Rattle.tt_proof_check.specs.declared.walk.NodeStop.TheVariants.{Rule, TooDeep}
 use Rattle.tt_proof_check.specs.Derives.{Derives, Proves, HoldsOfAll}
 use Rattle.tt_proof_check.specs.Inner.Steps.{Steps, Stops}
 use Rattle.tt_proof_check.specs.Explains.{IsRightOn, Passes, FailsAt, IsDeepAt, Explains}
@@ -114,22 +117,22 @@ pub same_at : (nodes : List Node) (x y : Tree) (i : ℕ) → preorder x ≡ node
     → slice_get (on_paths [] x) i ≡ slice_get (on_paths [] y) i
 same_at nodes x y i e d = ap (λ (l : List OnPath). slice_get l i) (sym (whole_places x nodes e) ∙ whole_places y nodes d)
 
--- the only error of nodes that prove the bound is being out of memory
-proves_only : (p : Problem) (b : Bound) (nodes : List Node) (e : NodesFault) → Explains p b nodes e → Proves p b nodes
-    → e ≡ reported.OutOfMemory
-proves_only p b nodes reported.NotATree t h = absurd (t (h.0, h.1))
-proves_only p b nodes (reported.Rule i f) t h =
-    absurd (never_fails p b h.0 t.0 i f (tree_passes p b h.0 h.2 h.3) (same_at nodes h.0 t.0 i h.1 t.1) t.2)
-proves_only p b nodes (reported.TooDeep i) t h =
-    absurd (never_deep p b h.0 t.0 i (tree_passes p b h.0 h.2 h.3) (same_at nodes h.0 t.0 i h.1 t.1) t.2)
-proves_only p b nodes reported.OutOfMemory t h = refl
+-- nodes that prove the bound have no fault
+proves_faultless : (p : Problem) (b : Bound) (nodes : List Node) (e : NodesFault) → Explains p b nodes e → Proves p b nodes → ⊥
+proves_faultless p b nodes reported.NotATree t h = t (h.0, h.1)
+proves_faultless p b nodes (reported.Rule i f) t h =
+    never_fails p b h.0 t.0 i f (tree_passes p b h.0 h.2 h.3) (same_at nodes h.0 t.0 i h.1 t.1) t.2
+proves_faultless p b nodes (reported.TooDeep i) t h =
+    never_deep p b h.0 t.0 i (tree_passes p b h.0 h.2 h.3) (same_at nodes h.0 t.0 i h.1 t.1) t.2
 
-pub checked_only : (p : Problem) (b : Bound) (nodes : List Node) (r : Result (Unit {0}) NodesFault)
-    → IfErr r (λ e. Explains p b nodes e) → Proves p b nodes → IsOkUnless r reported.OutOfMemory
-checked_only p b nodes (Ok x) t h = tt
-checked_only p b nodes (Err e) t h = proves_only p b nodes e t h
+pub checked_only : (p : Problem) (b : Bound) (nodes : List Node) (r : Result (Unit {0}) (Stop NodesFault))
+    → IfFault r (λ e. Explains p b nodes e) → is_read_failed r ≡ false → Proves p b nodes → IsOkUnless r OutOfMemory
+checked_only p b nodes (Ok x) t n h = tt
+checked_only p b nodes (Err (Fault e)) t n h = absurd (proves_faultless p b nodes e t h)
+checked_only p b nodes (Err ReadFailed) t n h = cc
+checked_only p b nodes (Err OutOfMemory) t n h = refl
 
-pub checked_holds : (p : Problem) (b : Bound) (nodes : List Node) (r : Result (Unit {0}) NodesFault) → OnOk r (Proves p b nodes)
+pub checked_holds : (p : Problem) (b : Bound) (nodes : List Node) (r : Result (Unit {0}) (Stop NodesFault)) → OnOk r (Proves p b nodes)
     → OnOk r (HoldsOfAll p b)
 checked_holds p b nodes (Ok x) h = proof_sound p b nodes h
 checked_holds p b nodes (Err e) h = tt

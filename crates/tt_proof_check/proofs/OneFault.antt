@@ -1,4 +1,4 @@
--- Two errors of the same text are equal, or one of them is silent.
+-- Two faults of the same text are equal.
 use Rattle.std.proofs.Common.{◌≡◌, ℕ, zero, suc, ◌+◌, ◌<◌, List, [], ◌∷◌, ◌++◌, length, take, Option, Some, None, Result, Err, refl, sym, ap, subst, ◌∙◌, arith, append_assoc, append-nil, ◌⊎◌, inl, inr}
 use Rattle.std.specs.Prelude.{All, slice_get}
 use Rattle.std.specs.List.{AllByRecursion}
@@ -19,46 +19,27 @@ use Rattle.tt_leaf.specs.declared.leaf.Bound.{Bound}
 use Rattle.tt_leaf.specs.declared.leaf.Leaf.{Leaf}
 use Rattle.tt_leaf_rules.specs.declared.fault.RuleFault.{RuleFault}
 use Rattle.tt_leaf_rules.proofs.Rightness.{faultless}
-use Rattle.tt_proof_read.specs.Faults.{is_environmental}
 use Rattle.tt_proof_read.specs.Reading.{header_at, node_at, end_at}
 use Rattle.tt_proof_read.specs.Reads.{ReadsNodes}
 use Rattle.tt_proof_read.specs.Trees.{Tree, preorder, OnPath, on_paths}
 use Rattle.tt_proof_read.specs.declared.fault.TextFault.{TextFault}
-use Rattle.tt_proof_read.specs.declared.fault.TextFault.TheVariants as text
 use Rattle.tt_proof_read.specs.declared.node.Node.{Node}
 use Rattle.tt_proof_read.specs.declared.node.Node.TheVariants as node
 use Rattle.tt_proof_check.specs.declared.fault.CheckFault.{CheckFault}
 use Rattle.tt_proof_check.specs.declared.fault.CheckFault.TheVariants as reported
 use Rattle.tt_proof_check.specs.declared.fault.CertifyFault.{CertifyFault}
 use Rattle.tt_proof_check.specs.declared.fault.CertifyFault.TheVariants as fault
-use Rattle.tt_proof_check.specs.Streams.{IsEnvironmental, stream_of, sizes_of, Fails, NodeFails, EndFails, IsReadTo, HasHeader, IsProofFault}
+use Rattle.tt_proof_check.specs.Streams.{stream_of, sizes_of, NodeFails, EndFails, IsReadTo, HasHeader, IsProofFault}
 use Rattle.tt_proof_check.specs.Explains.{Passes, FailsAt, IsDeepAt}
-use Rattle.tt_proof_check.specs.Verdicts.{FailsSolution, FailsProof, IsFirstFault, IsEnvironmentalRefusal}
+use Rattle.tt_proof_check.specs.Verdicts.{FailsSolution, FailsProof, IsFirstFault}
 use Rattle.tt_proof_check.proofs.Determined.{begins_whole, same_header, compare, same_place}
-use Rattle.tt_proof_check.proofs.Files.{only_memory}
+use Rattle.tt_proof_check.proofs.Files.{files_faultless}
 use Rattle.tt_proof_check.proofs.InOrder.{at_place, tree_passes}
-use Rattle.tt_proof_check.proofs.TextFaults.{on_false, silent_is, fails_silently}
-use Rattle.tt_proof_check.proofs.Texts.{node_silent, place_read}
+use Rattle.tt_proof_check.proofs.Texts.{only_one, node_read, place_read}
 
--- whether the errors are equal, or one says nothing about the text
-abbrev pub AreOne : CheckFault → CheckFault → Type 0
-AreOne f g = (f ≡ g) ⊎ (IsEnvironmental f ⊎ IsEnvironmental g)
-
-turned : (f g : CheckFault) → AreOne f g → AreOne g f
-turned f g (inl e) = inl (sym e)
-turned f g (inr (inl s)) = inr (inr s)
-turned f g (inr (inr s)) = inr (inl s)
-
--- two errors of one reading
-one_reading : {Y : Type 0} (read : Result Y TextFault) (f g : TextFault) → ¬ (f ≡ text.OutOfMemory) → ¬ (g ≡ text.OutOfMemory)
-    → Fails f read → Fails g read → AreOne (reported.Text f) (reported.Text g)
-one_reading read f g n m h k = elim (on_false (is_environmental f) (read ≡ Err f) h) [
-  | inl s ↦ inr (inl (silent_is f s n))
-  | inr a ↦ elim (on_false (is_environmental g) (read ≡ Err g) k) [
-    | inl s ↦ inr (inr (silent_is g s m))
-    | inr b ↦ inl cc
-  ]
-]
+-- two faults of one reading
+one_reading : {Y : Type 0} (read : Result Y TextFault) (f g : TextFault) → read ≡ Err f → read ≡ Err g → f ≡ g
+one_reading read f g h k = cc
 
 -- ---- the first node that doesn't pass
 
@@ -144,34 +125,31 @@ module _ (p : Problem) (v : ℕ) (b : Bound) (s : Stream) where
   one_stop x y i j h k a c less =
       none_stops p b y.tree x.tree j i less c.before (one_place y x i (omega (arith, k, less)) (omega (arith, h))) a
 
-  -- if a node has been read, an error in its text is silent
-  node_first : (f : TextFault) → ¬ (f ≡ text.OutOfMemory) → (k : ℕ) (nodes : List Node) (rest after : Stream) (x : Node)
+  -- the text of a node that has been read has no fault
+  node_first : (f : TextFault) (k : ℕ) (nodes : List Node) (rest after : Stream) (x : Node)
       (xs : List Node) → length nodes ≡ k → ReadsNodes (sizes_of p) v (0 + length nodes) rest (x ∷ xs) after
-      → Fails f (node_at (sizes_of p) v k rest) → IsEnvironmental (reported.Text f)
-  node_first f n k nodes rest after x xs e r fails =
+      → node_at (sizes_of p) v k rest ≡ Err f → ⊥
+  node_first f k nodes rest after x xs e r fails =
       let here : k ≡ 0 + length nodes = omega (arith, e) in
-      fails_silently f (node_at (sizes_of p) v k rest) (x, r.0) (ap (λ (c : ℕ). node_at (sizes_of p) v c rest) here ∙ r.1) n fails
+      only_one (node_at (sizes_of p) v k rest) (x, r.0) f (ap (λ (c : ℕ). node_at (sizes_of p) v c rest) here ∙ r.1) fails
 
-  nodes_fail : (f g : TextFault) → ¬ (f ≡ text.OutOfMemory) → ¬ (g ≡ text.OutOfMemory) → NodeFails p v b s f → NodeFails p v b s g
-      → AreOne (reported.Text f) (reported.Text g)
-  nodes_fail f g n m a c = elim (compare (sizes_of p) v 0 s a.rest c.rest a.nodes c.nodes a.reads c.reads) [
-    | inl d ↦ onward f g n m a c d.0 d.1 d.2
-    | inr d ↦ turned (reported.Text g) (reported.Text f) (onward g f m n c a d.0 d.1 d.2)
+  nodes_fail : (f g : TextFault) → NodeFails p v b s f → NodeFails p v b s g → f ≡ g
+  nodes_fail f g a c = elim (compare (sizes_of p) v 0 s a.rest c.rest a.nodes c.nodes a.reads c.reads) [
+    | inl d ↦ onward f g a c d.0 d.1 d.2
+    | inr d ↦ sym (onward g f c a d.0 d.1 d.2)
   ]
     where
-      onward : (f g : TextFault) → ¬ (f ≡ text.OutOfMemory) → ¬ (g ≡ text.OutOfMemory)
-          → (a : NodeFails p v b s f) (c : NodeFails p v b s g) (more : List Node) → a.nodes ++ more ≡ c.nodes
-          → ReadsNodes (sizes_of p) v (0 + length a.nodes) a.rest more c.rest → AreOne (reported.Text f) (reported.Text g)
-      onward f g n m a c [] e r =
+      onward : (f g : TextFault) (a : NodeFails p v b s f) (c : NodeFails p v b s g) (more : List Node) → a.nodes ++ more ≡ c.nodes
+          → ReadsNodes (sizes_of p) v (0 + length a.nodes) a.rest more c.rest → f ≡ g
+      onward f g a c [] e r =
           let len : length c.nodes ≡ length a.nodes = ap length (sym e ∙ append-nil a.nodes) in
-          one_reading (node_at (sizes_of p) v (length a.nodes) a.rest) f g n m a.fails
-          (subst (λ (x : Stream). Fails g (node_at (sizes_of p) v (length a.nodes) x)) (sym r)
-          (subst (λ (k : ℕ). Fails g (node_at (sizes_of p) v k c.rest)) len c.fails))
-      onward f g n m a c (x ∷ xs) e r = inr (inl (node_first f n (length a.nodes) a.nodes a.rest c.rest x xs refl r a.fails))
+          one_reading (node_at (sizes_of p) v (length a.nodes) a.rest) f g a.fails
+          (subst (λ (x : Stream). node_at (sizes_of p) v (length a.nodes) x ≡ Err g) (sym r)
+          (subst (λ (k : ℕ). node_at (sizes_of p) v k c.rest ≡ Err g) len c.fails))
+      onward f g a c (x ∷ xs) e r = absurd (node_first f (length a.nodes) a.nodes a.rest c.rest x xs refl r a.fails)
 
-  ends_fail : (f g : TextFault) → ¬ (f ≡ text.OutOfMemory) → ¬ (g ≡ text.OutOfMemory) → EndFails p v b s f → EndFails p v b s g
-      → AreOne (reported.Text f) (reported.Text g)
-  ends_fail f g n m a c = one_reading (end_at a.rest) f g n m a.fails (subst (λ (x : Stream). Fails g (end_at x)) (sym same) c.fails)
+  ends_fail : (f g : TextFault) → EndFails p v b s f → EndFails p v b s g → f ≡ g
+  ends_fail f g a c = one_reading (end_at a.rest) f g a.fails (subst (λ (x : Stream). end_at x ≡ Err g) (sym same) c.fails)
     where
       none : (k : ℕ) (x y : Stream) (more : List Node) → [] ≡ more → ReadsNodes (sizes_of p) v k x more y → x ≡ y
       none k x y more e r = subst (λ (l : List Node). ReadsNodes (sizes_of p) v k x l y) (sym e) r
@@ -182,41 +160,37 @@ module _ (p : Problem) (v : ℕ) (b : Bound) (s : Stream) where
         | inr d ↦ sym (none (0 + length (preorder c.tree)) c.rest a.rest d.0 (begins_whole a.tree c.tree d.0 (sym d.1)).1 d.2)
       ]
 
-  node_or_end : (f g : TextFault) → ¬ (f ≡ text.OutOfMemory) → NodeFails p v b s f → EndFails p v b s g
-      → AreOne (reported.Text f) (reported.Text g)
-  node_or_end f g n a c =
-      inr (inl (node_silent p v s c.rest c.tree c.reads f n a.nodes a.rest a.tree a.next a.more a.reads a.begins a.fails))
+  node_or_end : (f g : TextFault) → NodeFails p v b s f → EndFails p v b s g → ⊥
+  node_or_end f g a c = node_read p v s c.rest c.tree c.reads f a.nodes a.rest a.tree a.next a.more a.reads a.begins a.fails
 
-  texts_fail : (f g : TextFault) → ¬ (f ≡ text.OutOfMemory) → ¬ (g ≡ text.OutOfMemory) → (NodeFails p v b s f ⊎ EndFails p v b s f)
-      → (NodeFails p v b s g ⊎ EndFails p v b s g) → AreOne (reported.Text f) (reported.Text g)
-  texts_fail f g n m (inl a) (inl c) = nodes_fail f g n m a c
-  texts_fail f g n m (inl a) (inr c) = node_or_end f g n a c
-  texts_fail f g n m (inr a) (inl c) = turned (reported.Text g) (reported.Text f) (node_or_end g f m c a)
-  texts_fail f g n m (inr a) (inr c) = ends_fail f g n m a c
+  texts_fail : (f g : TextFault) → (NodeFails p v b s f ⊎ EndFails p v b s f) → (NodeFails p v b s g ⊎ EndFails p v b s g) → f ≡ g
+  texts_fail f g (inl a) (inl c) = nodes_fail f g a c
+  texts_fail f g (inl a) (inr c) = absurd (node_or_end f g a c)
+  texts_fail f g (inr a) (inl c) = absurd (node_or_end g f c a)
+  texts_fail f g (inr a) (inr c) = ends_fail f g a c
 
-  -- before a node that doesn't pass, all texts are read, or fail silently
-  text_silent : (f : TextFault) → ¬ (f ≡ text.OutOfMemory) → (NodeFails p v b s f ⊎ EndFails p v b s f)
-      → (i : ℕ) (P : Tree → Type 0) (c : IsReadTo p v s i P) → Stops p b c.tree i → IsEnvironmental (reported.Text f)
-  text_silent f n (inr a) i P c stops = absurd (stops.stops (passes (place_read p v s a.rest a.tree a.reads i P c ∙ stops.found)))
+  -- before a node that doesn't pass, all texts are read
+  text_passes : (f : TextFault) → (NodeFails p v b s f ⊎ EndFails p v b s f)
+      → (i : ℕ) (P : Tree → Type 0) (c : IsReadTo p v s i P) → Stops p b c.tree i → ⊥
+  text_passes f (inr a) i P c stops = stops.stops (passes (place_read p v s a.rest a.tree a.reads i P c ∙ stops.found))
     where
       all : AllByRecursion (Passes p b) (on_paths [] a.tree)
       all = recursion_from_All (Passes p b) (on_paths [] a.tree) (tree_passes p b a.tree a.shallow a.derives)
 
       passes : slice_get (on_paths [] a.tree) i ≡ Some stops.at → Passes p b stops.at
       passes e = at_place (Passes p b) (on_paths [] a.tree) i stops.at e all
-  text_silent f n (inl a) i P c stops = elim (compare (sizes_of p) v 0 s a.rest c.rest a.nodes c.nodes a.reads c.reads) [
+  text_passes f (inl a) i P c stops = elim (compare (sizes_of p) v 0 s a.rest c.rest a.nodes c.nodes a.reads c.reads) [
     | inl d ↦ onward d.0 d.1 d.2
-    | inr d ↦ absurd (passed (omega (arith, ap length d.1, length-append c.nodes d.0, c.last)))
+    | inr d ↦ passed (omega (arith, ap length d.1, length-append c.nodes d.0, c.last))
   ]
     where
       passed : ¬ (i < length a.nodes)
       passed h = none_stops p b a.tree c.tree (length a.nodes) i h a.passed
           (one_place (begun_before p v b s f a) (begun_to p v s i P c) i h (omega (arith, c.last))) stops
 
-      onward : (more : List Node) → a.nodes ++ more ≡ c.nodes → ReadsNodes (sizes_of p) v (0 + length a.nodes) a.rest more c.rest
-          → IsEnvironmental (reported.Text f)
-      onward [] e r = absurd (passed (omega (arith, ap length (sym (append-nil a.nodes) ∙ e), c.last)))
-      onward (x ∷ xs) e r = node_first f n (length a.nodes) a.nodes a.rest c.rest x xs refl r a.fails
+      onward : (more : List Node) → a.nodes ++ more ≡ c.nodes → ReadsNodes (sizes_of p) v (0 + length a.nodes) a.rest more c.rest → ⊥
+      onward [] e r = passed (omega (arith, ap length (sym (append-nil a.nodes) ∙ e), c.last))
+      onward (x ∷ xs) e r = node_first f (length a.nodes) a.nodes a.rest c.rest x xs refl r a.fails
 
 -- ---- two nodes that don't pass
 
@@ -258,19 +232,19 @@ module _ (p : Problem) (v : ℕ) (b : Bound) (s : Stream) where
   ]
 
   rules_fail : (i j : ℕ) (f g : RuleFault) → IsReadTo p v s i (λ t. FailsAt p b t i f) → IsReadTo p v s j (λ t. FailsAt p b t j g)
-      → AreOne (reported.Rule i f) (reported.Rule j g)
+      → reported.Rule i f ≡ reported.Rule j g
   rules_fail i j f g a c =
       let m = meets i j (λ t. FailsAt p b t i f) (λ t. FailsAt p b t j g) (by_fault i f) (by_fault j g) a c in
       let point = one_point (record { path = a.is.path; node = node.Leaf a.is.leaf })
       (record { path = c.is.path; node = node.Leaf c.is.leaf }) (sym a.is.found ∙ m.1 ∙ c.is.found) in
       let same : f ≡ g = one_first p b a.is.path c.is.path a.is.leaf c.is.leaf f g (ap (λ (x : OnPath). x.node) point)
       (ap (λ (x : OnPath). x.path) point) a.is.fault c.is.fault in
-      inl (ap (λ k. reported.Rule k f) m.0 ∙ ap (reported.Rule j) same)
+      ap (λ k. reported.Rule k f) m.0 ∙ ap (reported.Rule j) same
 
   depths_fail : (i j : ℕ) → IsReadTo p v s i (λ t. IsDeepAt p b t i) → IsReadTo p v s j (λ t. IsDeepAt p b t j)
-      → AreOne (reported.TooDeep i) (reported.TooDeep j)
+      → reported.TooDeep i ≡ reported.TooDeep j
   depths_fail i j a c =
-      inl (ap reported.TooDeep (meets i j (λ t. IsDeepAt p b t i) (λ t. IsDeepAt p b t j) (by_depth i) (by_depth j) a c).0)
+      ap reported.TooDeep (meets i j (λ t. IsDeepAt p b t i) (λ t. IsDeepAt p b t j) (by_depth i) (by_depth j) a c).0
 
   -- a leaf whose rule is checked isn't too deep
   rule_or_depth : (i j : ℕ) (f : RuleFault) → IsReadTo p v s i (λ t. FailsAt p b t i f) → IsReadTo p v s j (λ t. IsDeepAt p b t j) → ⊥
@@ -293,74 +267,57 @@ one_header P Q Z s f h k =
 abbrev FailsAfter : Problem → TextFault → ℕ → Bound → Stream → Type 0
 FailsAfter p f v b rest = NodeFails p v b rest f ⊎ EndFails p v b rest f
 
--- a header is read, or its text fails silently
-header_silent : (P : ℕ → Bound → Stream → Type 0) (s : Stream) (f : TextFault) → ¬ (f ≡ text.OutOfMemory) → Fails f (header_at s)
-    → HasHeader s P → IsEnvironmental (reported.Text f)
-header_silent P s f n h k = fails_silently f (header_at s) ((k.0, k.1), k.2) k.3 n h
+-- a header that is read has no fault
+header_read : (P : ℕ → Bound → Stream → Type 0) (s : Stream) (f : TextFault) → header_at s ≡ Err f → HasHeader s P → ⊥
+header_read P s f h k = only_one (header_at s) ((k.0, k.1), k.2) f k.3 h
 
-texts_one : (p : Problem) (s : Stream) (f g : TextFault) → IsProofFault p s (reported.Text f) → IsProofFault p s (reported.Text g)
-    → AreOne (reported.Text f) (reported.Text g)
-texts_one p s f g (n, inl h) (m, inl k) = one_reading (header_at s) f g n m h k
-texts_one p s f g (n, inl h) (m, inr k) = inr (inl (header_silent (FailsAfter p g) s f n h k))
-texts_one p s f g (n, inr h) (m, inl k) = inr (inr (header_silent (FailsAfter p f) s g m k h))
-texts_one p s f g (n, inr h) (m, inr k) = one_header (FailsAfter p f) (FailsAfter p g) (AreOne (reported.Text f) (reported.Text g)) s
-    (λ v b rest x y. texts_fail p v b rest f g n m x y) h k
+texts_one : (p : Problem) (s : Stream) (f g : TextFault) → IsProofFault p s (reported.Text f) → IsProofFault p s (reported.Text g) → f ≡ g
+texts_one p s f g (inl h) (inl k) = one_reading (header_at s) f g h k
+texts_one p s f g (inl h) (inr k) = absurd (header_read (FailsAfter p g) s f h k)
+texts_one p s f g (inr h) (inl k) = absurd (header_read (FailsAfter p f) s g k h)
+texts_one p s f g (inr h) (inr k) = one_header (FailsAfter p f) (FailsAfter p g) (f ≡ g) s
+    (λ v b rest x y. texts_fail p v b rest f g x y) h k
 
 text_one : (p : Problem) (s : Stream) (f : TextFault) (i : ℕ) (P : Bound → Tree → Type 0)
     → ((b : Bound) (tree : Tree) → P b tree → Stops p b tree i) → IsProofFault p s (reported.Text f)
-    → HasHeader s (λ v b rest. IsReadTo p v rest i (P b))
-    → IsEnvironmental (reported.Text f)
-text_one p s f i P stops (n, inl h) k = header_silent (λ v b rest. IsReadTo p v rest i (P b)) s f n h k
-text_one p s f i P stops (n, inr h) k =
-    one_header (FailsAfter p f) (λ v b rest. IsReadTo p v rest i (P b)) (IsEnvironmental (reported.Text f)) s
-    (λ v b rest x y. text_silent p v b rest f n x i (P b) y (stops b y.tree y.is)) h k
+    → HasHeader s (λ v b rest. IsReadTo p v rest i (P b)) → ⊥
+text_one p s f i P stops (inl h) k = header_read (λ v b rest. IsReadTo p v rest i (P b)) s f h k
+text_one p s f i P stops (inr h) k =
+    one_header (FailsAfter p f) (λ v b rest. IsReadTo p v rest i (P b)) ⊥ s
+    (λ v b rest x y. text_passes p v b rest f x i (P b) y (stops b y.tree y.is)) h k
 
--- two errors of one text are equal, or one of them is silent
-pub one_fault : (p : Problem) (s : Stream) (f g : CheckFault) → IsProofFault p s f → IsProofFault p s g → AreOne f g
-one_fault p s reported.OutOfMemory g h k = inr (inl (inl refl))
-one_fault p s (reported.Text f) reported.OutOfMemory h k = inr (inr (inl refl))
-one_fault p s (reported.Rule i f) reported.OutOfMemory h k = inr (inr (inl refl))
-one_fault p s (reported.TooDeep i) reported.OutOfMemory h k = inr (inr (inl refl))
-one_fault p s (reported.Text f) (reported.Text g) h k = texts_one p s f g h k
+-- two faults of one text are equal
+pub one_fault : (p : Problem) (s : Stream) (f g : CheckFault) → IsProofFault p s f → IsProofFault p s g → f ≡ g
+one_fault p s (reported.Text f) (reported.Text g) h k = ap (λ x. reported.Text x) (texts_one p s f g h k)
 one_fault p s (reported.Text f) (reported.Rule j g) h k =
-    inr (inl (text_one p s f j (λ b t. FailsAt p b t j g) (λ b t x. stops_by_fault p b t j g x) h k))
+    absurd (text_one p s f j (λ b t. FailsAt p b t j g) (λ b t x. stops_by_fault p b t j g x) h k)
 one_fault p s (reported.Text f) (reported.TooDeep j) h k =
-    inr (inl (text_one p s f j (λ b t. IsDeepAt p b t j) (λ b t x. stops_by_depth p b t j x) h k))
+    absurd (text_one p s f j (λ b t. IsDeepAt p b t j) (λ b t x. stops_by_depth p b t j x) h k)
 one_fault p s (reported.Rule i f) (reported.Text g) h k =
-    inr (inr (text_one p s g i (λ b t. FailsAt p b t i f) (λ b t x. stops_by_fault p b t i f x) k h))
+    absurd (text_one p s g i (λ b t. FailsAt p b t i f) (λ b t x. stops_by_fault p b t i f x) k h)
 one_fault p s (reported.TooDeep i) (reported.Text g) h k =
-    inr (inr (text_one p s g i (λ b t. IsDeepAt p b t i) (λ b t x. stops_by_depth p b t i x) k h))
+    absurd (text_one p s g i (λ b t. IsDeepAt p b t i) (λ b t x. stops_by_depth p b t i x) k h)
 one_fault p s (reported.Rule i f) (reported.Rule j g) h k =
     one_header (λ v b rest. IsReadTo p v rest i (λ t. FailsAt p b t i f)) (λ v b rest. IsReadTo p v rest j (λ t. FailsAt p b t j g))
-    (AreOne (reported.Rule i f) (reported.Rule j g)) s
+    (reported.Rule i f ≡ reported.Rule j g) s
     (λ v b rest x y. rules_fail p v b rest i j f g x y) h k
 one_fault p s (reported.TooDeep i) (reported.TooDeep j) h k =
     one_header (λ v b rest. IsReadTo p v rest i (λ t. IsDeepAt p b t i)) (λ v b rest. IsReadTo p v rest j (λ t. IsDeepAt p b t j))
-    (AreOne (reported.TooDeep i) (reported.TooDeep j)) s
+    (reported.TooDeep i ≡ reported.TooDeep j) s
     (λ v b rest x y. depths_fail p v b rest i j x y) h k
 one_fault p s (reported.Rule i f) (reported.TooDeep j) h k =
-    one_header (λ v b rest. IsReadTo p v rest i (λ t. FailsAt p b t i f)) (λ v b rest. IsReadTo p v rest j (λ t. IsDeepAt p b t j))
-    (AreOne (reported.Rule i f) (reported.TooDeep j)) s
-    (λ v b rest x y. absurd (rule_or_depth p v b rest i j f x y)) h k
+    absurd (one_header (λ v b rest. IsReadTo p v rest i (λ t. FailsAt p b t i f)) (λ v b rest. IsReadTo p v rest j (λ t. IsDeepAt p b t j))
+    ⊥ s (λ v b rest x y. rule_or_depth p v b rest i j f x y) h k)
 one_fault p s (reported.TooDeep i) (reported.Rule j g) h k =
-    one_header (λ v b rest. IsReadTo p v rest i (λ t. IsDeepAt p b t i)) (λ v b rest. IsReadTo p v rest j (λ t. FailsAt p b t j g))
-    (AreOne (reported.TooDeep i) (reported.Rule j g)) s
-    (λ v b rest x y. absurd (rule_or_depth p v b rest j i g y x)) h k
+    absurd (one_header (λ v b rest. IsReadTo p v rest i (λ t. IsDeepAt p b t i)) (λ v b rest. IsReadTo p v rest j (λ t. FailsAt p b t j g))
+    ⊥ s (λ v b rest x y. rule_or_depth p v b rest j i g y x) h k)
 
--- -- the errors of `certify`
+-- -- the faults of `certify`
 
-abbrev AreOneRefusal : CertifyFault → CertifyFault → Type 0
-AreOneRefusal f g = (f ≡ g) ⊎ (IsEnvironmentalRefusal f ⊎ IsEnvironmentalRefusal g)
-
-proofs_refused : (i s bytes : List ℕ) (f g : CheckFault) → FailsProof i s (Some bytes) f → FailsProof i s (Some bytes) g
-    → AreOneRefusal (fault.Proof f) (fault.Proof g)
+proofs_refused : (i s bytes : List ℕ) (f g : CheckFault) → FailsProof i s (Some bytes) f → FailsProof i s (Some bytes) g → f ≡ g
 proofs_refused i s bytes f g h k =
     let same : k.problem ≡ h.problem = spelled_once i k.problem h.problem k.both.spelled h.both.spelled in
-    elim (one_fault h.problem (stream_of bytes) f g h.fails (subst (λ (q : Problem). IsProofFault q (stream_of bytes) g) same k.fails)) [
-      | inl e ↦ inl (ap fault.Proof e)
-      | inr (inl a) ↦ inr (inl a)
-      | inr (inr a) ↦ inr (inr a)
-    ]
+    one_fault h.problem (stream_of bytes) f g h.fails (subst (λ (q : Problem). IsProofFault q (stream_of bytes) g) same k.fails)
 
 solutions_refused : (i s : List ℕ) (f g : SolutionFault) → FailsSolution i s f → FailsSolution i s g → fault.Solution f ≡ fault.Solution g
 solutions_refused i s f g h k =
@@ -372,21 +329,14 @@ solutions_refused i s f g h k =
 spelled_or_refused : (i : List ℕ) (p : Problem) (f : InstanceFault) → instance_of i ≡ Err f → Spells i p → ⊥
 spelled_or_refused i p f h spelled = let e = is_read i p spelled in cc
 
--- two errors that `certify` may report for its bytes are equal, or one says nothing about them
-pub one_refusal : (i s bytes : List ℕ) (f g : CertifyFault) → IsFirstFault i s (Some bytes) f → IsFirstFault i s (Some bytes) g
-    → AreOneRefusal f g
-one_refusal i s bytes fault.OutOfMemory g h k = inr (inl tt)
-one_refusal i s bytes (fault.Instance f) fault.OutOfMemory h k = inr (inr tt)
-one_refusal i s bytes (fault.Solution f) fault.OutOfMemory h k = inr (inr tt)
-one_refusal i s bytes (fault.Proof f) fault.OutOfMemory h k = inr (inr tt)
-one_refusal i s bytes (fault.Instance f) (fault.Instance g) h k = inl cc
+-- two faults that `certify` may report for its bytes are equal
+pub one_refusal : (i s bytes : List ℕ) (f g : CertifyFault) → IsFirstFault i s (Some bytes) f → IsFirstFault i s (Some bytes) g → f ≡ g
+one_refusal i s bytes (fault.Instance f) (fault.Instance g) h k = cc
 one_refusal i s bytes (fault.Instance f) (fault.Solution g) h k = absurd (spelled_or_refused i k.problem f h k.spelled)
 one_refusal i s bytes (fault.Instance f) (fault.Proof g) h k = absurd (spelled_or_refused i k.problem f h k.both.spelled)
 one_refusal i s bytes (fault.Solution f) (fault.Instance g) h k = absurd (spelled_or_refused i h.problem g k h.spelled)
 one_refusal i s bytes (fault.Proof f) (fault.Instance g) h k = absurd (spelled_or_refused i h.problem g k h.both.spelled)
-one_refusal i s bytes (fault.Solution f) (fault.Solution g) h k = inl (solutions_refused i s f g h k)
-one_refusal i s bytes (fault.Solution f) (fault.Proof g) h k =
-    absurd (let e = only_memory i s k.problem k.table (fault.Solution f) k.both h in cc)
-one_refusal i s bytes (fault.Proof f) (fault.Solution g) h k =
-    absurd (let e = only_memory i s h.problem h.table (fault.Solution g) h.both k in cc)
-one_refusal i s bytes (fault.Proof f) (fault.Proof g) h k = proofs_refused i s bytes f g h k
+one_refusal i s bytes (fault.Solution f) (fault.Solution g) h k = solutions_refused i s f g h k
+one_refusal i s bytes (fault.Solution f) (fault.Proof g) h k = absurd (files_faultless i s k.problem k.table (fault.Solution f) k.both h)
+one_refusal i s bytes (fault.Proof f) (fault.Solution g) h k = absurd (files_faultless i s h.problem h.table (fault.Solution g) h.both k)
+one_refusal i s bytes (fault.Proof f) (fault.Proof g) h k = ap (λ x. fault.Proof x) (proofs_refused i s bytes f g h k)

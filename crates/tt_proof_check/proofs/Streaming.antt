@@ -6,7 +6,7 @@ use Rattle.tt_instance.specs.Problem.{Problem}
 use Rattle.tt_path.specs.declared.facts.Fact.{Fact}
 use Rattle.tt_leaf.specs.declared.leaf.Bound.{Bound}
 use Rattle.tt_leaf_rules.specs.declared.fault.RuleFault.{RuleFault}
-use Rattle.tt_proof_read.specs.Faults.{read_failed}
+use Rattle.tt_proof_read.specs.Faults.{is_environmental}
 use Rattle.tt_proof_read.specs.Reading.{node_at}
 use Rattle.tt_proof_read.specs.Readers.{Reader, IsReaderAfter, IsReadingOf}
 use Rattle.tt_proof_read.specs.Sizes.{AreSizes}
@@ -17,21 +17,19 @@ use Rattle.tt_proof_read.specs.declared.node.Node.{Node}
 use Rattle.tt_proof_read.specs.declared.node.Node.TheVariants.{Leaf}
 use Rattle.tt_leaf.specs.declared.leaf.Leaf.TheVariants.{Many}
 use Rattle.tt_proof_read.specs.declared.sizes.Sizes.{Sizes}
-use Rattle.tt_proof_check.specs.declared.walk.Stop.TheVariants.{Rule, TooDeep}
+use Rattle.tt_proof_check.specs.declared.walk.NodeStop.TheVariants.{Rule, TooDeep}
 use Rattle.tt_proof_check.specs.declared.fault.CheckFault.{CheckFault}
 use Rattle.tt_proof_check.specs.declared.fault.CheckFault.TheVariants as reported
-use Rattle.tt_proof_check.specs.FailedReads.{NodeIsCutOff}
-use Rattle.tt_proof_check.specs.Faults.{fault_from_text}
 use Rattle.tt_proof_check.specs.Visited.{Visited}
 use Rattle.tt_proof_check.specs.Inner.Pending.{pending}
 use Rattle.tt_proof_check.specs.Inner.Steps.{Steps, Stops}
 use Rattle.tt_proof_check.specs.Inner.CheckedPart.{CheckedPart, ExplainsNodes, ExplainsChild}
-use Rattle.tt_proof_check.specs.Streams.{sizes_of, Fails, NodeFails}
+use Rattle.tt_proof_check.specs.Streams.{sizes_of, NodeFails}
 use Rattle.tt_proof_check.specs.Explains.{Passes, FailsAt, IsDeepAt}
 use Rattle.tt_proof_check.proofs.Counting.{next_places}
 use Rattle.tt_proof_check.proofs.Reading.{Stack, root, next_stack, stack_after, at, places_of, stack_after-push, length-places_of, closing, some_tree, tree_goes_on}
 use Rattle.tt_proof_check.proofs.Sizes.{sizes_are}
-use Rattle.tt_proof_check.proofs.TextFaults.{text_cases}
+use Rattle.tt_proof_check.proofs.TextFaults.{told}
 use Rattle.tt_proof_check.proofs.Walking.{stack_of, Walked, walked_start, walked_next, walked_end, fails_at, IsDeepNext, too_deep, deep_at}
 
 pub reads_push : (sizes : Sizes) (v count : ℕ) (s t u : Stream) (nodes : List Node) (n : Node) → ReadsNodes sizes v count s nodes t
@@ -93,7 +91,7 @@ same_length x y e = let same : x ≡ y = cc in ap length same
 -- after nodes that pass, a node is due, and its text fails
 node_fails : (p : Problem) (v : ℕ) (b : Bound) (s t : Stream) (f : TextFault) (nodes : List Node) (path : List Fact) (others : Stack)
     → stack_after root nodes ≡ Some (path ∷ others) → All (Passes p b) (places_of root nodes)
-    → ReadsNodes (sizes_of p) v 0 s nodes t → Fails f (node_at (sizes_of p) v (length nodes) t) → NodeFails p v b s f
+    → ReadsNodes (sizes_of p) v 0 s nodes t → node_at (sizes_of p) v (length nodes) t ≡ Err f → NodeFails p v b s f
 node_fails p v b s t f nodes path others stack passed reads fails =
     let h = some_tree nodes (path ∷ others) stack in
     let all = tree_goes_on h.0 path others nodes (Leaf (Many 0)) (closing others) h.1 stack in
@@ -112,14 +110,6 @@ node_fails p v b s t f nodes path others stack passed reads fails =
       fails = fails;
     }
 
--- after nodes that pass, a node is due, and the failure of a read cuts it off
-node_breaks : (p : Problem) (v : ℕ) (b : Bound) (s t : Stream) (nodes : List Node) (path : List Fact) (others : Stack)
-    → stack_after root nodes ≡ Some (path ∷ others) → All (Passes p b) (places_of root nodes)
-    → ReadsNodes (sizes_of p) v 0 s nodes t → node_at (sizes_of p) v (length nodes) t ≡ Err read_failed → NodeIsCutOff p v b s
-unfolding node_fails
-node_breaks p v b s t nodes path others stack passed reads breaks =
-    (node_fails p v b s t read_failed nodes path others stack passed reads tt, breaks)
-
 node_as : (a c : Sizes) (v w count : ℕ) (s : Stream) (P : Result (Node × Stream) TextFault → Type 0) → a ≡ c → v ≡ w
     → P (node_at a v count s) → P (node_at c w count s)
 node_as a c v w count s P e d h = subst (λ (k : ℕ). P (node_at c k count s)) d (subst (λ (x : Sizes). P (node_at x v count s)) e h)
@@ -134,11 +124,9 @@ child_as a c v w count more s i e same_sizes same_version same_count h =
 reported_child : (p : Problem) (v : ℕ) (b : Bound) (s t : Stream) (nodes : List Node) (i : ℕ) → IsDeepNext p b nodes → length nodes ≡ i
     → ReadsNodes (sizes_of p) v 0 s nodes t → (e : CheckFault) → ExplainsChild (sizes_of p) v i t i e
     → ExplainsNodes p v b s e
-reported_child p v b s t nodes i d len reads (reported.Text f) c = (
-  c.0,
-  node_fails p v b s t f nodes d.path d.others d.stack d.passed reads
-      (subst (λ (k : ℕ). Fails f (node_at (sizes_of p) v k t)) (sym len) c.1),
-)
+reported_child p v b s t nodes i d len reads (reported.Text f) c =
+    node_fails p v b s t f nodes d.path d.others d.stack d.passed reads
+    (subst (λ (k : ℕ). node_at (sizes_of p) v k t ≡ Err f) (sym len) c)
 reported_child p v b s t nodes i d len reads (reported.Rule j f) c = absurd c
 reported_child p v b s t nodes i d len reads (reported.TooDeep j) c =
     let stack = next_stack d.path d.others c.1 in
@@ -156,7 +144,6 @@ reported_child p v b s t nodes i d len reads (reported.TooDeep j) c =
       last = omega (arith, length-append nodes (c.1 ∷ []), number);
       is = subst (IsDeepAt p b h.0) number deep;
     }
-reported_child p v b s t nodes i d len reads reported.OutOfMemory c = tt
 
 module _ (p : Problem) (v : ℕ) (b : Bound) (known : Bool) (H : List Node → Type 0) (s : Stream) (old : Reader) (t : Stream)
     (path : List Fact) (m : Sofar p v b known H s old t path) where
@@ -233,17 +220,6 @@ module _ (p : Problem) (v : ℕ) (b : Bound) (known : Bool) (H : List Node → T
         (child_as new.sizes (sizes_of p) new.version v new.count (i + 1) u (i + 1) e (ap (λ (r : Reader). r.sizes) goes.1 ∙ same_sizes)
         (ap (λ (r : Reader). r.version) goes.1 ∙ m.version) here child)
 
-    -- the node is a split whose children are too deep, and the failure of a read cuts off the first of them
-    pub sofar_deep_breaks : Stops p b path n TooDeep → known ≡ true → node_at new.sizes new.version new.count u ≡ Err read_failed
-        → NodeIsCutOff p v b s
-    sofar_deep_breaks stops k breaks =
-        let d = too_deep p b m.nodes path n (is_due goes.0).0 stops in
-        let count : length (m.nodes ++ n ∷ []) ≡ new.count = one_more n ∙ ap (λ (r : Reader). r.count) (sym goes.1) in
-        let fails = node_as new.sizes (sizes_of p) new.version v new.count u (λ r. r ≡ Err read_failed)
-        (ap (λ (r : Reader). r.sizes) goes.1 ∙ same_sizes) (ap (λ (r : Reader). r.version) goes.1 ∙ m.version) breaks in
-        node_breaks p v b s u (m.nodes ++ n ∷ []) d.path d.others d.stack d.passed (read_one k)
-        (ap (λ (i : ℕ). node_at (sizes_of p) v i u) count ∙ fails)
-
   -- the tree is whole: it derives the bound
   pub sofar_end : (new : Reader) (u : Stream) → IsReaderAfter old (Ok None) new → (known ≡ true → IsReadingOf old t (Ok None) u)
       → CheckedPart p v b known H s u
@@ -263,22 +239,16 @@ module _ (p : Problem) (v : ℕ) (b : Bound) (known : Bool) (H : List Node → T
           }
 
   -- the text of the due node fails
-  pub sofar_unread : (new : Reader) (u : Stream) (f : TextFault) → IsReaderAfter old (Err f) new → known ≡ true
-      → IsReadingOf old t (Err f) u → ExplainsNodes p v b s (fault_from_text f)
-  sofar_unread new u f goes k says =
-      let w = (is_due goes.0).0 in
-      let fails = node_as old.sizes (sizes_of p) old.version v old.count t (Fails f) same_sizes m.version says in
-      text_cases f (ExplainsNodes p v b s) tt
-      (λ n. (
-        n,
-        node_fails p v b s t f m.nodes path (pending path) w.stack w.passed (m.reads k)
-            (subst (λ (i : ℕ). Fails f (node_at (sizes_of p) v i t)) (sym m.count) fails),
-      ))
-
-  -- the failure of a read cuts off the due node
-  pub sofar_breaks : 0 < old.places → known ≡ true → node_at old.sizes old.version old.count t ≡ Err read_failed → NodeIsCutOff p v b s
-  sofar_breaks some k breaks =
+  pub sofar_fails : (f : TextFault) → 0 < old.places → known ≡ true → node_at old.sizes old.version old.count t ≡ Err f
+      → NodeFails p v b s f
+  sofar_fails f some k fails =
       let w = (is_due some).0 in
-      let fails = node_as old.sizes (sizes_of p) old.version v old.count t (λ r. r ≡ Err read_failed) same_sizes m.version breaks in
-      node_breaks p v b s t m.nodes path (pending path) w.stack w.passed (m.reads k) (ap (λ (i : ℕ). node_at (sizes_of p) v i t) m.count
-      ∙ fails)
+      let here = node_as old.sizes (sizes_of p) old.version v old.count t (λ r. r ≡ Err f) same_sizes m.version fails in
+      node_fails p v b s t f m.nodes path (pending path) w.stack w.passed (m.reads k)
+      (ap (λ (i : ℕ). node_at (sizes_of p) v i t) m.count ∙ here)
+
+  -- the reader refuses the text of the due node
+  pub sofar_unread : (new : Reader) (u : Stream) (f : TextFault) → IsReaderAfter old (Err f) new → known ≡ true
+      → IsReadingOf old t (Err f) u → is_environmental f ≡ false → NodeFails p v b s f
+  sofar_unread new u f goes k says calm =
+      sofar_fails f goes.0 k (told f (node_at old.sizes old.version old.count t) calm says)

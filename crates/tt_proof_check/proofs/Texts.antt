@@ -1,6 +1,9 @@
 -- The facts about the bytes that follow from a proof that was read whole, or from an error of it.
-use Rattle.std.proofs.Common.{◌≡◌, ℕ, ◌+◌, ◌<◌, Bool, true, List, [], ◌∷◌, ◌++◌, length, Some, Option, Result, Ok, Err, IfOk, IfErr, refl, sym, ap, subst, ◌∙◌, arith, append_assoc, append-nil, ◌⊎◌, inl, inr, is_some}
-use Rattle.std.specs.Prelude.{slice_get, MatchResult}
+use Rattle.std.proofs.Common.{◌≡◌, ℕ, ◌+◌, ◌<◌, Bool, true, List, [], ◌∷◌, ◌++◌, length, Some, Option, Result, Ok, Err, IfOk, refl, sym, ap, subst, ◌∙◌, arith, append_assoc, append-nil, ◌⊎◌, inl, inr, is_some}
+use Rattle.std.specs.Prelude.{slice_get}
+use Rattle.tt_stop.specs.Stops.{IfFault, UnlessStopped}
+use Rattle.tt_stop.specs.declared.stop.Stop.{Stop}
+use Rattle.tt_stop.specs.declared.stop.Stop.TheVariants.{Fault, ReadFailed, OutOfMemory}
 use Rattle.tt_text.specs.Feeds.{Stream, stream_at, fresh}
 use Rattle.tt_instance.specs.Problem.{Problem}
 use Rattle.tt_instance.specs.Limits.{IsInstance}
@@ -10,7 +13,6 @@ use Rattle.tt_proof_read.specs.Reads.{ReadsNodes, Reads}
 use Rattle.tt_proof_read.specs.Spelling.{SpellsProof}
 use Rattle.tt_proof_read.specs.Trees.{Tree, preorder, on_paths, IsShallow}
 use Rattle.tt_proof_read.specs.declared.fault.TextFault.{TextFault}
-use Rattle.tt_proof_read.specs.declared.fault.TextFault.TheVariants as text
 use Rattle.tt_proof_read.specs.declared.node.Node.{Node}
 use Rattle.tt_proof_read.proofs.ProofLaws.{reads_spelled, spelled_reads}
 use Rattle.tt_proof_read.proofs.Small.{are_small}
@@ -19,15 +21,18 @@ use Rattle.tt_proof_check.specs.declared.fault.CheckFault.TheVariants as reporte
 use Rattle.tt_proof_check.specs.Derives.{Derives, HoldsOfAll}
 use Rattle.tt_proof_check.specs.Visited.{IsVisitedProof}
 use Rattle.tt_proof_check.specs.Inner.CheckedPart.{Proved}
-use Rattle.tt_proof_check.specs.Streams.{IsProved, IsEnvironmental, stream_of, sizes_of, Fails, NodeFails, EndFails, IsReadTo, HasHeader, IsProofFault}
+use Rattle.tt_proof_check.specs.Streams.{IsProved, stream_of, sizes_of, NodeFails, EndFails, IsReadTo, HasHeader, IsProofFault}
 use Rattle.tt_proof_check.specs.Explains.{FailsAt, IsDeepAt}
 use Rattle.tt_proof_check.proofs.Determined.{begins_whole, same_header, compare, same_place}
 use Rattle.tt_proof_check.proofs.InOrder.{tree_passes, never_fails, never_deep}
 use Rattle.tt_proof_check.proofs.Sizes.{are_sizes_of}
 use Rattle.tt_proof_check.proofs.Soundness.{root_sound}
-use Rattle.tt_proof_check.proofs.TextFaults.{fails_silently}
 
--- -- if a tree is read and derives the bound, only silent errors are possible
+-- one reading doesn't give both a value and a fault
+pub only_one : {Y : Type 0} (read : Result Y TextFault) (y : Y) (f : TextFault) → read ≡ Ok y → read ≡ Err f → ⊥
+only_one read y f e h = cc
+
+-- -- if a tree is read and derives the bound, there is no fault
 
 module _ (p : Problem) (v : ℕ) (s noded : Stream) (tree : Tree) (reads : ReadsNodes (sizes_of p) v 0 s (preorder tree) noded) where
   -- no node is due after a whole tree
@@ -41,29 +46,27 @@ module _ (p : Problem) (v : ℕ) (s noded : Stream) (tree : Tree) (reads : Reads
       nothing [] h = cc
       nothing (x ∷ xs) h = cc
 
-  -- after nodes that some tree continues, an error in the text of a node is silent
-  pub node_silent : (f : TextFault) → ¬ (f ≡ text.OutOfMemory) → (nodes : List Node) (rest : Stream) (other : Tree) (next : Node)
+  -- after nodes that some tree continues, the text of a node is read
+  pub node_read : (f : TextFault) (nodes : List Node) (rest : Stream) (other : Tree) (next : Node)
       (behind : List Node) → ReadsNodes (sizes_of p) v 0 s nodes rest → preorder other ≡ nodes ++ next ∷ behind
-      → Fails f (node_at (sizes_of p) v (length nodes) rest) → IsEnvironmental (reported.Text f)
-  node_silent f n nodes rest other next behind reads_these begins fails =
+      → node_at (sizes_of p) v (length nodes) rest ≡ Err f → ⊥
+  node_read f nodes rest other next behind reads_these begins fails =
       elim (compare (sizes_of p) v 0 s rest noded nodes (preorder tree) reads_these reads) [
         | inl m ↦ onward m.0 m.1 m.2
-        | inr m ↦ absurd (none_due nodes m.0 other next behind m.1 begins)
+        | inr m ↦ none_due nodes m.0 other next behind m.1 begins
       ]
     where
-      onward : (more : List Node) → nodes ++ more ≡ preorder tree → ReadsNodes (sizes_of p) v (0 + length nodes) rest more noded
-          → IsEnvironmental (reported.Text f)
-      onward [] e r = absurd (none_due nodes [] other next behind (append-nil (preorder tree) ∙ sym e ∙ append-nil nodes) begins)
+      onward : (more : List Node) → nodes ++ more ≡ preorder tree → ReadsNodes (sizes_of p) v (0 + length nodes) rest more noded → ⊥
+      onward [] e r = none_due nodes [] other next behind (append-nil (preorder tree) ∙ sym e ∙ append-nil nodes) begins
       onward (x ∷ xs) e r =
           let here : length nodes ≡ 0 + length nodes = omega arith in
-          fails_silently f (node_at (sizes_of p) v (length nodes) rest) (x, r.0) (ap (λ (k : ℕ). node_at (sizes_of p) v k rest) here
-          ∙ r.1) n fails
+          only_one (node_at (sizes_of p) v (length nodes) rest) (x, r.0) f
+          (ap (λ (k : ℕ). node_at (sizes_of p) v k rest) here ∙ r.1) fails
 
-  -- after a whole tree, an error in the text of the end is silent
-  pub end_silent : (ended : Stream) → end_at noded ≡ Ok ended → (f : TextFault) → ¬ (f ≡ text.OutOfMemory)
-      → (other : Tree) (rest : Stream) → ReadsNodes (sizes_of p) v 0 s (preorder other) rest → Fails f (end_at rest)
-      → IsEnvironmental (reported.Text f)
-  end_silent ended finish f n other rest reads_these fails = fails_silently f (end_at rest) ended (ap end_at same ∙ finish) n fails
+  -- after a whole tree, the text of the end is read
+  pub end_read : (ended : Stream) → end_at noded ≡ Ok ended → (f : TextFault)
+      → (other : Tree) (rest : Stream) → ReadsNodes (sizes_of p) v 0 s (preorder other) rest → end_at rest ≡ Err f → ⊥
+  end_read ended finish f other rest reads_these fails = only_one (end_at rest) ended f (ap end_at same ∙ finish) fails
     where
       none : (k : ℕ) (x y : Stream) (more : List Node) → [] ≡ more → ReadsNodes (sizes_of p) v k x more y → x ≡ y
       none k x y more e r = subst (λ (l : List Node). ReadsNodes (sizes_of p) v k x l y) (sym e) r
@@ -94,21 +97,20 @@ module _ (p : Problem) (s : Stream) (v : ℕ) (b : Bound) (tree : Tree) (r : Rea
   bound_is known H c k h = ap (λ (x : (ℕ × Bound) × Stream). x.0.1) (same_header ((h.version, c), (h.reads k).headed) ((v, b), r.headed)
       (sym (h.reads k).header ∙ r.header))
 
-  pub only_silent : IsShallow tree → Derives p b [] tree → (e : CheckFault) → IsProofFault p s e → IsEnvironmental e
-  only_silent shallow d (reported.Text f) (n, inl h) = fails_silently f (header_at s) ((v, b), r.headed) r.header n h
-  only_silent shallow d (reported.Text f) (n, inr h) = elim (header_is (λ w c rest. NodeFails p w c rest f ⊎ EndFails p w c rest f) h) [
-    | inl a ↦ node_silent p v r.headed r.noded tree r.nodes f n a.nodes a.rest a.tree a.next a.more a.reads a.begins a.fails
-    | inr a ↦ end_silent p v r.headed r.noded tree r.nodes r.ended r.finish f n a.tree a.rest a.reads a.fails
+  pub faultless : IsShallow tree → Derives p b [] tree → (e : CheckFault) → IsProofFault p s e → ⊥
+  faultless shallow d (reported.Text f) (inl h) = only_one (header_at s) ((v, b), r.headed) f r.header h
+  faultless shallow d (reported.Text f) (inr h) = elim (header_is (λ w c rest. NodeFails p w c rest f ⊎ EndFails p w c rest f) h) [
+    | inl a ↦ node_read p v r.headed r.noded tree r.nodes f a.nodes a.rest a.tree a.next a.more a.reads a.begins a.fails
+    | inr a ↦ end_read p v r.headed r.noded tree r.nodes r.ended r.finish f a.tree a.rest a.reads a.fails
   ]
-  only_silent shallow d (reported.Rule i f) h =
+  faultless shallow d (reported.Rule i f) h =
       let a = header_is (λ w c rest. IsReadTo p w rest i (λ t. FailsAt p c t i f)) h in
-      absurd (never_fails p b tree a.tree i f (tree_passes p b tree shallow d)
-      (place_read p v r.headed r.noded tree r.nodes i (λ t. FailsAt p b t i f) a) a.is)
-  only_silent shallow d (reported.TooDeep i) h =
+      never_fails p b tree a.tree i f (tree_passes p b tree shallow d)
+      (place_read p v r.headed r.noded tree r.nodes i (λ t. FailsAt p b t i f) a) a.is
+  faultless shallow d (reported.TooDeep i) h =
       let a = header_is (λ w c rest. IsReadTo p w rest i (λ t. IsDeepAt p c t i)) h in
-      absurd (never_deep p b tree a.tree i (tree_passes p b tree shallow d)
-      (place_read p v r.headed r.noded tree r.nodes i (λ t. IsDeepAt p b t i) a) a.is)
-  only_silent shallow d reported.OutOfMemory h = inl refl
+      never_deep p b tree a.tree i (tree_passes p b tree shallow d)
+      (place_read p v r.headed r.noded tree r.nodes i (λ t. IsDeepAt p b t i) a) a.is
 
 -- ---- the bytes
 
@@ -127,12 +129,12 @@ module _ (p : Problem) (remaining : Option (List ℕ)) (H : List Node → Type 0
       → IsProofFault p (stream_of bytes) x
   reported_in bytes e x h = subst (λ (k : Option (List ℕ)). IsProofFault p (stream_at fresh k) x) e h
 
-  pub proof_found : (r : Result Bound CheckFault) → IfOk r (λ b. Proved p (is_some remaining) H (stream_at fresh remaining) b)
+  pub proof_found : (r : Result Bound (Stop CheckFault)) → IfOk r (λ b. Proved p (is_some remaining) H (stream_at fresh remaining) b)
       → IfOk r (λ b. (bytes : List ℕ) → remaining ≡ Some bytes → IsProved p bytes b)
   proof_found (Ok b) h = λ bytes e. found_in bytes e b h
   proof_found (Err x) h = tt
 
-  pub proof_visited : (r : Result Bound CheckFault) → IfOk r (λ b. Proved p (is_some remaining) H (stream_at fresh remaining) b)
+  pub proof_visited : (r : Result Bound (Stop CheckFault)) → IfOk r (λ b. Proved p (is_some remaining) H (stream_at fresh remaining) b)
       → IfOk r (IsVisitedProof p remaining H)
   proof_visited (Ok b) h = record {
     version = h.version;
@@ -144,33 +146,36 @@ module _ (p : Problem) (remaining : Option (List ℕ)) (H : List Node → Type 0
   }
   proof_visited (Err x) h = tt
 
-  pub proof_holds : (r : Result Bound CheckFault) → IfOk r (λ b. Proved p (is_some remaining) H (stream_at fresh remaining) b)
+  pub proof_holds : (r : Result Bound (Stop CheckFault)) → IfOk r (λ b. Proved p (is_some remaining) H (stream_at fresh remaining) b)
       → IfOk r (HoldsOfAll p)
   proof_holds (Ok b) h = root_sound p b h.tree h.derives
   proof_holds (Err x) h = tt
 
-  pub proof_only : IsInstance p → (r : Result Bound CheckFault)
+  pub proof_only : IsInstance p → (r : Result Bound (Stop CheckFault))
       → IfOk r (λ b. Proved p (is_some remaining) H (stream_at fresh remaining) b)
-      → (is_some remaining ≡ true → IfErr r (λ x. IsProofFault p (stream_at fresh remaining) x))
-      → (bytes : List ℕ) (b : Bound) → remaining ≡ Some bytes → IsProved p bytes b → MatchResult r (λ c. c ≡ b) IsEnvironmental
+      → (is_some remaining ≡ true → IfFault r (λ x. IsProofFault p (stream_at fresh remaining) x))
+      → (bytes : List ℕ) (b : Bound) → remaining ≡ Some bytes → IsProved p bytes b → UnlessStopped r (λ k. k ≡ Ok b)
   proof_only is r proved fault bytes b e h =
       let reads = spelled_reads p (sizes_of p) (are_sizes_of p) (are_small p (sizes_of p) is (are_sizes_of p)) bytes h.0 b h.1 h.2 in
       on r proved fault reads
     where
-      on : (x : Result Bound CheckFault) → IfOk x (λ c. Proved p (is_some remaining) H (stream_at fresh remaining) c)
-          → (is_some remaining ≡ true → IfErr x (λ y. IsProofFault p (stream_at fresh remaining) y))
-          → Reads (sizes_of p) (stream_of bytes) h.0 b h.1 → MatchResult x (λ c. c ≡ b) IsEnvironmental
-      on (Ok c) done reported reads = bound_is p (stream_of bytes) h.0 b h.1 reads true H c refl (proved_in bytes e c done)
-      on (Err x) done reported reads = only_silent p (stream_of bytes) h.0 b h.1 reads h.2.within.depth h.3 x
-          (reported_in bytes e x (reported (ap is_some e)))
+      on : (x : Result Bound (Stop CheckFault)) → IfOk x (λ c. Proved p (is_some remaining) H (stream_at fresh remaining) c)
+          → (is_some remaining ≡ true → IfFault x (λ y. IsProofFault p (stream_at fresh remaining) y))
+          → Reads (sizes_of p) (stream_of bytes) h.0 b h.1 → UnlessStopped x (λ k. k ≡ Ok b)
+      on (Ok c) done told reads =
+          ap (λ k. Ok k) (bound_is p (stream_of bytes) h.0 b h.1 reads true H c refl (proved_in bytes e c done))
+      on (Err (Fault x)) done told reads =
+          absurd (faultless p (stream_of bytes) h.0 b h.1 reads h.2.within.depth h.3 x (reported_in bytes e x (told (ap is_some e))))
+      on (Err ReadFailed) done told reads = tt
+      on (Err OutOfMemory) done told reads = tt
 
--- an error of bytes that spell a proof is silent
-pub proved_silent : (p : Problem) → IsInstance p → (bytes : List ℕ) (b : Bound) → IsProved p bytes b → (e : CheckFault)
-    → IsProofFault p (stream_of bytes) e → IsEnvironmental e
-proved_silent p is bytes b h e reported =
-    only_silent p (stream_of bytes) h.0 b h.1
+-- bytes that spell a proof have no fault
+pub proved_faultless : (p : Problem) → IsInstance p → (bytes : List ℕ) (b : Bound) → IsProved p bytes b → (e : CheckFault)
+    → IsProofFault p (stream_of bytes) e → ⊥
+proved_faultless p is bytes b h e told =
+    faultless p (stream_of bytes) h.0 b h.1
     (spelled_reads p (sizes_of p) (are_sizes_of p) (are_small p (sizes_of p) is (are_sizes_of p)) bytes h.0 b h.1 h.2)
-    h.2.within.depth h.3 e reported
+    h.2.within.depth h.3 e told
 
 -- bytes spell at most one version, one bound and one tree
 pub spelled_once : (p : Problem) → IsInstance p → (bytes : List ℕ) (v w : ℕ) (b c : Bound) (x y : Tree) → SpellsProof p bytes v b x

@@ -12,8 +12,8 @@ use Rattle.tt_proof_read.specs.Trees.{Tree, Tip, Fork, with_fact, preorder, OnPa
 use Rattle.tt_proof_read.specs.declared.node.Node.{Node}
 use Rattle.tt_proof_read.specs.declared.node.Node.TheVariants.{Split, Leaf}
 use Rattle.tt_proof_read.proofs.Depth.{leaves_low}
-use Rattle.tt_proof_check.specs.declared.walk.Stop.{Stop}
-use Rattle.tt_proof_check.specs.declared.walk.Stop.TheVariants.{Rule, TooDeep}
+use Rattle.tt_proof_check.specs.declared.walk.NodeStop.{NodeStop}
+use Rattle.tt_proof_check.specs.declared.walk.NodeStop.TheVariants.{Rule, TooDeep}
 use Rattle.tt_proof_check.specs.Derives.{Derives, Proves}
 use Rattle.tt_proof_check.specs.Inner.Pending.{pending}
 use Rattle.tt_proof_check.specs.Inner.Steps.{Steps, Stops}
@@ -81,7 +81,7 @@ pub steps_as : (p q : Problem) (b c : Bound) (path : List Fact) (n : Node) (next
     → Steps q c path n next
 steps_as p q b c path n next e d h = subst (λ (x : Bound). Steps q x path n next) d (subst (λ (x : Problem). Steps x b path n next) e h)
 
-pub stops_as : (p q : Problem) (b c : Bound) (path : List Fact) (n : Node) (stop : Stop) → p ≡ q → b ≡ c → Stops p b path n stop
+pub stops_as : (p q : Problem) (b c : Bound) (path : List Fact) (n : Node) (stop : NodeStop) → p ≡ q → b ≡ c → Stops p b path n stop
     → Stops q c path n stop
 stops_as p q b c path n stop e d h = subst (λ (x : Bound). Stops q x path n stop) d (subst (λ (x : Problem). Stops x b path n stop) e h)
 

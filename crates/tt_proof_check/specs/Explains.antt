@@ -11,7 +11,7 @@ use Rattle.tt_proof_read.specs.Trees.{Tree, preorder, OnPath, on_paths, IsPreord
 use Rattle.tt_proof_read.specs.declared.node.Node.{Node}
 use Rattle.tt_proof_read.specs.declared.node.Node.TheVariants as node
 use Rattle.tt_proof_check.specs.declared.fault.NodesFault.{NodesFault}
-use Rattle.tt_proof_check.specs.declared.fault.NodesFault.TheVariants.{NotATree, Rule, TooDeep, OutOfMemory}
+use Rattle.tt_proof_check.specs.declared.fault.NodesFault.TheVariants.{NotATree, Rule, TooDeep}
 use Rattle.tt_path.specs.declared.path.TheConstants.{MAX_FACTS}
 
 -- whether a node is right on its path: a leaf has to be, a split always is
@@ -40,9 +40,8 @@ pub record IsDeepAt (p : Problem) (b : Bound) (tree : Tree) (i : ℕ) : Type 0 w
   pub deep : MAX_FACTS < length path
   pub before : All (Passes p b) (take i (on_paths [] tree))
 
--- As the error reports, the nodes are no tree, or the first that does not pass has this number; being out of memory says nothing.
+-- As the fault says, the nodes are no tree, or the first that does not pass has this number.
 abbrev pub Explains : Problem → Bound → List Node → NodesFault → Type 0
 Explains p b nodes NotATree = ¬ (IsPreorder nodes)
 Explains p b nodes (Rule i f) = (tree : Tree) × (preorder tree ≡ nodes) × FailsAt p b tree i f
 Explains p b nodes (TooDeep i) = (tree : Tree) × (preorder tree ≡ nodes) × IsDeepAt p b tree i
-Explains p b nodes OutOfMemory = ⊤

@@ -1,26 +1,17 @@
 -- The facts about a proof that are known after a failed read.
-use Rattle.std.specs.Prelude.{◌≡◌, ℕ, true, is_some, List, length, Option, Some, Err, ◌⊎◌}
+use Rattle.std.specs.Prelude.{◌≡◌, ℕ, true, is_some, List, Option, Some}
 use Rattle.std.specs.Io.KnownBytes.{Consumes}
 use Rattle.tt_text.specs.CutShort.{cut_short, rest_of, cut_at, MayFail}
 use Rattle.tt_text.specs.Feeds.{Stream, Fed}
 use Rattle.tt_instance.specs.Problem.{Problem}
 use Rattle.tt_instance.specs.Spelling.{Spells}
-use Rattle.tt_leaf.specs.declared.leaf.Bound.{Bound}
 use Rattle.tt_proof_read.specs.Faults.{read_failed}
-use Rattle.tt_proof_read.specs.Reading.{header_at, node_at, end_at}
-use Rattle.tt_proof_check.specs.Streams.{stream_of, sizes_of, NodeFails, EndFails, HasHeader}
+use Rattle.tt_proof_check.specs.Streams.{stream_of, IsProofFault}
+use Rattle.tt_proof_check.specs.declared.fault.CheckFault.TheVariants.{Text}
 
--- after a header with this version and bound, nodes have been read, each of which passes, and the failure cuts off the next node
-abbrev pub NodeIsCutOff : Problem → ℕ → Bound → Stream → Type 0
-NodeIsCutOff p v b s = (x : NodeFails p v b s read_failed) × (node_at (sizes_of p) v (length x.nodes) x.rest ≡ Err read_failed)
-
--- the tree is whole and derives the bound, and the failure cuts off the end
-abbrev pub EndIsCutOff : Problem → ℕ → Bound → Stream → Type 0
-EndIsCutOff p v b s = (x : EndFails p v b s read_failed) × (end_at x.rest ≡ Err read_failed)
-
--- All of the stream has been read and checked, up to the failure at its end.
+-- All of the stream has been read and checked, up to the failure at its end, which is its first fault.
 abbrev pub IsCutOff : Problem → Stream → Type 0
-IsCutOff p s = (header_at s ≡ Err read_failed) ⊎ HasHeader s (λ v b rest. NodeIsCutOff p v b rest ⊎ EndIsCutOff p v b rest)
+IsCutOff p s = IsProofFault p s (Text read_failed)
 
 -- The source gave some of the bytes before the read failed, and the others are left. P holds for the stream that a feed gives for these bytes.
 abbrev pub HoldsOfGiven : List ℕ → Option (List ℕ) → (Stream → Type 0) → Type 0

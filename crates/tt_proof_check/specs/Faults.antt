@@ -1,22 +1,22 @@
--- The check error that an error of the text becomes, and how a failed read and being out of memory are reported.
-use Rattle.std.specs.Prelude.{◌≡◌, Bool, false, ⊤}
-use Rattle.tt_proof_read.specs.Faults as read
+-- What becomes of a fault of the reader of proofs.
+use Rattle.std.specs.Prelude.{◌≡◌, ⊤}
+use Rattle.tt_text.specs.declared.feed.FeedFault.TheVariants as feed
+use Rattle.tt_stop.specs.declared.stop.Stop.{Stop}
+use Rattle.tt_stop.specs.declared.stop.Stop.TheVariants.{Fault, ReadFailed, OutOfMemory}
 use Rattle.tt_proof_read.specs.declared.fault.TextFault.{TextFault}
 use Rattle.tt_proof_read.specs.declared.fault.TextFault.TheVariants as text
 use Rattle.tt_proof_check.specs.declared.fault.CheckFault.{CheckFault}
-use Rattle.tt_proof_check.specs.declared.fault.CheckFault.TheVariants.{Text, OutOfMemory}
+use Rattle.tt_proof_check.specs.declared.fault.CheckFault.TheVariants.{Text, Rule, TooDeep}
 
--- The check error for an error of the text; being out of memory is reported as itself.
-abbrev pub fault_from_text : TextFault → CheckFault
-fault_from_text text.OutOfMemory = OutOfMemory
-fault_from_text f = Text f
+-- Why a check is stopped by a fault of the reader of proofs.
+abbrev pub stop_from_text : TextFault → Stop CheckFault
+stop_from_text text.OutOfMemory = OutOfMemory
+stop_from_text (text.Feed feed.OutOfMemory) = OutOfMemory
+stop_from_text (text.Feed feed.Read) = ReadFailed
+stop_from_text f = Fault (Text f)
 
--- Whether an error is a failed read.
-abbrev pub is_failed_read : CheckFault → Bool
-is_failed_read (Text f) = read.is_failed_read f
-is_failed_read _ = false
-
--- Being out of memory is reported as itself, and not as an error of the text.
-abbrev pub OutOfMemoryIsNoTextFault : CheckFault → Type 0
-OutOfMemoryIsNoTextFault (Text f) = ¬ (f ≡ text.OutOfMemory)
-OutOfMemoryIsNoTextFault _ = ⊤
+-- The fault holds no fault of memory or of a failed read: these would have stopped the check.
+abbrev pub HoldsNoStop : CheckFault → Type 0
+HoldsNoStop (Text f) = stop_from_text f ≡ Fault (Text f)
+HoldsNoStop (Rule i f) = ⊤
+HoldsNoStop (TooDeep i) = ⊤

@@ -1,32 +1,24 @@
 -- The meaning for the text of the results of a checker that reads node by node.
-use Rattle.std.specs.Prelude.{◌≡◌, ℕ, ◌+◌, List, [], ◌∷◌, ◌++◌, length, take, All, Result, Ok, ⊤, ◌⊎◌}
+use Rattle.std.specs.Prelude.{◌≡◌, ℕ, ◌+◌, List, [], ◌∷◌, ◌++◌, length, take, All, Ok, Err, ◌⊎◌}
 use Rattle.tt_text.specs.Feeds.{Stream, stream_from}
 use Rattle.tt_text.specs.declared.feed.TheConstants.{MAX_BYTES}
-use Rattle.tt_text.specs.Reading.{FailsUnless}
-use Rattle.tt_text.specs.declared.feed.FeedFault.TheVariants as feed
 use Rattle.tt_instance.specs.Problem.{Problem}
 use Rattle.tt_leaf.specs.declared.leaf.Bound.{Bound}
-use Rattle.tt_proof_read.specs.Faults.{is_environmental}
 use Rattle.tt_proof_read.specs.Reading.{header_at, node_at, end_at}
 use Rattle.tt_proof_read.specs.Reads.{ReadsNodes}
 use Rattle.tt_proof_read.specs.Spelling.{SpellsProof}
 use Rattle.tt_proof_read.specs.Trees.{Tree, preorder, on_paths, IsShallow}
 use Rattle.tt_proof_read.specs.declared.fault.TextFault.{TextFault}
-use Rattle.tt_proof_read.specs.declared.fault.TextFault.TheVariants as text
 use Rattle.tt_proof_read.specs.declared.node.Node.{Node}
 use Rattle.tt_proof_read.specs.declared.sizes.Sizes.{Sizes}
 use Rattle.tt_proof_check.specs.declared.fault.CheckFault.{CheckFault}
-use Rattle.tt_proof_check.specs.declared.fault.CheckFault.TheVariants.{Text, Rule, TooDeep, OutOfMemory}
+use Rattle.tt_proof_check.specs.declared.fault.CheckFault.TheVariants.{Text, Rule, TooDeep}
 use Rattle.tt_proof_check.specs.Derives.{Derives}
 use Rattle.tt_proof_check.specs.Explains.{Passes, FailsAt, IsDeepAt}
 
 -- whether the bytes spell a tree that derives the bound
 abbrev pub IsProved : Problem → List ℕ → Bound → Type 0
 IsProved p bytes b = (version : ℕ) × (tree : Tree) × SpellsProof p bytes version b tree × Derives p b [] tree
-
--- whether the error is being out of memory or a failed read, which say nothing about the bytes
-abbrev pub IsEnvironmental : CheckFault → Type 0
-IsEnvironmental e = (e ≡ OutOfMemory) ⊎ (e ≡ Text (text.Feed feed.Read))
 
 -- the stream that a feed gives for the bytes
 abbrev pub stream_of : List ℕ → Stream
@@ -42,10 +34,6 @@ sizes_of p = record {
   periods = p.periods;
 }
 
--- whether reading the text gives exactly this error; a silent error says nothing about the text
-abbrev pub Fails : {Y : Type 0} → TextFault → Result Y TextFault → Type 0
-Fails f read = FailsUnless is_environmental f read
-
 -- ---- the nodes, after a header with this version and bound
 
 -- some tree continues the nodes that have been read, each of which passes, and the text of the next node fails
@@ -58,7 +46,7 @@ pub record NodeFails (p : Problem) (v : ℕ) (b : Bound) (s : Stream) (f : TextF
   pub more : List Node
   pub begins : preorder tree ≡ nodes ++ next ∷ more
   pub passed : All (Passes p b) (take (length nodes) (on_paths [] tree))
-  pub fails : Fails f (node_at (sizes_of p) v (length nodes) rest)
+  pub fails : node_at (sizes_of p) v (length nodes) rest ≡ Err f
 
 -- the nodes up to the one at i have been read, and some tree that begins with them has the property
 pub record IsReadTo (p : Problem) (v : ℕ) (s : Stream) (i : ℕ) (P : Tree → Type 0) : Type 0 where
@@ -84,11 +72,10 @@ pub record EndFails (p : Problem) (v : ℕ) (b : Bound) (s : Stream) (f : TextFa
   pub reads : ReadsNodes (sizes_of p) v 0 s (preorder tree) rest
   pub shallow : IsShallow tree
   pub derives : Derives p b [] tree
-  pub fails : Fails f (end_at rest)
+  pub fails : end_at rest ≡ Err f
 
 -- the meaning of an error for a text for which a feed gives this stream
 abbrev pub IsProofFault : Problem → Stream → CheckFault → Type 0
-IsProofFault p s (Text f) = ¬ (f ≡ text.OutOfMemory) × (Fails f (header_at s) ⊎ HasHeader s (λ v b rest. NodeFails p v b rest f ⊎ EndFails p v b rest f))
+IsProofFault p s (Text f) = (header_at s ≡ Err f) ⊎ HasHeader s (λ v b rest. NodeFails p v b rest f ⊎ EndFails p v b rest f)
 IsProofFault p s (Rule i f) = HasHeader s (λ v b rest. IsReadTo p v rest i (λ tree. FailsAt p b tree i f))
 IsProofFault p s (TooDeep i) = HasHeader s (λ v b rest. IsReadTo p v rest i (λ tree. IsDeepAt p b tree i))
-IsProofFault p s OutOfMemory = ⊤

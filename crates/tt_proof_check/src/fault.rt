@@ -1,20 +1,22 @@
-//! The results and the errors of the checker.
+//! The results and the faults of the checker.
 
+ghost use Rattle.tt_proof_check.specs.Faults.{stop_from_text};
+ghost use Rattle.tt_proof_check.specs.Verdicts.{stop_from_instance, stop_from_solution, stop_from_check};
 ghost use Rattle.std.specs.Prelude.{◌≡◌};
-ghost use Rattle.tt_proof_check.specs.declared.fault.CheckFault.TheVariants.{OutOfMemory};
 
-use std::alloc::{AllocError, AllocFailed};
 use thiserror::Error;
 use tt_instance_read::InstanceFault;
 use tt_leaf_rules::RuleFault;
 use tt_proof_read::TextFault;
 use tt_rules::Score;
+use tt_stop::Stop;
 use tt_table::SolutionFault;
+use tt_text::FeedFault;
 
-/// The reason why a proof is refused. Nodes are numbered from 0 in the order of the file.
+/// Why a proof is refused. Nodes are numbered from 0 in the order of the file.
 #[derive(Clone, Copy, Debug, PartialEq, Eq, Error)]
 pub enum CheckFault {
-    /// The text is no proof; being out of memory is reported as `OutOfMemory`.
+    /// The text is no proof.
     #[error("{0}")]
     Text(TextFault),
     /// The leaf at this node does not close it.
@@ -23,40 +25,21 @@ pub enum CheckFault {
     /// This node is below more than 65,536 splits.
     #[error("TooDeep at node {0}")]
     TooDeep(u32),
-    #[error("out of memory")]
-    OutOfMemory,
 }
 
-impl From<AllocError> for CheckFault {
-    ghost from_gives = { λ _ e. e ≡ OutOfMemory };
-
-    fn from(_e: AllocError) -> CheckFault {
-        CheckFault::OutOfMemory
+/// Returns why a check is stopped by a fault of the reader of proofs.
+pub fn stop_from_text(fault: TextFault) -> Stop<CheckFault>
+    ensures { result ≡ stop_from_text fault }
+{
+    match fault {
+        TextFault::OutOfMemory => Stop::OutOfMemory,
+        TextFault::Feed(FeedFault::OutOfMemory) => Stop::OutOfMemory,
+        TextFault::Feed(FeedFault::Read) => Stop::ReadFailed,
+        fault => Stop::Fault(CheckFault::Text(fault)),
     }
 }
 
-impl<T: Drop> From<AllocFailed<T>> for CheckFault {
-    ghost from_gives = { λ _ e. e ≡ OutOfMemory };
-
-    fn from(_e: AllocFailed<T>) -> CheckFault {
-        CheckFault::OutOfMemory
-    }
-}
-
-impl From<TextFault> for CheckFault {
-    ghost use Rattle.tt_proof_check.specs.Faults.{fault_from_text};
-
-    ghost from_gives = { λ f e. e ≡ fault_from_text f };
-
-    fn from(fault: TextFault) -> CheckFault {
-        match fault {
-            TextFault::OutOfMemory => CheckFault::OutOfMemory,
-            fault => CheckFault::Text(fault),
-        }
-    }
-}
-
-/// The reason why a list of nodes is refused. Nodes are numbered from 0 in the order of the list.
+/// Why a list of nodes is refused. Nodes are numbered from 0 in the order of the list.
 #[derive(Clone, Copy, Debug, PartialEq, Eq, Error)]
 pub enum NodesFault {
     /// The nodes are not one tree in preorder.
@@ -66,18 +49,6 @@ pub enum NodesFault {
     Rule(usize, RuleFault),
     #[error("TooDeep at node {0}")]
     TooDeep(usize),
-    #[error("out of memory")]
-    OutOfMemory,
-}
-
-impl From<AllocError> for NodesFault {
-    ghost use Rattle.tt_proof_check.specs.declared.fault.NodesFault.TheVariants as nodes;
-
-    ghost from_gives = { λ _ e. e ≡ nodes.OutOfMemory };
-
-    fn from(_e: AllocError) -> NodesFault {
-        NodesFault::OutOfMemory
-    }
 }
 
 /// The verdict on an instance, a solution and a proof.
@@ -89,7 +60,7 @@ pub enum Verdict {
     Breaks(Score),
 }
 
-/// The reason why there is no verdict.
+/// Why there is no verdict.
 #[derive(Clone, Copy, Debug, PartialEq, Eq, Error)]
 pub enum CertifyFault {
     #[error("instance: {0}")]
@@ -98,59 +69,35 @@ pub enum CertifyFault {
     Solution(SolutionFault),
     #[error("proof: {0}")]
     Proof(CheckFault),
-    #[error("out of memory")]
-    OutOfMemory,
 }
 
-impl From<AllocError> for CertifyFault {
-    ghost use Rattle.std.specs.Prelude.{◌≡◌};
-    ghost use Rattle.tt_proof_check.specs.declared.fault.CertifyFault.TheVariants as certify;
-
-    ghost from_gives = { λ _ e. e ≡ certify.OutOfMemory };
-
-    fn from(_e: AllocError) -> CertifyFault {
-        CertifyFault::OutOfMemory
+/// Returns why there is no verdict after a fault of the reader of instances.
+pub fn stop_from_instance(fault: InstanceFault) -> Stop<CertifyFault>
+    ensures { result ≡ stop_from_instance fault }
+{
+    match fault {
+        InstanceFault::OutOfMemory => Stop::OutOfMemory,
+        fault => Stop::Fault(CertifyFault::Instance(fault)),
     }
 }
 
-impl From<InstanceFault> for CertifyFault {
-    ghost use Rattle.std.specs.Prelude.{◌≡◌};
-    ghost use Rattle.tt_proof_check.specs.Verdicts.{fault_from_instance};
-
-    ghost from_gives = { λ f e. e ≡ fault_from_instance f };
-
-    fn from(fault: InstanceFault) -> CertifyFault {
-        match fault {
-            InstanceFault::OutOfMemory => CertifyFault::OutOfMemory,
-            fault => CertifyFault::Instance(fault),
-        }
+/// Returns why there is no verdict after a fault of the reader of solutions.
+pub fn stop_from_solution(fault: SolutionFault) -> Stop<CertifyFault>
+    ensures { result ≡ stop_from_solution fault }
+{
+    match fault {
+        SolutionFault::OutOfMemory => Stop::OutOfMemory,
+        fault => Stop::Fault(CertifyFault::Solution(fault)),
     }
 }
 
-impl From<SolutionFault> for CertifyFault {
-    ghost use Rattle.std.specs.Prelude.{◌≡◌};
-    ghost use Rattle.tt_proof_check.specs.Verdicts.{fault_from_solution};
-
-    ghost from_gives = { λ f e. e ≡ fault_from_solution f };
-
-    fn from(fault: SolutionFault) -> CertifyFault {
-        match fault {
-            SolutionFault::OutOfMemory => CertifyFault::OutOfMemory,
-            fault => CertifyFault::Solution(fault),
-        }
-    }
-}
-
-impl From<CheckFault> for CertifyFault {
-    ghost use Rattle.std.specs.Prelude.{◌≡◌};
-    ghost use Rattle.tt_proof_check.specs.Verdicts.{fault_from_check};
-
-    ghost from_gives = { λ f e. e ≡ fault_from_check f };
-
-    fn from(fault: CheckFault) -> CertifyFault {
-        match fault {
-            CheckFault::OutOfMemory => CertifyFault::OutOfMemory,
-            fault => CertifyFault::Proof(fault),
-        }
+/// Returns why there is no verdict after the check of a proof was stopped.
+pub fn stop_from_check(stop: Stop<CheckFault>) -> Stop<CertifyFault>
+    ensures { result ≡ stop_from_check stop }
+{
+    match stop {
+        Stop::Fault(fault) => Stop::Fault(CertifyFault::Proof(fault)),
+        Stop::ReadFailed => Stop::ReadFailed,
+        Stop::OutOfMemory => Stop::OutOfMemory,
     }
 }

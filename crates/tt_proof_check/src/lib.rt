@@ -9,7 +9,7 @@ mod stream;
 mod visitor;
 mod walk;
 
-pub use fault::{CertifyFault, CheckFault, NodesFault, Verdict};
+pub use fault::{CertifyFault, CheckFault, NodesFault, Verdict, stop_from_text};
 pub use headline::certify;
 pub use laws::{derived_bounds_hold, files_have_one_fault, proofs_have_one_fault};
 pub use preorder::check_nodes;

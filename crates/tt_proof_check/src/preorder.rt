@@ -1,34 +1,41 @@
 //! Lists of nodes: checks that they are a tree that derives a bound.
 
-ghost use Rattle.std.specs.Prelude.{◌≡◌, [], IsOkUnless, IfErr, OnOk, All};
+ghost use Rattle.std.specs.Prelude.{◌≡◌, [], false, Err, IsOkUnless, OnOk, All};
+ghost use Rattle.tt_stop.specs.Stops.{IfFault, is_read_failed};
 ghost use Rattle.tt_proof_check.specs.Derives.{Proves, HoldsOfAll};
 ghost use Rattle.tt_proof_read.specs.Trees.{IsPreorder};
 ghost use Rattle.tt_proof_check.specs.Nodes.{IsNodeOf};
 ghost use Rattle.tt_proof_check.specs.Explains.{Explains};
 
 use crate::fault::NodesFault;
-use crate::walk::{Stop, check_node};
+use crate::walk::{NodeStop, check_node};
 use std::alloc::Global;
 use tt_instance::Instance;
 use tt_leaf::Bound;
 use tt_path::Path;
 use tt_path_trail::TrailPath;
 use tt_proof_read::{Node, is_tree};
+use tt_stop::Stop;
 
 /// Checks the nodes of a tree, each on its path.
-fn check_each<'i, P: Path<'i>>(path: &mut P, bound: Bound, nodes: &[Node]) -> Result<(), NodesFault>
+fn check_each<'i, P: Path<'i>>(
+    path: &mut P,
+    bound: Bound,
+    nodes: &[Node],
+) -> Result<(), Stop<NodesFault>>
     requires root { P.facts path.old ≡ [] }
     requires tree { IsPreorder nodes.now }
     requires nodes { All (IsNodeOf (P.problem path.old)) nodes.now }
     ensures derived { OnOk result (Proves (P.problem path.old) bound nodes.now) }
-    ensures fault { IfErr result (λ e. Explains (P.problem path.old) bound nodes.now e) }
+    ensures fault { IfFault result (λ f. Explains (P.problem path.old) bound nodes.now f) }
+    ensures unread { is_read_failed result ≡ false }
 {
     for (i, node) in nodes.iter().enumerate() {
         match check_node(path, bound, node) {
             Ok(()) => {}
-            Err(Stop::Rule(fault)) => return Err(NodesFault::Rule(i, fault)),
-            Err(Stop::TooDeep) => return Err(NodesFault::TooDeep(i + 1)),
-            Err(Stop::OutOfMemory) => return Err(NodesFault::OutOfMemory),
+            Err(NodeStop::Rule(fault)) => return Err(Stop::Fault(NodesFault::Rule(i, fault))),
+            Err(NodeStop::TooDeep) => return Err(Stop::Fault(NodesFault::TooDeep(i + 1))),
+            Err(NodeStop::OutOfMemory) => return Err(Stop::OutOfMemory),
         }
     }
     Ok(())
@@ -40,19 +47,21 @@ pub fn check_nodes(
     instance: &Instance<'_>,
     bound: Bound,
     nodes: &[Node],
-) -> Result<(), NodesFault>
+) -> Result<(), Stop<NodesFault>>
     requires { All (IsNodeOf instance.now) nodes.now }
 
     ensures derived { OnOk result (Proves instance.now bound nodes.now) }
-    ensures only { Proves instance.now bound nodes.now → IsOkUnless result NodesFault.OutOfMemory }
+    ensures only { Proves instance.now bound nodes.now → IsOkUnless result Stop.OutOfMemory }
     ensures holds { OnOk result (HoldsOfAll instance.now bound) }
 
     // The error that the nodes are no tree is reported before any other.
-    ensures only_trees { ¬ (IsPreorder nodes.now) → result ≡ Err NodesFault.NotATree }
-    ensures fault { IfErr result (λ e. Explains instance.now bound nodes.now e) }
+    ensures only_trees { ¬ (IsPreorder nodes.now) → result ≡ Err (Stop.Fault NodesFault.NotATree) }
+    ensures fault { IfFault result (λ f. Explains instance.now bound nodes.now f) }
+    // It reads nothing.
+    ensures unread { is_read_failed result ≡ false }
 {
     if !is_tree(nodes) {
-        return Err(NodesFault::NotATree);
+        return Err(Stop::Fault(NodesFault::NotATree));
     }
     let mut path = TrailPath::new(alloc, instance)?;
     check_each(&mut path, bound, nodes)

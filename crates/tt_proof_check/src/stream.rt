@@ -1,37 +1,38 @@
 //! Proofs that are checked as they are read.
 
-ghost use Rattle.std.specs.Prelude.{◌≡◌, ◌<◌, ◌≤◌, ℕ, List, [], length, true, if◌then◌else◌, is_some, Some, None, Err, OnOk, IfOk, IfErr, MatchResult};
+ghost use Rattle.std.specs.Prelude.{◌≡◌, ◌<◌, ◌≤◌, ℕ, List, [], length, true, if◌then◌else◌, is_some, Some, None, Ok, Err, OnOk, IfOk, IfErr};
+ghost use Rattle.tt_stop.specs.Stops.{OnFault, IfFault, UnlessStopped, is_failed_read, is_read_failed};
 ghost use Rattle.tt_path.specs.declared.path.TheConstants.{MAX_FACTS};
 ghost use Rattle.tt_leaf.specs.declared.leaf.Bound.{Bound};
-ghost use Rattle.tt_text.specs.Failures.{is_err_and};
 ghost use Rattle.tt_text.specs.Feeds.{stream_at, fresh};
 ghost use Rattle.tt_proof_read.specs.Answers.{StaysKnown};
 ghost use Rattle.tt_proof_read.specs.Faults.{read_failed};
 ghost use Rattle.tt_proof_read.specs.Reading.{node_at};
 ghost use Rattle.tt_proof_read.specs.Sizes.{AreSizes};
 ghost use Rattle.tt_proof_check.specs.Derives.{HoldsOfAll};
-ghost use Rattle.tt_proof_check.specs.FailedReads.{NodeIsCutOff, IsCutOff, IsCheckedUpToFailedRead, UpToFailure, BeforeFailure};
-ghost use Rattle.tt_proof_check.specs.Faults.{OutOfMemoryIsNoTextFault, is_failed_read};
+ghost use Rattle.tt_proof_check.specs.FailedReads.{IsCutOff, IsCheckedUpToFailedRead, UpToFailure, BeforeFailure};
+ghost use Rattle.tt_proof_check.specs.Faults.{HoldsNoStop};
 ghost use Rattle.tt_proof_check.specs.Visited.{Visited, Unvisited, IsVisitedProof};
 ghost use Rattle.tt_proof_check.specs.Nodes.{IsNodeOf};
 ghost use Rattle.tt_proof_check.specs.Inner.Steps.{Steps, Stops};
 ghost use Rattle.tt_proof_check.specs.Inner.CheckedPart.{CheckedPart, Proved, ExplainsNodes, ExplainsChild};
-ghost use Rattle.tt_proof_check.specs.Streams.{stream_of, IsProved, IsEnvironmental, IsProofFault};
+ghost use Rattle.tt_proof_check.specs.Streams.{stream_of, NodeFails, IsProved, IsProofFault};
 
-use crate::fault::CheckFault;
+use crate::fault::{CheckFault, stop_from_text};
 use crate::visitor::{NoVisitor, NodeVisitor};
-use crate::walk::{Stop, check_node};
+use crate::walk::{NodeStop, check_node};
 use std::alloc::Global;
 use tt_instance::Instance;
 use tt_leaf::Bound;
 use tt_path::Path;
 use tt_path_trail::TrailPath;
 use tt_proof_read::{Node, NodeReader};
+use tt_stop::Stop;
 use tt_text::Source;
 
 /// Takes a node and drops it.
 #[inline(always)]
-fn take<'i, P: Path<'i>>(path: &mut P, bound: Bound, node: Node) -> Result<(), Stop>
+fn take<'i, P: Path<'i>>(path: &mut P, bound: Bound, node: Node) -> Result<(), NodeStop>
     requires node { IsNodeOf (P.problem path.old) node }
     requires within { length (P.facts path.old) ≤ MAX_FACTS }
     ensures steps { OnOk result (Steps (P.problem path.old) bound (P.facts path.old) node (P.facts path.new)) }
@@ -42,23 +43,23 @@ fn take<'i, P: Path<'i>>(path: &mut P, bound: Bound, node: Node) -> Result<(), S
     check_node(path, bound, &node)
 }
 
-/// Returns the error of a split whose children are too deep: its first child is read before the error is reported.
+/// Returns the stop at a split whose children are too deep: its first child is read before the fault is reported.
 #[cold]
 #[inline(never)]
-fn deep_fault<R: Source>(reader: &mut NodeReader, source: &mut R, node: u32) -> CheckFault
+fn deep_fault<R: Source>(reader: &mut NodeReader, source: &mut R, node: u32) -> Stop<CheckFault>
     requires sound { reader.old.fault ≡ None }
     requires room { 0 < reader.old.places }
     ensures known { StaysKnown (R.remaining source.old) (R.remaining source.new) }
     ensures failed { R.has_failed source.new ≡ (if is_failed_read result then true else R.has_failed source.old) }
-    ensures memory { OutOfMemoryIsNoTextFault result }
+    ensures lower { OnFault result HoldsNoStop }
     ensures fault { is_some (R.remaining source.old) ≡ true →
-        ExplainsChild reader.old.sizes reader.old.version reader.old.count (stream_at reader.old.fed (R.remaining source.old)) node result }
-    ensures up_to_failed_read { result ≡ CheckFault.Text read_failed → UpToFailure reader.old.fed (R.remaining source.old) (R.remaining source.new)
+        OnFault result (ExplainsChild reader.old.sizes reader.old.version reader.old.count (stream_at reader.old.fed (R.remaining source.old)) node) }
+    ensures up_to_failed_read { result ≡ Stop.ReadFailed → UpToFailure reader.old.fed (R.remaining source.old) (R.remaining source.new)
         (λ s. node_at reader.old.sizes reader.old.version reader.old.count s ≡ Err read_failed) }
 {
     match reader.next_node(source) {
-        Ok(_) => CheckFault::TooDeep(node),
-        Err(fault) => CheckFault::from(fault),
+        Ok(_) => Stop::Fault(CheckFault::TooDeep(node)),
+        Err(fault) => stop_from_text(fault),
     }
 }
 
@@ -68,7 +69,7 @@ fn check_tree<'i, P: Path<'i>, R: Source, L: NodeVisitor>(
     visitor: &mut L,
     reader: &mut NodeReader,
     source: &mut R,
-) -> Result<(), CheckFault>
+) -> Result<(), Stop<CheckFault>>
     requires root { P.facts path.old ≡ [] }
     requires sizes { AreSizes (P.problem path.old) reader.old.sizes }
     requires unread { reader.old.count ≡ 0 }
@@ -79,27 +80,31 @@ fn check_tree<'i, P: Path<'i>, R: Source, L: NodeVisitor>(
         (stream_at reader.old.fed (R.remaining source.old)) (stream_at reader.new.fed (R.remaining source.new))) }
     ensures whole { OnOk result (reader.new.places ≡ 0) }
     ensures sound { OnOk result (reader.new.fault ≡ None) }
-    ensures failed { R.has_failed source.new ≡ (if is_err_and result is_failed_read then true else R.has_failed source.old) }
-    ensures memory { IfErr result OutOfMemoryIsNoTextFault }
+    ensures failed { R.has_failed source.new ≡ (if is_read_failed result then true else R.has_failed source.old) }
+    ensures lower { IfFault result HoldsNoStop }
     ensures fault { is_some (R.remaining source.old) ≡ true →
-        IfErr result (λ e. ExplainsNodes (P.problem path.old) reader.old.version reader.old.bound (stream_at reader.old.fed (R.remaining source.old)) e) }
+        IfFault result (λ f. ExplainsNodes (P.problem path.old) reader.old.version reader.old.bound (stream_at reader.old.fed (R.remaining source.old)) f) }
     ensures cut_short { OnOk result (BeforeFailure reader.old.fed (R.remaining source.old) reader.new.fed (R.remaining source.new)
         (CheckedPart (P.problem path.old) reader.old.version reader.old.bound true Unvisited)) }
-    ensures up_to_failed_read { result ≡ Err (CheckFault.Text read_failed) → UpToFailure reader.old.fed (R.remaining source.old) (R.remaining source.new)
-        (NodeIsCutOff (P.problem path.old) reader.old.version reader.old.bound) }
+    ensures up_to_failed_read { result ≡ Err Stop.ReadFailed → UpToFailure reader.old.fed (R.remaining source.old) (R.remaining source.new)
+        (λ s. NodeFails (P.problem path.old) reader.old.version reader.old.bound s read_failed) }
 {
     let bound = reader.bound();
     let mut count: u32 = 0;
-    while let Some(node) = reader.next_node(source)? {
+    loop {
+        let node = match reader.next_node(source) {
+            Ok(Some(node)) => node,
+            Ok(None) => return Ok(()),
+            Err(fault) => return Err(stop_from_text(fault)),
+        };
         visitor.visit(count, &node);
         match take(path, bound, node) {
             Ok(()) => count += 1,
-            Err(Stop::Rule(fault)) => return Err(CheckFault::Rule(count, fault)),
-            Err(Stop::TooDeep) => return Err(deep_fault(reader, source, count + 1)),
-            Err(Stop::OutOfMemory) => return Err(CheckFault::OutOfMemory),
+            Err(NodeStop::Rule(fault)) => return Err(Stop::Fault(CheckFault::Rule(count, fault))),
+            Err(NodeStop::TooDeep) => return Err(deep_fault(reader, source, count + 1)),
+            Err(NodeStop::OutOfMemory) => return Err(Stop::OutOfMemory),
         }
     }
-    Ok(())
 }
 
 /// Reads a proof and checks it on a path.
@@ -108,22 +113,27 @@ fn check_on_path<'i, P: Path<'i>, R: Source, L: NodeVisitor>(
     path: &mut P,
     visitor: &mut L,
     source: &mut R,
-) -> Result<Bound, CheckFault>
+) -> Result<Bound, Stop<CheckFault>>
     requires { P.facts path.old ≡ [] }
     ensures known { StaysKnown (R.remaining source.old) (R.remaining source.new) }
     ensures proved { IfOk result (λ b. Proved (P.problem path.old) (is_some (R.remaining source.old)) (Visited L.visits 0 visitor.old visitor.new) (stream_at fresh (R.remaining source.old)) b) }
-    ensures failed { R.has_failed source.new ≡ (if is_err_and result is_failed_read then true else R.has_failed source.old) }
-    ensures memory { IfErr result OutOfMemoryIsNoTextFault }
+    ensures failed { R.has_failed source.new ≡ (if is_read_failed result then true else R.has_failed source.old) }
+    ensures lower { IfFault result HoldsNoStop }
     ensures fault { is_some (R.remaining source.old) ≡ true →
-        IfErr result (λ e. IsProofFault (P.problem path.old) (stream_at fresh (R.remaining source.old)) e) }
-    ensures up_to_failed_read { result ≡ Err (CheckFault.Text read_failed) →
+        IfFault result (λ f. IsProofFault (P.problem path.old) (stream_at fresh (R.remaining source.old)) f) }
+    ensures up_to_failed_read { result ≡ Err Stop.ReadFailed →
         UpToFailure fresh (R.remaining source.old) (R.remaining source.new) (IsCutOff (P.problem path.old)) }
 {
-    let mut reader = NodeReader::new(alloc, path.instance(), source)?;
+    let mut reader = match NodeReader::new(alloc, path.instance(), source) {
+        Ok(reader) => reader,
+        Err(fault) => return Err(stop_from_text(fault)),
+    };
     let bound = reader.bound();
     check_tree(path, visitor, &mut reader, source)?;
-    reader.finish(source)?;
-    Ok(bound)
+    match reader.finish(source) {
+        Ok(()) => Ok(bound),
+        Err(fault) => Err(stop_from_text(fault)),
+    }
 }
 
 /// Checks a proof as it is read, node by node, and returns the bound that it proves; the visitor visits each node. It stores no node.
@@ -132,22 +142,23 @@ pub fn check_proof_with<R: Source, L: NodeVisitor>(
     instance: &Instance<'_>,
     visitor: &mut L,
     source: &mut R,
-) -> Result<Bound, CheckFault>
+) -> Result<Bound, Stop<CheckFault>>
     // A tree derives the bound, the bytes spell it, and the visitor has visited its nodes.
     ensures visited { IfOk result (IsVisitedProof instance.now (R.remaining source.old) (Visited L.visits 0 visitor.old visitor.new)) }
     ensures found { IfOk result (λ b. (bytes : List ℕ) → R.remaining source.old ≡ Some bytes → IsProved instance.now bytes b) }
 
     // If the bytes spell such a tree, its bound is returned, unless memory runs out or a read fails.
     ensures only { (bytes : List ℕ) (b : Bound) → R.remaining source.old ≡ Some bytes → IsProved instance.now bytes b →
-        MatchResult result (λ c. c ≡ b) IsEnvironmental }
+        UnlessStopped result (λ r. r ≡ Ok b) }
 
     // This holds for any source.
     ensures holds { IfOk result (HoldsOfAll instance.now) }
-    ensures failed { R.has_failed source.new ≡ (if is_err_and result is_failed_read then true else R.has_failed source.old) }
-    ensures memory { IfErr result OutOfMemoryIsNoTextFault }
-    ensures fault { IfErr result (λ e. (bytes : List ℕ) → R.remaining source.old ≡ Some bytes → IsProofFault instance.now (stream_of bytes) e) }
+    ensures failed { R.has_failed source.new ≡ (if is_read_failed result then true else R.has_failed source.old) }
+    // A fault holds none of memory or of a failed read.
+    ensures lower { IfFault result HoldsNoStop }
+    ensures fault { IfFault result (λ f. (bytes : List ℕ) → R.remaining source.old ≡ Some bytes → IsProofFault instance.now (stream_of bytes) f) }
     // If a read fails, all the bytes before it have been checked.
-    ensures up_to_failed_read { result ≡ Err (CheckFault.Text read_failed) → (bytes : List ℕ) → R.remaining source.old ≡ Some bytes →
+    ensures up_to_failed_read { result ≡ Err Stop.ReadFailed → (bytes : List ℕ) → R.remaining source.old ≡ Some bytes →
         IsCheckedUpToFailedRead instance.now bytes (R.remaining source.new) }
 {
     // Brings the instance's limits into the proof.
@@ -161,21 +172,22 @@ pub fn check_proof<R: Source>(
     alloc: Global,
     instance: &Instance<'_>,
     source: &mut R,
-) -> Result<Bound, CheckFault>
+) -> Result<Bound, Stop<CheckFault>>
     // The bytes spell a tree that derives the bound.
     ensures found { IfOk result (λ b. (bytes : List ℕ) → R.remaining source.old ≡ Some bytes → IsProved instance.now bytes b) }
 
     // If the bytes spell such a tree, its bound is returned, unless memory runs out or a read fails.
     ensures only { (bytes : List ℕ) (b : Bound) → R.remaining source.old ≡ Some bytes → IsProved instance.now bytes b →
-        MatchResult result (λ c. c ≡ b) IsEnvironmental }
+        UnlessStopped result (λ r. r ≡ Ok b) }
 
     // This holds for any source.
     ensures holds { IfOk result (HoldsOfAll instance.now) }
-    ensures failed { R.has_failed source.new ≡ (if is_err_and result is_failed_read then true else R.has_failed source.old) }
-    ensures memory { IfErr result OutOfMemoryIsNoTextFault }
-    ensures fault { IfErr result (λ e. (bytes : List ℕ) → R.remaining source.old ≡ Some bytes → IsProofFault instance.now (stream_of bytes) e) }
+    ensures failed { R.has_failed source.new ≡ (if is_read_failed result then true else R.has_failed source.old) }
+    // A fault holds none of memory or of a failed read.
+    ensures lower { IfFault result HoldsNoStop }
+    ensures fault { IfFault result (λ f. (bytes : List ℕ) → R.remaining source.old ≡ Some bytes → IsProofFault instance.now (stream_of bytes) f) }
     // If a read fails, all the bytes before it have been checked.
-    ensures up_to_failed_read { result ≡ Err (CheckFault.Text read_failed) → (bytes : List ℕ) → R.remaining source.old ≡ Some bytes →
+    ensures up_to_failed_read { result ≡ Err Stop.ReadFailed → (bytes : List ℕ) → R.remaining source.old ≡ Some bytes →
         IsCheckedUpToFailedRead instance.now bytes (R.remaining source.new) }
 {
     check_proof_with(alloc, instance, &mut NoVisitor, source)

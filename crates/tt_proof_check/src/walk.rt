@@ -13,7 +13,7 @@ use tt_proof_read::Node;
 
 /// The reason why a node was not taken.
 #[derive(Clone, Copy, Debug)]
-pub enum Stop {
+pub enum NodeStop {
     /// The leaf does not close its node.
     Rule(RuleFault),
     /// The children of this split would be too deep.
@@ -21,27 +21,27 @@ pub enum Stop {
     OutOfMemory,
 }
 
-impl From<RuleFault> for Stop {
+impl From<RuleFault> for NodeStop {
     ghost use Rattle.std.specs.Prelude.{◌≡◌};
-    ghost use Rattle.tt_proof_check.specs.declared.walk.Stop.TheVariants.{Rule};
+    ghost use Rattle.tt_proof_check.specs.declared.walk.NodeStop.TheVariants.{Rule};
 
     ghost from_gives = { λ f s. s ≡ Rule f };
 
-    fn from(fault: RuleFault) -> Stop {
-        Stop::Rule(fault)
+    fn from(fault: RuleFault) -> NodeStop {
+        NodeStop::Rule(fault)
     }
 }
 
-impl From<PathFault> for Stop {
+impl From<PathFault> for NodeStop {
     ghost use Rattle.std.specs.Prelude.{◌≡◌};
     ghost use Rattle.tt_proof_check.specs.Inner.Steps.{stop_of};
 
     ghost from_gives = { λ f s. s ≡ stop_of f };
 
-    fn from(fault: PathFault) -> Stop {
+    fn from(fault: PathFault) -> NodeStop {
         match fault {
-            PathFault::TooDeep => Stop::TooDeep,
-            PathFault::OutOfMemory => Stop::OutOfMemory,
+            PathFault::TooDeep => NodeStop::TooDeep,
+            PathFault::OutOfMemory => NodeStop::OutOfMemory,
         }
     }
 }
@@ -69,7 +69,7 @@ fn advance<'i, P: Path<'i>>(path: &mut P) -> Result<(), PathFault>
 
 /// Takes the due node, and moves to the next place.
 #[inline(always)]
-pub fn check_node<'i, P: Path<'i>>(path: &mut P, bound: Bound, node: &Node) -> Result<(), Stop>
+pub fn check_node<'i, P: Path<'i>>(path: &mut P, bound: Bound, node: &Node) -> Result<(), NodeStop>
     requires node { IsNodeOf (P.problem path.old) node.now }
     requires within { length (P.facts path.old) ≤ MAX_FACTS }
     ensures steps { OnOk result (Steps (P.problem path.old) bound (P.facts path.old) node.now (P.facts path.new)) }

@@ -1,5 +1,5 @@
--- Another file is added, or its fault is silent.
-use Rattle.std.proofs.Common.{◌≡◌, ℕ, ◌+◌, ◌-◌, ◌<◌, ◌≤◌, ◌^◌, Bool, true, ◌||◌, List, [], ◌∷◌, ◌++◌, Option, Some, refl, sym, ap, subst, ◌∙◌, arith, inl, inr, zero-le}
+-- Another file is added, or the check of a claim isn't finished.
+use Rattle.std.proofs.Common.{◌≡◌, ℕ, ◌+◌, ◌-◌, ◌<◌, ◌≤◌, ◌^◌, Bool, true, ◌||◌, List, [], ◌∷◌, ◌++◌, Option, Some, refl, sym, ap, subst, ◌∙◌, arith, zero-le}
 use Rattle.std.specs.Prelude.{flat_map}
 use Rattle.std.specs.List.{list_any}
 use Rattle.std.proofs.lemmas.List.Folds.{list_any-append}
@@ -16,17 +16,17 @@ use Rattle.tt_leaf.specs.declared.leaf.Bound.{Bound}
 use Rattle.tt_leaf.specs.declared.leaf.Bound.TheVariants.{AtLeast, Nothing}
 use Rattle.tt_proof_read.specs.Trees.{Tree, preorder}
 use Rattle.tt_proof_read.specs.declared.node.Node.{Node}
-use Rattle.tt_proof_check.proofs.Texts.{proved_silent, spelled_once}
-use Rattle.tt_proof_sum.specs.declared.fault.SumFault.{SumFault}
-use Rattle.tt_proof_sum.specs.declared.fault.SumFault.TheVariants.{Proof, Groups, ClaimedElsewhere, TooLarge, OutOfMemory}
+use Rattle.tt_proof_check.proofs.Texts.{proved_faultless, spelled_once}
+use Rattle.tt_proof_sum.specs.declared.fault.FileFault.{FileFault}
+use Rattle.tt_proof_sum.specs.declared.fault.FileFault.TheVariants.{Proof, Groups, ClaimedElsewhere, TooLarge}
 use Rattle.tt_proof_sum.specs.declared.summed.Sum.{Sum}
 use Rattle.tt_text_peek.specs.Fronts.{is_groups}
 use Rattle.tt_proof_sum.specs.Added.{IsPartOf, Joins, IsSumOf, Adds}
-use Rattle.tt_proof_sum.specs.Faults.{points, all_points, IsClaimedElsewhere, IsTooLarge, ExplainsAdded, OutOfMemoryIsOneFault, IsSilentSum}
+use Rattle.tt_proof_sum.specs.Faults.{points, all_points, IsClaimedElsewhere, IsTooLarge, ExplainsAdded, IsUnfinished}
 use Rattle.tt_proof_sum.specs.Sums.{claimed_by, is_among, are_apart, TreePart, GroupsPart, Part, TreeProof, GroupsFile, IsTreePart, IsGroupsPart, IsPart, bound_of, claims_of, AreApart, both_bounds, sum_of}
 use Rattle.tt_proof_sum.specs.Tables.{State, claims_at}
 use Rattle.tt_proof_sum.proofs.Joining.{tree_claims}
-use Rattle.tt_proof_sum.proofs.SpelledOnce.{proofs_are_trees, same_part, read_or_tree, left_open}
+use Rattle.tt_proof_sum.proofs.SpelledOnce.{proofs_are_trees, same_part, no_tree, left_open}
 use Rattle.tt_proof_sum.proofs.Together.{not_both}
 
 -- ---- sums of bounds
@@ -118,47 +118,39 @@ tree_meets p is parts bytes k i e spelled apart reported =
     (subst (λ (t : Tree). is_among (claimed_by t) reported.target ≡ true) same
     (claimed_in_tree reported.part.tree reported.before reported.node reported.more reported.target reported.nodes reported.here))
 
--- a fault of a tree proof that can be added is silent
-tree_silent : (p : Problem) → IsInstance p → (parts : List Part) (bytes : List ℕ) (k : TreePart) → IsTreePart p bytes k
-    → AreApart (parts ++ TreeProof k ∷ []) → all_points (parts ++ TreeProof k ∷ []) < 2 ^ 64 → (e : SumFault) → OutOfMemoryIsOneFault e
-    → ExplainsAdded p parts bytes e
-    → IsSilentSum e
-tree_silent p is parts bytes k spelled apart within (Proof n f) memory reported =
-    elim (proved_silent p is bytes k.bound (k.version, k.tree, spelled.spelled, spelled.derives) f reported.fault) [
-      | inl e ↦ absurd (memory.0 e)
-      | inr e ↦ e
-    ]
-tree_silent p is parts bytes k spelled apart within (Groups n f) memory reported =
-    absurd (both_ways (is_groups bytes) (proofs_are_trees p bytes k spelled.spelled) reported.kind)
-tree_silent p is parts bytes k spelled apart within (ClaimedElsewhere n i e) memory reported =
+-- a tree proof that can be added has no fault
+tree_faultless : (p : Problem) → IsInstance p → (parts : List Part) (bytes : List ℕ) (k : TreePart) → IsTreePart p bytes k
+    → AreApart (parts ++ TreeProof k ∷ []) → all_points (parts ++ TreeProof k ∷ []) < 2 ^ 64 → (f : FileFault)
+    → ExplainsAdded p parts bytes f → ⊥
+tree_faultless p is parts bytes k spelled apart within (Proof f) reported =
+    proved_faultless p is bytes k.bound (k.version, k.tree, spelled.spelled, spelled.derives) f reported.fault
+tree_faultless p is parts bytes k spelled apart within (Groups f) reported =
+    both_ways (is_groups bytes) (proofs_are_trees p bytes k spelled.spelled) reported.kind
+tree_faultless p is parts bytes k spelled apart within (ClaimedElsewhere i e) reported =
     tree_meets p is parts bytes k i e spelled apart reported
-tree_silent p is parts bytes k spelled apart within (TooLarge n) memory reported =
+tree_faultless p is parts bytes k spelled apart within TooLarge reported =
     let same : reported.0 ≡ TreeProof k = same_part p is bytes reported.0 (TreeProof k) reported.1 spelled in
     let points_same : points (bound_of reported.0) ≡ points k.bound = ap (λ (x : Part). points (bound_of x)) same in
-    absurd (omega (arith, reported.2, points_same, within, all_points-push parts (TreeProof k)))
-tree_silent p is parts bytes k spelled apart within OutOfMemory memory reported = tt
+    omega (arith, reported.2, points_same, within, all_points-push parts (TreeProof k))
 
--- a fault of a file of groups that can be added is silent
-groups_silent : (p : Problem) → IsInstance p → (parts : List Part) (bytes : List ℕ) (k : GroupsPart) → IsGroupsPart p bytes k
-    → AreApart (parts ++ GroupsFile k ∷ []) → all_points (parts ++ GroupsFile k ∷ []) < 2 ^ 64 → (e : SumFault)
-    → OutOfMemoryIsOneFault e → ExplainsAdded p parts bytes e
-    → IsSilentSum e
-groups_silent p is parts bytes k spelled apart within (Proof n f) memory reported = read_or_tree p bytes k f spelled reported
-groups_silent p is parts bytes k spelled apart within (Groups n f) memory reported = left_open p is parts bytes k spelled
+-- a file of groups that can be added is refused only if a claim's check wasn't finished
+groups_unfinished : (p : Problem) → IsInstance p → (parts : List Part) (bytes : List ℕ) (k : GroupsPart) → IsGroupsPart p bytes k
+    → AreApart (parts ++ GroupsFile k ∷ []) → all_points (parts ++ GroupsFile k ∷ []) < 2 ^ 64 → (f : FileFault)
+    → ExplainsAdded p parts bytes f → IsUnfinished f
+groups_unfinished p is parts bytes k spelled apart within (Proof f) reported = no_tree p bytes k f spelled reported
+groups_unfinished p is parts bytes k spelled apart within (Groups f) reported = left_open p is parts bytes k spelled
     (each_two-last (λ x y. are_apart (claims_of x) (claims_of y)) parts (GroupsFile k) apart) f reported.fault
-groups_silent p is parts bytes k spelled apart within (ClaimedElsewhere n i e) memory reported =
+groups_unfinished p is parts bytes k spelled apart within (ClaimedElsewhere i e) reported =
     both_ways (is_groups bytes) (proofs_are_trees p bytes reported.part reported.is.spelled) spelled.kind
-groups_silent p is parts bytes k spelled apart within (TooLarge n) memory reported =
+groups_unfinished p is parts bytes k spelled apart within TooLarge reported =
     let same : reported.0 ≡ GroupsFile k = same_part p is bytes reported.0 (GroupsFile k) reported.1 spelled in
     let points_same : points (bound_of reported.0) ≡ k.bound = ap (λ (x : Part). points (bound_of x)) same in
     absurd (omega (arith, reported.2, points_same, within, all_points-push parts (GroupsFile k)))
-groups_silent p is parts bytes k spelled apart within OutOfMemory memory reported = tt
 
-pub tells_silent : (p : Problem) → IsInstance p → (parts : List Part) (bytes : List ℕ) (part : Part) → IsPart p bytes part
-    → AreApart (parts ++ part ∷ []) → all_points (parts ++ part ∷ []) < 2 ^ 64 → (e : SumFault) → OutOfMemoryIsOneFault e
-    → ExplainsAdded p parts bytes e
-    → IsSilentSum e
-tells_silent p is parts bytes (TreeProof k) spelled apart within e memory reported =
-    tree_silent p is parts bytes k spelled apart within e memory reported
-tells_silent p is parts bytes (GroupsFile k) spelled apart within e memory reported =
-    groups_silent p is parts bytes k spelled apart within e memory reported
+pub only_unfinished : (p : Problem) → IsInstance p → (parts : List Part) (bytes : List ℕ) (part : Part) → IsPart p bytes part
+    → AreApart (parts ++ part ∷ []) → all_points (parts ++ part ∷ []) < 2 ^ 64 → (f : FileFault)
+    → ExplainsAdded p parts bytes f → IsUnfinished f
+only_unfinished p is parts bytes (TreeProof k) spelled apart within f reported =
+    absurd (tree_faultless p is parts bytes k spelled apart within f reported)
+only_unfinished p is parts bytes (GroupsFile k) spelled apart within f reported =
+    groups_unfinished p is parts bytes k spelled apart within f reported

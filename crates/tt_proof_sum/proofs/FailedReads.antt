@@ -1,60 +1,40 @@
--- Which faults of a file are failed reads of it.
+-- Which stops are failed reads of a file.
 use Rattle.std.proofs.Common.{◌≡◌, ℕ, Bool, true, false, cond, ◌&&◌, if◌then◌else◌, Result, Ok, Err, refl, sym, ap, ◌∙◌}
-use Rattle.std.specs.Prelude.{nat_lt}
+use Rattle.std.specs.Prelude.{◌==◌, nat_lt}
 use Rattle.std.proofs.lemmas.Bool.{eq-eqb, ne_eqb}
-use Rattle.tt_text.specs.declared.feed.FeedFault.TheVariants as feed
-use Rattle.tt_instance.specs.Problem.{Problem}
+use Rattle.tt_text.specs.Failures.{is_err_and}
+use Rattle.tt_stop.specs.Stops as stops
+use Rattle.tt_stop.specs.Stops.{is_read_failed}
+use Rattle.tt_stop.specs.declared.stop.Stop.{Stop}
+use Rattle.tt_stop.specs.declared.stop.Stop.TheVariants.{Fault, ReadFailed, OutOfMemory}
 use Rattle.tt_leaf.specs.declared.leaf.Bound.{Bound}
 use Rattle.tt_leaf.specs.declared.leaf.Bound.TheVariants.{AtLeast}
-use Rattle.tt_proof_read.specs.declared.fault.TextFault.TheVariants as text
-use Rattle.tt_proof_check.specs.Faults as checks
-use Rattle.tt_text.specs.Failures.{is_err_and}
-use Rattle.tt_proof_check.specs.declared.fault.CheckFault.{CheckFault}
-use Rattle.tt_proof_check.specs.declared.fault.CheckFault.TheVariants as check
 use Rattle.tt_groups_read.specs.Faults.{is_environmental, is_failed_read}
-use Rattle.tt_groups_read.specs.declared.claim.GroupClaim.{GroupClaim}
 use Rattle.tt_groups_read.specs.declared.fault.GroupTextFault.{GroupTextFault}
-use Rattle.tt_proof_sum.specs.Inner.Claiming.{ExplainsClaim}
-use Rattle.tt_proof_sum.specs.Faults.{IsNumbered, proof_fault_at, text_fault_at, read_failed_at, is_failed_read_at}
-use Rattle.tt_proof_sum.specs.Tables.{State}
-use Rattle.tt_proof_sum.specs.declared.fault.SumFault.{SumFault}
-use Rattle.tt_proof_sum.specs.declared.fault.SumFault.TheVariants as fault
+use Rattle.tt_proof_sum.specs.Faults.{stop_from_text, is_failed_read_at}
+use Rattle.tt_proof_sum.specs.declared.fault.FileFault.{FileFault}
+use Rattle.tt_proof_sum.specs.declared.fault.FileFault.TheVariants as fault
 use Rattle.tt_proof_sum.specs.declared.groups_fault.GroupsFault.TheVariants as groups
 
--- a fault of this file as a tree proof
-of_proof : (n : ℕ) (f : CheckFault) → is_failed_read_at n (fault.Proof n f) ≡ checks.is_failed_read f
-of_proof n f = ap (λ (b : Bool). b && checks.is_failed_read f) (eq-eqb n n refl)
+abbrev stop_when : GroupTextFault → Bool → Bool → Stop FileFault
+stop_when f x y = cond x ReadFailed (cond y OutOfMemory (Fault (fault.Groups (groups.Text f))))
 
-reported_proof_read : (n : ℕ) (f : CheckFault) → is_failed_read_at n (proof_fault_at n f) ≡ checks.is_failed_read f
-reported_proof_read n check.OutOfMemory = refl
-reported_proof_read n (check.Text f) = of_proof n (check.Text f)
-reported_proof_read n (check.Rule i f) = of_proof n (check.Rule i f)
-reported_proof_read n (check.TooDeep i) = of_proof n (check.TooDeep i)
-
--- a fault of the text of this file as a file of groups
-reported_text_read : (n : ℕ) (f : GroupTextFault) → is_failed_read_at n (text_fault_at n f) ≡ is_failed_read f
-reported_text_read n f = on (is_failed_read f) (is_environmental f)
+-- a fault of the text of a file of groups
+reported_text_read : (f : GroupTextFault) → stops.is_failed_read (stop_from_text f) ≡ is_failed_read f
+reported_text_read f = on (is_failed_read f) (is_environmental f)
   where
-    on : (x y : Bool) → is_failed_read_at n (cond x (read_failed_at n) (cond y fault.OutOfMemory (fault.Groups n (groups.Text f)))) ≡ x
-    on true y = of_proof n (check.Text (text.Feed feed.Read))
+    on : (x y : Bool) → stops.is_failed_read (stop_when f x y) ≡ x
+    on true y = refl
     on false true = refl
     on false false = refl
 
 -- whether a read has failed, after such a fault
-pub proof_reads : (result : SumFault) (file n : ℕ) (f : CheckFault) (before after : Bool) → result ≡ proof_fault_at file f → file ≡ n
-    → after ≡ (if checks.is_failed_read f then true else before)
-    → after ≡ (if is_failed_read_at n result then true else before)
-proof_reads result file n f before after reported same h =
-    let is : is_failed_read_at n result ≡ checks.is_failed_read f =
-    ap (is_failed_read_at n) (reported ∙ ap (λ m. proof_fault_at m f) same) ∙ reported_proof_read n f in
-    h ∙ ap (λ (b : Bool). if b then true else before) (sym is)
-
-pub reported_reads : (result : SumFault) (file n : ℕ) (f : GroupTextFault) (before after : Bool) → result ≡ text_fault_at file f
-    → file ≡ n → after ≡ (if is_failed_read f then true else before)
-    → after ≡ (if is_failed_read_at n result then true else before)
-reported_reads result file n f before after reported same h =
-    let is : is_failed_read_at n result ≡ is_failed_read f = ap (is_failed_read_at n) (reported ∙ ap (λ m. text_fault_at m f) same)
-    ∙ reported_text_read n f in
+pub reported_reads : (result : Stop FileFault) (f : GroupTextFault) (before after : Bool) → result ≡ stop_from_text f
+    → after ≡ (if is_failed_read f then true else before)
+    → after ≡ (if stops.is_failed_read result then true else before)
+reported_reads result f before after reported h =
+    let is : stops.is_failed_read result ≡ is_failed_read f =
+    ap (λ (s : Stop FileFault). stops.is_failed_read s) reported ∙ reported_text_read f in
     h ∙ ap (λ (b : Bool). if b then true else before) (sym is)
 
 -- whether a read has failed, after a result that is known
@@ -63,36 +43,36 @@ pub result_reads : {A E : Type 0} (r known : Result A E) (passes : E → Bool) (
     → after ≡ (if is_err_and known passes then true else before)
 result_reads {A} {E} r known passes before after is h = h ∙ ap (λ (x : Result A E). if is_err_and x passes then true else before) is
 
--- a failed read of this file
-pub read_is_at : (result : SumFault) (file n : ℕ) → result ≡ read_failed_at file → file ≡ n → is_failed_read_at n result ≡ true
-read_is_at result file n reported same = ap (is_failed_read_at n) (reported ∙ ap read_failed_at same)
-    ∙ of_proof n (check.Text (text.Feed feed.Read))
+abbrev refused : Stop FileFault → Result Bound (Stop FileFault)
+refused s = Err s
 
--- a fault of a claim is no failed read
-pub claim_read : (p : Problem) (a : State) (i : ℕ) (k : GroupClaim) (n : ℕ) (f : SumFault) → ExplainsClaim p a i k f
-    → is_failed_read_at n f ≡ false
-claim_read p a i k n (fault.Proof m f) h = absurd h
-claim_read p a i k n (fault.Groups m f) h = refl
-claim_read p a i k n (fault.ClaimedElsewhere m j e) h = absurd h
-claim_read p a i k n (fault.TooLarge m) h = absurd h
-claim_read p a i k n fault.OutOfMemory h = refl
-
-abbrev refused : SumFault → Result Bound SumFault
-refused e = Err e
-
--- neither is one of the values' total
-pub reached_read : (result : Result Bound SumFault) (file n sum bound : ℕ) → result ≡ cond (nat_lt sum bound)
-    (Err (fault.Groups file groups.TooCheap)) (Ok (AtLeast bound)) → is_err_and result (is_failed_read_at n) ≡ false
-reached_read result file n sum bound e = ap (λ (r : Result Bound SumFault). is_err_and r (is_failed_read_at n)) e ∙ on (nat_lt sum bound)
+-- values that are too low are no failed read
+pub reached_read : (result : Result Bound (Stop FileFault)) (sum bound : ℕ) → result ≡ cond (nat_lt sum bound)
+    (Err (Fault (fault.Groups groups.TooCheap))) (Ok (AtLeast bound)) → is_read_failed result ≡ false
+reached_read result sum bound e = ap (λ (r : Result Bound (Stop FileFault)). is_read_failed r) e ∙ on (nat_lt sum bound)
   where
-    on : (z : Bool) → is_err_and (cond z (refused (fault.Groups file groups.TooCheap)) (Ok (AtLeast bound))) (is_failed_read_at n) ≡ false
+    on : (z : Bool) → is_read_failed (cond z (refused (Fault (fault.Groups groups.TooCheap))) (Ok (AtLeast bound))) ≡ false
     on true = refl
     on false = refl
 
--- and neither is one of another file
-pub other_read : (n m : ℕ) (e : SumFault) → IsNumbered n e → (n ≡ m → ⊥) → is_failed_read_at m e ≡ false
-other_read n m (fault.Proof j f) is other = ap (λ (b : Bool). b && checks.is_failed_read f) (ne_eqb j m (λ e. other (sym is ∙ e)))
-other_read n m (fault.Groups j f) is other = refl
-other_read n m (fault.ClaimedElsewhere j i e) is other = refl
-other_read n m (fault.TooLarge j) is other = refl
-other_read n m fault.OutOfMemory is other = refl
+pub reached_unread : (result : Result Bound (Stop FileFault)) → is_read_failed result ≡ false → result ≡ Err ReadFailed → ⊥
+reached_unread (Ok b) e is = absurd cc
+reached_unread (Err (Fault f)) e is = absurd cc
+reached_unread (Err ReadFailed) e is = absurd cc
+reached_unread (Err OutOfMemory) e is = absurd cc
+
+-- a failed read of a file is none of another
+pub other_read : (n m : ℕ) (s : Stop FileFault) → (n ≡ m → ⊥) → is_failed_read_at m (record { file = n; stop = s }) ≡ false
+other_read n m s other = ap (λ (b : Bool). b && stops.is_failed_read s) (ne_eqb n m other)
+
+-- a stop at this file
+pub this_read : (n m : ℕ) (s : Stop FileFault) → n ≡ m → is_failed_read_at m (record { file = n; stop = s }) ≡ stops.is_failed_read s
+this_read n m s same = ap (λ (b : Bool). b && stops.is_failed_read s) (eq-eqb n m same)
+
+-- being out of memory is no failed read
+pub memory_read : (m : ℕ) → is_failed_read_at m (record { file = 0; stop = OutOfMemory }) ≡ false
+memory_read m = on (0 == m)
+  where
+    on : (b : Bool) → b && false ≡ false
+    on true = refl
+    on false = refl

@@ -1,6 +1,6 @@
 -- Lists of files.
 use Rattle.std.proofs.Common.{◌≡◌, ℕ, ◌+◌, ◌<◌, ◌≤◌, ◌^◌, zero, suc, Bool, true, if◌then◌else◌, ◌≢◌, List, [], ◌∷◌, ◌++◌, length, take, get_or, Option, Some, refl, sym, ap, subst, ◌∙◌, arith, append_assoc, inl, inr}
-use Rattle.std.specs.Prelude.{slice_get}
+use Rattle.std.specs.Prelude.{slice_get, ⊤}
 use Rattle.std.specs.List.{AllZip}
 use Rattle.std.proofs.lemmas.Bool.{cases_eq}
 use Rattle.std.proofs.lemmas.List.{take_more, take_all, length-take-le, get_or_read, get_or-set_same, get_or-set_other, length-set}
@@ -13,14 +13,17 @@ use Rattle.tt_instance.specs.Problem.{Problem}
 use Rattle.tt_instance.specs.Limits.{IsInstance}
 use Rattle.tt_leaf.specs.declared.leaf.Bound.{Bound}
 use Rattle.tt_proof_check.specs.Derives.{HoldsOfAll}
-use Rattle.tt_proof_sum.specs.declared.fault.SumFault.{SumFault}
-use Rattle.tt_proof_sum.specs.declared.fault.SumFault.TheVariants.{Proof, Groups, ClaimedElsewhere, TooLarge, OutOfMemory}
+use Rattle.tt_stop.specs.Stops.{OnFault, is_failed_read}
+use Rattle.tt_stop.specs.declared.stop.Stop.{Stop}
+use Rattle.tt_stop.specs.declared.stop.Stop.TheVariants.{Fault, ReadFailed, OutOfMemory}
+use Rattle.tt_proof_sum.specs.declared.fault.FileFault.{FileFault}
+use Rattle.tt_proof_sum.specs.declared.fault.SumStop.{SumStop}
 use Rattle.tt_proof_sum.specs.declared.summed.Sum.{Sum}
 use Rattle.tt_proof_sum.specs.Added.{IsPartOf, IsSumOf, Adds, due, Give}
-use Rattle.tt_proof_sum.specs.Faults.{points, all_points, is_failed_read_at, IsNumbered, IsRefused, ExplainsAdded, IsSumFault, OutOfMemoryIsOneFault, IsSilentSum}
+use Rattle.tt_proof_sum.specs.Faults.{points, all_points, is_failed_read_at, IsReached, IsSumStop, ExplainsAdded, IsUnfinished}
 use Rattle.tt_proof_sum.specs.Sums.{are_apart, Part, IsPart, bound_of, claims_of, AreApart, sum_of, IsSum}
-use Rattle.tt_proof_sum.proofs.Added.{spelled_part, tells_silent}
-use Rattle.tt_proof_sum.proofs.FailedReads.{other_read}
+use Rattle.tt_proof_sum.proofs.Added.{spelled_part, only_unfinished}
+use Rattle.tt_proof_sum.proofs.FailedReads.{this_read, other_read}
 use Rattle.tt_proof_sum.proofs.SpelledOnce.{same_part}
 use Rattle.tt_proof_sum.proofs.Together.{parts_hold, part_of_shows}
 
@@ -55,10 +58,13 @@ module _ (p : Problem) (is : IsInstance p) where
   same_parts (x ∷ xs) (k ∷ ks) (l ∷ ls) h i = ap (λ (y : Part). y ∷ ks) (same_part p is x k l h.0 i.0) ∙ ap (λ (zs : List Part). l ∷ zs)
       (same_parts xs ks ls h.1 i.1)
 
-  -- if files have a sum, a refusal of them is silent
-  refused_silent : (proofs : List (List ℕ)) (s : Bound) (h : IsSum p proofs s) → all_points h.parts < 2 ^ 64 → (e : SumFault)
-      → OutOfMemoryIsOneFault e → IsRefused p proofs e → IsSilentSum e
-  refused_silent proofs s h within e memory r =
+  -- if files have a sum, they are refused only if a claim's check wasn't finished
+  pub sum_unfinished : (proofs : List (List ℕ)) (s : Bound) (h : IsSum p proofs s) → all_points h.parts < 2 ^ 64
+      → (n : ℕ) (x : Stop FileFault)
+      → IsSumStop p proofs n x → OnFault x IsUnfinished
+  sum_unfinished proofs s h within n ReadFailed r = tt
+  sum_unfinished proofs s h within n OutOfMemory r = tt
+  sum_unfinished proofs s h within n (Fault f) r =
       let z = zip_split (IsPart p) r.before r.bytes r.more h.parts
       (subst (λ (l : List (List ℕ)). AllZip (IsPart p) l h.parts) r.split h.each) in
       let same : z.first ≡ r.parts = same_parts r.before z.first r.parts z.each r.each in
@@ -68,27 +74,11 @@ module _ (p : Problem) (is : IsInstance p) where
       (subst AreApart split h.apart)).0 in
       let total = sum_by-append (λ (k : Part). points (bound_of k)) (r.parts ++ z.at ∷ []) z.more in
       let all : all_points h.parts ≡ all_points ((r.parts ++ z.at ∷ []) ++ z.more) = ap all_points split in
-      tells_silent p is r.parts r.bytes z.at z.one apart (omega (arith, total, all, within)) e memory r.explains
-
-  pub sum_silent : (proofs : List (List ℕ)) (s : Bound) (h : IsSum p proofs s) → all_points h.parts < 2 ^ 64 → (e : SumFault)
-      → OutOfMemoryIsOneFault e → IsSumFault p proofs e → IsSilentSum e
-  sum_silent proofs s h within (Proof n f) memory reported = refused_silent proofs s h within (Proof n f) memory reported
-  sum_silent proofs s h within (Groups n f) memory reported = refused_silent proofs s h within (Groups n f) memory reported
-  sum_silent proofs s h within (ClaimedElsewhere n i e) memory reported =
-      refused_silent proofs s h within (ClaimedElsewhere n i e) memory reported
-  sum_silent proofs s h within (TooLarge n) memory reported = refused_silent proofs s h within (TooLarge n) memory reported
-  sum_silent proofs s h within OutOfMemory memory reported = tt
+      only_unfinished p is r.parts r.bytes z.at z.one apart (omega (arith, total, all, within)) f r.is
 
   -- files have at most one sum
   pub same_sum : (proofs : List (List ℕ)) (s t : Bound) → IsSum p proofs s → IsSum p proofs t → s ≡ t
   same_sum proofs s t h i = sym h.total ∙ ap sum_of (same_parts proofs h.parts i.parts h.each i.each) ∙ i.total
-
-pub tells_sum : (p : Problem) (proofs : List (List ℕ)) (e : SumFault) → IsRefused p proofs e → IsSumFault p proofs e
-tells_sum p proofs (Proof n f) r = r
-tells_sum p proofs (Groups n f) r = r
-tells_sum p proofs (ClaimedElsewhere n i e) r = r
-tells_sum p proofs (TooLarge n) r = r
-tells_sum p proofs OutOfMemory r = tt
 
 -- -- sources whose bytes are known
 
@@ -128,6 +118,9 @@ module _ {R : Type 0} (p : Problem) (remaining : R → Option (List ℕ)) where
         each = (g.0, h.each);
         known = h.known;
       }
+
+abbrev stopped_at : ℕ → Stop FileFault → SumStop
+stopped_at n e = record { file = n; stop = e }
 
 -- ---- a loop over the sources
 
@@ -195,25 +188,37 @@ module _ {R : Type 0} (p : Problem) (remaining : R → Option (List ℕ)) (faile
       (take i old) h.parts h.each h.of.apart
 
   -- a refusal of the source at i
-  pub sofar_refused : (old now : List R) (i : ℕ) (s : Sum) (r : R) (e : SumFault) → i < length old → r ≡ get_or now i r
-      → Sofar old now i s → IsNumbered (due s) e
-      → ((parts : List Part) (bytes : List ℕ) → IsSumOf s parts → remaining r ≡ Some bytes → ExplainsAdded p parts bytes e)
-      → (proofs : List (List ℕ)) → Give remaining old proofs → IsSumFault p proofs e
-  sofar_refused old now i s r e l is h numbered explains proofs given =
-      let first : r ≡ get_or old i r = is ∙ h.rest i r (omega arith) in
-      let g = gives_at p remaining old proofs i r given (slice_get_read old (length old) i r refl l first) in
-      let number : due s ≡ length h.parts + 1 = ap (λ (n : ℕ). n + 1) h.of.table.number in
-      tells_sum p proofs e (record {
-        before = g.before;
-        bytes = g.bytes;
-        more = g.more;
-        split = g.split;
-        parts = h.parts;
-        each = zip_known p remaining (take i old) g.before h.parts g.each h.each;
-        apart = h.of.apart;
-        numbered = subst (λ (n : ℕ). IsNumbered n e) number numbered;
-        explains = explains h.parts g.bytes h.of g.known;
-      })
+  pub sofar_refused : (old now : List R) (i : ℕ) (s : Sum) (r : R) (n : ℕ) (x : Stop FileFault) → i < length old → r ≡ get_or now i r
+      → Sofar old now i s → n ≡ due s
+      → OnFault x (λ f. (parts : List Part) (bytes : List ℕ) → IsSumOf s parts → remaining r ≡ Some bytes → ExplainsAdded p parts bytes f)
+      → (proofs : List (List ℕ)) → Give remaining old proofs → IsSumStop p proofs n x
+  sofar_refused old now i s r n x l is h numbered tells proofs given = on x tells
+    where
+      reached : (P : List Part → List ℕ → Type 0)
+          → ((parts : List Part) (bytes : List ℕ) → IsSumOf s parts → remaining r ≡ Some bytes → P parts bytes) → IsReached p proofs n P
+      reached P explains =
+          let first : r ≡ get_or old i r = is ∙ h.rest i r (omega arith) in
+          let g = gives_at p remaining old proofs i r given (slice_get_read old (length old) i r refl l first) in
+          let number : due s ≡ length h.parts + 1 = ap (λ (n : ℕ). n + 1) h.of.table.number in
+          record {
+            before = g.before;
+            bytes = g.bytes;
+            more = g.more;
+            split = g.split;
+            parts = h.parts;
+            each = zip_known p remaining (take i old) g.before h.parts g.each h.each;
+            apart = h.of.apart;
+            numbered = numbered ∙ number;
+            is = explains h.parts g.bytes h.of g.known;
+          }
+
+      on : (x : Stop FileFault)
+          → OnFault x (λ f. (parts : List Part) (bytes : List ℕ) → IsSumOf s parts → remaining r ≡ Some bytes
+          → ExplainsAdded p parts bytes f)
+          → IsSumStop p proofs n x
+      on (Fault f) tells = reached (λ parts bytes. ExplainsAdded p parts bytes f) tells
+      on ReadFailed tells = reached (λ parts bytes. ⊤) (λ parts bytes of known. tt)
+      on OutOfMemory tells = tt
 
   -- ---- reads that failed
 
@@ -242,31 +247,31 @@ module _ {R : Type 0} (p : Problem) (remaining : R → Option (List ℕ)) (faile
       ap failed (sym (get_or_from_slice_get now k x x found)) ∙ h.same k x (omega (arith, inside, long))
 
   -- a source after the file at i was refused
-  pub failed_at : (old now : List R) (i : ℕ) (s : Sum) (item q : R) (e : SumFault) → i < length old → length now ≡ length old
-      → item ≡ get_or now i item → Sofar old now i s → due s ≡ i + 1 → IsNumbered (due s) e
-      → failed q ≡ (if is_failed_read_at (due s) e then true else failed item)
+  pub failed_at : (old now : List R) (i : ℕ) (s : Sum) (item q : R) (n : ℕ) (e : Stop FileFault) → i < length old
+      → length now ≡ length old → item ≡ get_or now i item → Sofar old now i s → n ≡ i + 1
+      → failed q ≡ (if is_failed_read e then true else failed item)
       → (k : ℕ) (x : R) → slice_get (set now i q) k ≡ Some x
-      → failed x ≡ (if is_failed_read_at (k + 1) e then true else failed (get_or old k x))
-  failed_at old now i s item q e l long is h number numbered reads k x found = elim (cases_eq k i) [
+      → failed x ≡ (if is_failed_read_at (k + 1) (record { file = n; stop = e }) then true else failed (get_or old k x))
+  failed_at old now i s item q n e l long is h number reads k x found = elim (cases_eq k i) [
     | inl at ↦ here at
     | inr ne ↦ there ne
   ]
     where
-      here : k ≡ i → failed x ≡ (if is_failed_read_at (k + 1) e then true else failed (get_or old k x))
+      here : k ≡ i → failed x ≡ (if is_failed_read_at (k + 1) (stopped_at n e) then true else failed (get_or old k x))
       here at =
           let was : item ≡ get_or old k x = get_or_read old i item l (is ∙ h.rest i item (omega arith)) x
           ∙ ap (λ j. get_or old j x) (sym at) in
-          let due_is : due s ≡ k + 1 = omega (arith, number, at) in
+          let this : n ≡ k + 1 = omega (arith, number, at) in
           ap failed (set_found now i k q x (omega (arith, l, long)) at found) ∙ reads
-          ∙ ap (λ n. if is_failed_read_at n e then true else failed item) due_is
-          ∙ ap (λ (y : R). if is_failed_read_at (k + 1) e then true else failed y) was
+          ∙ ap (λ (b : Bool). if b then true else failed item) (sym (this_read n (k + 1) e this))
+          ∙ ap (λ (y : R). if is_failed_read_at (k + 1) (stopped_at n e) then true else failed y) was
 
-      there : k ≢ i → failed x ≡ (if is_failed_read_at (k + 1) e then true else failed (get_or old k x))
+      there : k ≢ i → failed x ≡ (if is_failed_read_at (k + 1) (stopped_at n e) then true else failed (get_or old k x))
       there ne =
           let inside = slice_get_within (set now i q) k x found in
           let set_long = length-set now i q in
           let within : k < length old = omega (arith, inside, set_long, long) in
-          let other : due s ≢ k + 1 = omega (arith, number, ne) in
+          let other : n ≢ k + 1 = omega (arith, number, ne) in
           ap failed (sym (get_or_from_slice_get (set now i q) k x x found)) ∙ ap failed (get_or-set_other now i k q x ne)
           ∙ h.same k x within
-          ∙ ap (λ (b : Bool). if b then true else failed (get_or old k x)) (sym (other_read (due s) (k + 1) e numbered other))
+          ∙ ap (λ (b : Bool). if b then true else failed (get_or old k x)) (sym (other_read n (k + 1) e other))

@@ -1,6 +1,6 @@
 -- A file whose kind was checked before it was read.
 use Rattle.std.proofs.Common.{◌≡◌, ℕ, Bool, true, List, Option, Some, None, Result, Ok, Err, refl, ap, subst, ◌∙◌, inl}
-use Rattle.std.specs.Prelude.{IfOk, IfErr}
+use Rattle.std.specs.Prelude.{IfOk}
 use Rattle.std.specs.Io.KnownBytes.{Consumes, Keeps}
 use Rattle.tt_text.specs.CutShort.{cut_short}
 use Rattle.tt_text.specs.Feeds.{Stream, stopped}
@@ -11,7 +11,10 @@ use Rattle.tt_proof_read.specs.Faults.{read_failed}
 use Rattle.tt_proof_read.specs.Reading.{header_at, word_at, token_at}
 use Rattle.tt_proof_check.specs.Streams.{stream_of}
 use Rattle.tt_text_peek.specs.Fronts.{is_groups, BreaksOff}
-use Rattle.tt_proof_sum.specs.declared.fault.SumFault.{SumFault}
+use Rattle.tt_stop.proofs.Stops.{OnFault-weaker}
+use Rattle.tt_stop.specs.Stops.{IfFault}
+use Rattle.tt_stop.specs.declared.stop.Stop.{Stop}
+use Rattle.tt_proof_sum.specs.declared.fault.FileFault.{FileFault}
 use Rattle.tt_proof_sum.specs.Added.{IsPartOf, IsOfKind, Joins}
 use Rattle.tt_proof_sum.specs.Faults.{ExplainsAdded}
 use Rattle.tt_proof_sum.specs.Sums.{Part, TreeProof, GroupsFile}
@@ -46,16 +49,16 @@ joins_kept p old mid parts a b kept j = record {
   table = j.table;
 }
 
-ok_as : (r : Result Bound SumFault) (P Q : Bound → Type 0) → ((b : Bound) → P b → Q b) → IfOk r P → IfOk r Q
+ok_as : (r : Result Bound (Stop FileFault)) (P Q : Bound → Type 0) → ((b : Bound) → P b → Q b) → IfOk r P → IfOk r Q
 ok_as (Ok b) P Q f h = f b h
 ok_as (Err e) P Q f h = tt
 
-err_as : (r : Result Bound SumFault) (P Q : SumFault → Type 0) → ((e : SumFault) → P e → Q e) → IfErr r P → IfErr r Q
-err_as (Ok b) P Q f h = tt
-err_as (Err e) P Q f h = f e h
+fault_as : (r : Result Bound (Stop FileFault)) (P Q : FileFault → Type 0) → ((f : FileFault) → P f → Q f) → IfFault r P → IfFault r Q
+fault_as (Ok b) P Q f h = tt
+fault_as (Err s) P Q f h = OnFault-weaker s P Q f h
 
 module _ (p : Problem) (old mid : Option (List ℕ)) (kept : Keeps old mid) (table now : State) (begins : now ≡ begun table)
-    (r : Result Bound SumFault) (last : State) where
+    (r : Result Bound (Stop FileFault)) (last : State) where
   pub proof_joins : IfOk r (λ b. (before : State) (parts : List Part) → IsTableOf before parts → now ≡ begun before
       → Joins p mid parts last b) → IfOk r (λ b. (parts : List Part) → IsTableOf table parts → Joins p old parts last b)
   proof_joins h = ok_as r _ _ (λ b f parts of. joins_kept p old mid parts last b kept (f table parts of begins)) h
@@ -66,10 +69,10 @@ module _ (p : Problem) (old mid : Option (List ℕ)) (kept : Keeps old mid) (tab
   groups_joins kind h = ok_as r _ _ (λ b f parts of. f table parts old of begins kept kind) h
 
   pub kind_fault : (z : Bool) → IsOfKind z old
-      → IfErr r (λ e. (before : State) (parts : List Part) (bytes : List ℕ) → IsTableOf before parts → now ≡ begun before
+      → IfFault r (λ e. (before : State) (parts : List Part) (bytes : List ℕ) → IsTableOf before parts → now ≡ begun before
       → mid ≡ Some bytes → is_groups bytes ≡ z → ExplainsAdded p parts bytes e)
-      → IfErr r (λ e. (parts : List Part) (bytes : List ℕ) → IsTableOf table parts → old ≡ Some bytes → ExplainsAdded p parts bytes e)
-  kind_fault z kind h = err_as r _ _ (λ e f parts bytes of known. f table parts bytes of begins (keeps_known old mid bytes kept known)
+      → IfFault r (λ e. (parts : List Part) (bytes : List ℕ) → IsTableOf table parts → old ≡ Some bytes → ExplainsAdded p parts bytes e)
+  kind_fault z kind h = fault_as r _ _ (λ e f parts bytes of known. f table parts bytes of begins (keeps_known old mid bytes kept known)
       (kind bytes known)) h
 
 -- a stream that gives only a failed read

@@ -23,13 +23,10 @@ use Rattle.tt_leaf_rules.proofs.Totals.{same_target-itself}
 use Rattle.tt_proof_read.specs.Spelling.{version_text, bound_piece, SpellsProof}
 use Rattle.tt_proof_read.specs.Trees.{Tree}
 use Rattle.tt_proof_read.specs.declared.fault.TextFault.{TextFault}
-use Rattle.tt_proof_read.specs.declared.fault.TextFault.TheVariants as text
 use Rattle.tt_proof_read.specs.declared.sizes.Sizes.{Sizes}
 use Rattle.tt_proof_read.proofs.Small.{are_small}
-use Rattle.tt_text.specs.declared.feed.FeedFault.TheVariants as feed
 use Rattle.tt_proof_check.specs.Streams.{stream_of, sizes_of}
 use Rattle.tt_proof_check.specs.declared.fault.CheckFault.{CheckFault}
-use Rattle.tt_proof_check.specs.declared.fault.CheckFault.TheVariants as check
 use Rattle.tt_proof_check.proofs.Sizes.{are_sizes_of}
 use Rattle.tt_proof_check.proofs.Texts.{spelled_once}
 use Rattle.tt_text_peek.specs.Fronts.{is_groups}
@@ -60,13 +57,9 @@ proofs_are_trees p bytes k spelled =
     starts bytes (Text (version_text k.version) ∷ Text (codes "bound") ∷ bound_piece k.bound ∷
     (spelled.body ++ Text (codes "end") ∷ [])) (tokens_of bytes) refl spelled.tokens
 
--- a fault of a text as a tree proof is not one of a file of groups, unless a read failed
-pub read_or_tree : (p : Problem) (bytes : List ℕ) (k : GroupsPart) (f : CheckFault) → IsGroupsPart p bytes k → IsTreeFault p bytes f
-    → f ≡ check.Text (text.Feed feed.Read)
-read_or_tree p bytes k f spelled reported = elim reported.kind [
-  | inl e ↦ e
-  | inr e ↦ absurd (both_ways (is_groups bytes) e spelled.kind)
-]
+-- a file of groups has no fault as a tree proof
+pub no_tree : (p : Problem) (bytes : List ℕ) (k : GroupsPart) (f : CheckFault) → IsGroupsPart p bytes k → IsTreeFault p bytes f → ⊥
+no_tree p bytes k f spelled reported = both_ways (is_groups bytes) reported.kind spelled.kind
 
 -- ---- claims that a stream gives
 

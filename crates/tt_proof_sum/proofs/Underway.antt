@@ -1,6 +1,6 @@
 -- A file of groups is read claim by claim.
 use Rattle.std.proofs.Common.{◌≡◌, ℕ, ◌+◌, ◌-◌, ◌<◌, ◌≤◌, ◌^◌, min, Bool, true, false, cond, ◌&&◌, List, [], ◌∷◌, ◌++◌, length, map, Option, Some, None, Result, Ok, Err, is_some, refl, sym, ap, subst, ◌∙◌, arith, inl, inr, lit<, length-append}
-use Rattle.std.specs.Prelude.{◌==◌, ◌⊎◌, nat_lt, IfOk, IfErr}
+use Rattle.std.specs.Prelude.{◌==◌, nat_lt, IfOk}
 use Rattle.std.specs.Bool.{OnFalse}
 use Rattle.std.specs.Io.KnownBytes.{Keeps}
 use Rattle.std.proofs.lemmas.Bool.{eq-eqb, ltb-true, ltb-false}
@@ -21,7 +21,7 @@ use Rattle.tt_proof_read.specs.declared.fault.TextFault.{TextFault}
 use Rattle.tt_proof_read.specs.declared.fault.TextFault.TheVariants as text
 use Rattle.tt_proof_read.specs.declared.sizes.Sizes.{Sizes}
 use Rattle.tt_proof_check.specs.FailedReads.{HoldsOfGiven}
-use Rattle.tt_proof_check.specs.Streams.{stream_of, sizes_of}
+use Rattle.tt_proof_check.specs.Streams.{sizes_of}
 use Rattle.tt_proof_check.proofs.FailedReads.{of_given}
 use Rattle.tt_proof_check.proofs.Sizes.{are_sizes_of, sizes_are}
 use Rattle.tt_groups.specs.Group.{IsGroupBound}
@@ -35,13 +35,16 @@ use Rattle.tt_groups_read.specs.declared.fault.GroupTextFault.{GroupTextFault}
 use Rattle.tt_groups_read.specs.declared.fault.GroupTextFault.TheVariants as group_text
 use Rattle.tt_groups_read.proofs.FileLaws.{reads_spelled}
 use Rattle.tt_text_peek.specs.Fronts.{is_groups}
-use Rattle.tt_proof_sum.specs.declared.fault.SumFault.{SumFault}
-use Rattle.tt_proof_sum.specs.declared.fault.SumFault.TheVariants as fault
+use Rattle.tt_stop.specs.Stops.{OnFault, IfFault}
+use Rattle.tt_stop.specs.declared.stop.Stop.{Stop}
+use Rattle.tt_stop.specs.declared.stop.Stop.TheVariants.{Fault, ReadFailed, OutOfMemory}
+use Rattle.tt_proof_sum.specs.declared.fault.FileFault.{FileFault}
+use Rattle.tt_proof_sum.specs.declared.fault.FileFault.TheVariants as fault
 use Rattle.tt_proof_sum.specs.declared.groups_fault.GroupsFault.{GroupsFault}
 use Rattle.tt_proof_sum.specs.declared.groups_fault.GroupsFault.TheVariants as groups
 use Rattle.tt_proof_sum.specs.Added.{IsOfKind, Joins}
 use Rattle.tt_proof_sum.specs.Inner.Claiming.{ExplainsClaimFault, ExplainsClaim, ReadsTo, Underway}
-use Rattle.tt_proof_sum.specs.Faults.{IsGroupsFault, ExplainsAdded, IsNumbered, read_failed_at, text_fault_at, OutOfMemoryIsOneFault}
+use Rattle.tt_proof_sum.specs.Faults.{IsGroupsFault, ExplainsAdded, stop_from_text, HoldsNoStop}
 use Rattle.tt_proof_sum.specs.GroupsFaults.{Pass, AfterClaims, ExplainsGroups}
 use Rattle.tt_proof_sum.specs.Sums.{group_targets, targets_of_claims, Part, GroupsPart, GroupsFile}
 use Rattle.tt_proof_sum.specs.Tables.{State, owner, first_claim, begun, group_places, first_owner, Marks, IsTableOf}
@@ -254,18 +257,17 @@ module _ (p : Problem) (is : IsInstance p) (before : Option (List ℕ)) (a : Sta
           )
       tells_claim groups.TooCheap reported = absurd reported
 
-      pub claim_fault : (bytes : List ℕ) → before ≡ Some bytes → is_groups bytes ≡ true → (e : SumFault) → ExplainsClaim p b number k e
-          → ExplainsAdded p parts bytes e
-      claim_fault bytes e kind (fault.Groups n f) reported =
+      pub claim_fault : (bytes : List ℕ) → before ≡ Some bytes → is_groups bytes ≡ true → (f : FileFault) → ExplainsClaim p b number k f
+          → ExplainsAdded p parts bytes f
+      claim_fault bytes e kind (fault.Groups f) reported =
           record {
             kind = kind;
             fault = subst (λ (z : Option (List ℕ)). ExplainsGroups p parts (stream_at fresh z) f) e
-                (tells_claim f reported.1);
+                (tells_claim f reported);
           }
-      claim_fault bytes e kind fault.OutOfMemory reported = tt
-      claim_fault bytes e kind (fault.Proof n f) reported = absurd reported
-      claim_fault bytes e kind (fault.ClaimedElsewhere n i o) reported = absurd reported
-      claim_fault bytes e kind (fault.TooLarge n) reported = absurd reported
+      claim_fault bytes e kind (fault.Proof f) reported = absurd reported
+      claim_fault bytes e kind (fault.ClaimedElsewhere i o) reported = absurd reported
+      claim_fault bytes e kind fault.TooLarge reported = absurd reported
 
     pub cheap_fault : (bytes : List ℕ) → before ≡ Some bytes → is_groups bytes ≡ true → (later : Option (List ℕ)) (after : Reader)
         → (is_some before ≡ true → group_at (sizes_of p) (stream_at r.fed now) ≡ Ok (None, stream_at after.fed later))
@@ -299,35 +301,30 @@ read_is (group_text.Text t) e = ap group_text.Text (text_read t e)
     text_read (text.TooManyNodes at) h = absurd cc
     text_read text.OutOfMemory h = absurd cc
 
--- a fault of the text is reported as a failed read, as being out of memory, or as a fault of the file
-reported_cases : (P : SumFault → Type 0) (n : ℕ) (f : GroupTextFault) → (is_failed_read f ≡ true → P (read_failed_at n))
-    → P fault.OutOfMemory → (is_environmental f ≡ false → P (fault.Groups n (groups.Text f))) → P (text_fault_at n f)
-reported_cases P n f read memory other = on (is_failed_read f) refl (is_environmental f) refl
+-- a fault of the reader is a failed read, being out of memory, or a fault of the file
+reported_cases : (P : Stop FileFault → Type 0) (s : Stop FileFault) (f : GroupTextFault) → s ≡ stop_from_text f
+    → (is_failed_read f ≡ true → P ReadFailed)
+    → P OutOfMemory → (is_environmental f ≡ false → P (Fault (fault.Groups (groups.Text f)))) → P s
+reported_cases P s f is read memory other = subst P (sym is) (on (is_failed_read f) refl (is_environmental f) refl)
   where
     on : (x : Bool) → is_failed_read f ≡ x → (y : Bool) → is_environmental f ≡ y
-        → P (cond x (read_failed_at n) (cond y fault.OutOfMemory (fault.Groups n (groups.Text f))))
+        → P (cond x ReadFailed (cond y OutOfMemory (Fault (fault.Groups (groups.Text f)))))
     on true e y g = read e
     on false e true g = memory
     on false e false g = other g
 
-pub reported_memory : (n : ℕ) (f : GroupTextFault) → OutOfMemoryIsOneFault (text_fault_at n f)
-reported_memory n f = reported_cases OutOfMemoryIsOneFault n f (λ e. (λ x. cc, λ x. cc)) tt (λ e. e)
-
-pub reported_number : (n : ℕ) (f : GroupTextFault) → IsNumbered n (text_fault_at n f)
-reported_number n f = reported_cases (IsNumbered n) n f (λ e. refl) tt (λ e. refl)
+pub reported_lower : (s : Stop FileFault) (f : GroupTextFault) → s ≡ stop_from_text f → OnFault s HoldsNoStop
+reported_lower s f is = reported_cases (λ x. OnFault x HoldsNoStop) s f is (λ e. tt) tt (λ e. e)
 
 -- only a failed read is reported as one
-pub reported_read : (n : ℕ) (f : GroupTextFault) → text_fault_at n f ≡ read_failed_at n → f ≡ group_text.Text read_failed
-reported_read n f = reported_cases (λ x. x ≡ read_failed_at n → f ≡ group_text.Text read_failed) n f (λ e h. read_is f e)
+pub reported_read : (s : Stop FileFault) (f : GroupTextFault) → s ≡ stop_from_text f → s ≡ ReadFailed → f ≡ group_text.Text read_failed
+reported_read s f is = reported_cases (λ x. x ≡ ReadFailed → f ≡ group_text.Text read_failed) s f is (λ e h. read_is f e)
     (λ h. absurd cc) (λ e h. absurd cc)
 
-pub reported_added : (p : Problem) (parts : List Part) (bytes : List ℕ) → is_groups bytes ≡ true → (n : ℕ) (f : GroupTextFault)
-    → (is_environmental f ≡ false → (header_at (stream_of bytes) ≡ Err f) ⊎ AfterClaims p parts (stream_of bytes)
-    (λ b claims rest. (t : TextFault) × (f ≡ group_text.Text t) × (group_at (sizes_of p) rest ≡ Err t)))
-    → ExplainsAdded p parts bytes (text_fault_at n f)
-reported_added p parts bytes kind n f explains =
-    reported_cases (ExplainsAdded p parts bytes) n f (λ e. record { kind = inl refl; fault = (λ x. cc, inl tt) }) tt
-    (λ e. record { kind = kind; fault = (e, explains e) })
+-- a property of the fault that is reported
+pub reported_fault : (s : Stop FileFault) (f : GroupTextFault) → s ≡ stop_from_text f → (P : FileFault → Type 0)
+    → (is_environmental f ≡ false → P (fault.Groups (groups.Text f))) → OnFault s P
+reported_fault s f is P h = reported_cases (λ x. OnFault x P) s f is (λ e. tt) tt h
 
 loud : (b : Bool) (P : Type 0) → OnFalse b P → b ≡ false → P
 loud true P h e = absurd cc
@@ -335,12 +332,17 @@ loud false P h e = h
 
 -- the header fails
 pub header_fault : (p : Problem) (parts : List Part) (bytes : List ℕ) (before now : Option (List ℕ)) → before ≡ Some bytes
-    → is_groups bytes ≡ true → (n : ℕ) (f : GroupTextFault)
-    → (is_some before ≡ true → IsHeaderReadingOf (stream_at fresh before) (Err f) now) → ExplainsAdded p parts bytes (text_fault_at n f)
-header_fault p parts bytes before now e kind n f says =
-    reported_added p parts bytes kind n f
-    (λ l. inl (subst (λ (z : Option (List ℕ)). header_at (stream_at fresh z) ≡ Err f) e
-    (loud (is_environmental f) (header_at (stream_at fresh before) ≡ Err f) (says (ap is_some e)) l)))
+    → is_groups bytes ≡ true → (f : GroupTextFault)
+    → (is_some before ≡ true → IsHeaderReadingOf (stream_at fresh before) (Err f) now) → is_environmental f ≡ false
+    → ExplainsAdded p parts bytes (fault.Groups (groups.Text f))
+header_fault p parts bytes before now e kind f says calm = record {
+  kind = kind;
+  fault = (
+    calm,
+    inl (subst (λ (z : Option (List ℕ)). header_at (stream_at fresh z) ≡ Err f) e
+        (loud (is_environmental f) (header_at (stream_at fresh before) ≡ Err f) (says (ap is_some e)) calm)),
+  );
+}
 
 -- a failed read within the header
 pub header_cut : (p : Problem) (before now : Option (List ℕ)) (f : GroupTextFault) → f ≡ group_text.Text read_failed
@@ -357,19 +359,25 @@ module _ (p : Problem) (is : IsInstance p) (before : Option (List ℕ)) (a : Sta
   pub text_fault : (parts : List Part) (old : State) → IsTableOf old parts → a ≡ begun old
       → (is_some now ≡ true → IsReadingOf r (stream_at r.fed now) (Err t) (stream_at after.fed later)) → (bytes : List ℕ)
       → before ≡ Some bytes
-      → is_groups bytes ≡ true → (n : ℕ) → ExplainsAdded p parts bytes (text_fault_at n (group_text.Text t))
-  text_fault parts old of begins says bytes e kind n =
+      → is_groups bytes ≡ true → is_environmental (group_text.Text t) ≡ false
+      → ExplainsAdded p parts bytes (fault.Groups (groups.Text (group_text.Text t)))
+  text_fault parts old of begins says bytes e kind calm =
       let k : is_some before ≡ true = ap is_some e in
-      reported_added p parts bytes kind n (group_text.Text t)
-      (λ l. inr (subst
-      (λ (z : Option (List ℕ)). AfterClaims p parts (stream_at fresh z)
-      (λ b claims rest. (x : TextFault) × (group_text.Text t ≡ group_text.Text x) × (group_at (sizes_of p) rest ≡ Err x))) e
-      (after_claims p is before a r now b number sum u parts old of begins _ k (
-        t,
-        refl,
-        subst (λ (z : Sizes). group_at z (stream_at r.fed now) ≡ Err t) u.sizes
-            (loud (is_environmental (group_text.Text t)) (group_at r.sizes (stream_at r.fed now) ≡ Err t) (says (u.known k)) l),
-      ))))
+      record {
+        kind = kind;
+        fault = (
+          calm,
+          inr (subst
+              (λ (z : Option (List ℕ)). AfterClaims p parts (stream_at fresh z)
+              (λ b claims rest. (x : TextFault) × (group_text.Text t ≡ group_text.Text x) × (group_at (sizes_of p) rest ≡ Err x))) e
+              (after_claims p is before a r now b number sum u parts old of begins _ k (
+                t,
+                refl,
+                subst (λ (z : Sizes). group_at z (stream_at r.fed now) ≡ Err t) u.sizes
+                    (loud (is_environmental (group_text.Text t)) (group_at r.sizes (stream_at r.fed now) ≡ Err t) (says (u.known k)) calm),
+              ))),
+        );
+      }
 
   pub claim_cut : group_text.Text t ≡ group_text.Text read_failed → StaysKnown now later
       → GroupAgreesWhenCut r now (Err t) after.fed later → (bytes : List ℕ) → before ≡ Some bytes
@@ -395,28 +403,20 @@ module _ (p : Problem) (is : IsInstance p) (before : Option (List ℕ)) (a : Sta
       )) bytes e
 
 -- the two cases: the total reaches the bound, or not
-pub reached_ok : (result : Result Bound SumFault) (file sum bound : ℕ) (P : Bound → Type 0) → result ≡ cond (nat_lt sum bound)
-    (Err (fault.Groups file groups.TooCheap)) (Ok (AtLeast bound)) → (bound ≤ sum → P (AtLeast bound)) → IfOk result P
-reached_ok result file sum bound P e h = on (nat_lt sum bound) refl e
+pub reached_ok : (result : Result Bound (Stop FileFault)) (sum bound : ℕ) (P : Bound → Type 0) → result ≡ cond (nat_lt sum bound)
+    (Err (Fault (fault.Groups groups.TooCheap))) (Ok (AtLeast bound)) → (bound ≤ sum → P (AtLeast bound)) → IfOk result P
+reached_ok result sum bound P e h = on (nat_lt sum bound) refl e
   where
-    on : (z : Bool) → nat_lt sum bound ≡ z → result ≡ cond z (Err (fault.Groups file groups.TooCheap)) (Ok (AtLeast bound)) → IfOk result P
-    on true t f = subst (λ (x : Result Bound SumFault). IfOk x P) (sym f) tt
-    on false t f = subst (λ (x : Result Bound SumFault). IfOk x P) (sym f) (h (ltb-false sum bound t))
+    on : (z : Bool) → nat_lt sum bound ≡ z → result ≡ cond z (Err (Fault (fault.Groups groups.TooCheap))) (Ok (AtLeast bound))
+        → IfOk result P
+    on true t f = subst (λ (x : Result Bound (Stop FileFault)). IfOk x P) (sym f) tt
+    on false t f = subst (λ (x : Result Bound (Stop FileFault)). IfOk x P) (sym f) (h (ltb-false sum bound t))
 
-pub reached_err : (result : Result Bound SumFault) (file sum bound : ℕ) (P : SumFault → Type 0) → result ≡ cond (nat_lt sum bound)
-    (Err (fault.Groups file groups.TooCheap)) (Ok (AtLeast bound)) → (sum < bound → P (fault.Groups file groups.TooCheap)) → IfErr result P
-reached_err result file sum bound P e h = on (nat_lt sum bound) refl e
+pub reached_err : (result : Result Bound (Stop FileFault)) (sum bound : ℕ) (P : FileFault → Type 0) → result ≡ cond (nat_lt sum bound)
+    (Err (Fault (fault.Groups groups.TooCheap))) (Ok (AtLeast bound)) → (sum < bound → P (fault.Groups groups.TooCheap)) → IfFault result P
+reached_err result sum bound P e h = on (nat_lt sum bound) refl e
   where
-    on : (z : Bool) → nat_lt sum bound ≡ z → result ≡ cond z (Err (fault.Groups file groups.TooCheap)) (Ok (AtLeast bound)) → IfErr result P
-    on true t f = subst (λ (x : Result Bound SumFault). IfErr x P) (sym f) (h (ltb-true sum bound t))
-    on false t f = subst (λ (x : Result Bound SumFault). IfErr x P) (sym f) tt
-
-abbrev failed : SumFault → Result Bound SumFault
-failed e = Err e
-
--- a fault of the text that is reported as a failed read is a failed read
-pub reported_failed : (result : SumFault) (file n : ℕ) (f : GroupTextFault) → result ≡ text_fault_at file f → file ≡ n
-    → failed result ≡ failed (read_failed_at n) → f ≡ group_text.Text read_failed
-reported_failed result file n f reported same e =
-    let is : result ≡ read_failed_at n = cc in
-    reported_read file f (sym reported ∙ is ∙ ap read_failed_at (sym same))
+    on : (z : Bool) → nat_lt sum bound ≡ z → result ≡ cond z (Err (Fault (fault.Groups groups.TooCheap))) (Ok (AtLeast bound))
+        → IfFault result P
+    on true t f = subst (λ (x : Result Bound (Stop FileFault)). IfFault x P) (sym f) (h (ltb-true sum bound t))
+    on false t f = subst (λ (x : Result Bound (Stop FileFault)). IfFault x P) (sym f) tt

@@ -1,24 +1,25 @@
 -- The meaning of the refusals of files that are added up.
-use Rattle.std.specs.Prelude.{◌≡◌, ℕ, ◌+◌, ◌-◌, ◌≤◌, ◌^◌, Bool, true, false, ◌&&◌, ◌==◌, if◌then◌else◌, List, ◌∷◌, ◌++◌, length, sum_by, slice_get, IsSomeAnd, ⊤, ◌⊎◌}
+use Rattle.std.specs.Prelude.{◌≡◌, ℕ, ◌+◌, ◌-◌, ◌≤◌, ◌^◌, Bool, true, false, ◌&&◌, ◌==◌, if◌then◌else◌, List, ◌∷◌, ◌++◌, length, sum_by, slice_get, IsSomeAnd, ⊤}
 use Rattle.std.specs.List.{list_all, AllZip}
-use Rattle.tt_text.specs.declared.feed.FeedFault.TheVariants as feed
+use Rattle.tt_stop.specs.Stops as stops
+use Rattle.tt_stop.specs.Stops.{mapped}
+use Rattle.tt_stop.specs.declared.stop.Stop.{Stop}
+use Rattle.tt_stop.specs.declared.stop.Stop.TheVariants.{Fault, ReadFailed, OutOfMemory}
 use Rattle.tt_instance.specs.Problem.{Problem}
 use Rattle.tt_leaf_rules.specs.Claims.{Target}
 use Rattle.tt_leaf.specs.declared.leaf.Bound.{Bound}
 use Rattle.tt_leaf.specs.declared.leaf.Bound.TheVariants.{AtLeast, Nothing}
 use Rattle.tt_proof_read.specs.Trees.{preorder}
-use Rattle.tt_proof_read.specs.declared.fault.TextFault.TheVariants as text
 use Rattle.tt_proof_read.specs.declared.node.Node.{Node}
 use Rattle.tt_groups_read.specs.Faults.{is_environmental, is_failed_read}
 use Rattle.tt_groups_read.specs.declared.fault.GroupTextFault.{GroupTextFault}
 use Rattle.tt_text_peek.specs.Fronts.{is_groups}
 use Rattle.tt_proof_check.specs.Faults as checks
-use Rattle.tt_proof_check.specs.Faults.{OutOfMemoryIsNoTextFault}
 use Rattle.tt_proof_check.specs.Streams.{IsProofFault, stream_of}
 use Rattle.tt_proof_check.specs.declared.fault.CheckFault.{CheckFault}
-use Rattle.tt_proof_check.specs.declared.fault.CheckFault.TheVariants as check
-use Rattle.tt_proof_sum.specs.declared.fault.SumFault.{SumFault}
-use Rattle.tt_proof_sum.specs.declared.fault.SumFault.TheVariants.{Proof, Groups, ClaimedElsewhere, TooLarge, OutOfMemory}
+use Rattle.tt_proof_sum.specs.declared.fault.FileFault.{FileFault}
+use Rattle.tt_proof_sum.specs.declared.fault.FileFault.TheVariants.{Proof, Groups, ClaimedElsewhere, TooLarge}
+use Rattle.tt_proof_sum.specs.declared.fault.SumStop.{SumStop}
 use Rattle.tt_proof_sum.specs.declared.groups_fault.GroupsFault.{GroupsFault}
 use Rattle.tt_proof_sum.specs.declared.groups_fault.GroupsFault.TheVariants as groups
 use Rattle.tt_proof_sum.specs.GroupsFaults.{IsOfFile, IsLeftOpen, ExplainsGroups}
@@ -56,9 +57,9 @@ all_points parts = sum_by (λ k. points (bound_of k)) parts
 abbrev pub IsTooLarge : Problem → List Part → List ℕ → Type 0
 IsTooLarge p parts bytes = (part : Part) × IsPart p bytes part × (2 ^ 64 ≤ all_points parts + points (bound_of part))
 
--- A read failed, or the text isn't a file of groups; as a proof it has this fault.
+-- The text isn't a file of groups; as a proof it has this fault.
 pub record IsTreeFault (p : Problem) (bytes : List ℕ) (f : CheckFault) : Type 0 where
-  pub kind : (f ≡ check.Text (text.Feed feed.Read)) ⊎ (is_groups bytes ≡ false)
+  pub kind : is_groups bytes ≡ false
   pub fault : IsProofFault p (stream_of bytes) f
 
 -- The text is a file of groups, and has this fault.
@@ -67,25 +68,16 @@ pub record IsGroupsFault (p : Problem) (parts : List Part) (bytes : List ℕ) (f
   pub fault : ExplainsGroups p parts (stream_of bytes) f
 
 -- The meaning of a fault of another file.
-abbrev pub ExplainsAdded : Problem → List Part → List ℕ → SumFault → Type 0
-ExplainsAdded p parts bytes (Proof n f) = IsTreeFault p bytes f
-ExplainsAdded p parts bytes (Groups n f) = IsGroupsFault p parts bytes f
-ExplainsAdded p parts bytes (ClaimedElsewhere n i e) = IsClaimedElsewhere p parts bytes i e
-ExplainsAdded p parts bytes (TooLarge n) = IsTooLarge p parts bytes
-ExplainsAdded p parts bytes OutOfMemory = ⊤
-
--- The fault reports the number of the file.
-abbrev pub IsNumbered : ℕ → SumFault → Type 0
-IsNumbered n (Proof m f) = m ≡ n
-IsNumbered n (Groups m f) = m ≡ n
-IsNumbered n (ClaimedElsewhere m i e) = m ≡ n
-IsNumbered n (TooLarge m) = m ≡ n
-IsNumbered n OutOfMemory = ⊤
+abbrev pub ExplainsAdded : Problem → List Part → List ℕ → FileFault → Type 0
+ExplainsAdded p parts bytes (Proof f) = IsTreeFault p bytes f
+ExplainsAdded p parts bytes (Groups f) = IsGroupsFault p parts bytes f
+ExplainsAdded p parts bytes (ClaimedElsewhere i e) = IsClaimedElsewhere p parts bytes i e
+ExplainsAdded p parts bytes TooLarge = IsTooLarge p parts bytes
 
 -- ---- a list of files
 
--- This file can't be added to those before it.
-pub record IsRefused (p : Problem) (files : List (List ℕ)) (e : SumFault) : Type 0 where
+-- The files before the one with this number, counted from 1, can be added, and P holds of their parts and of the file's bytes.
+pub record IsReached (p : Problem) (files : List (List ℕ)) (number : ℕ) (P : List Part → List ℕ → Type 0) : Type 0 where
   pub before : List (List ℕ)
   pub bytes : List ℕ
   pub more : List (List ℕ)
@@ -93,44 +85,41 @@ pub record IsRefused (p : Problem) (files : List (List ℕ)) (e : SumFault) : Ty
   pub parts : List Part
   pub each : AllZip (IsPart p) before parts
   pub apart : AreApart parts
-  pub numbered : IsNumbered (length parts + 1) e
-  pub explains : ExplainsAdded p parts bytes e
+  pub numbered : number ≡ length parts + 1
+  pub is : P parts bytes
 
--- The fault is that of the first file that can't be added to those before it.
-abbrev pub IsSumFault : Problem → List (List ℕ) → SumFault → Type 0
-IsSumFault p files OutOfMemory = ⊤
-IsSumFault p files e = IsRefused p files e
+-- The fault is that of the first file that can't be added to those before it; if a read failed, the files before it can be added.
+abbrev pub IsSumStop : Problem → List (List ℕ) → ℕ → Stop FileFault → Type 0
+IsSumStop p files n (Fault f) = IsReached p files n (λ parts bytes. ExplainsAdded p parts bytes f)
+IsSumStop p files n ReadFailed = IsReached p files n (λ parts bytes. ⊤)
+IsSumStop p files n OutOfMemory = ⊤
 
 -- ---- memory, and reads that failed
 
--- The fault for an error of the proof with this number; being out of memory is reported as itself.
-abbrev pub proof_fault_at : ℕ → CheckFault → SumFault
-proof_fault_at n check.OutOfMemory = OutOfMemory
-proof_fault_at n f = Proof n f
+-- Why adding a file is stopped after the check of its proof was.
+abbrev pub stop_from_check : Stop CheckFault → Stop FileFault
+stop_from_check stop = mapped Proof stop
 
--- A read of this file failed, of whichever kind the file is.
-abbrev pub read_failed_at : ℕ → SumFault
-read_failed_at n = Proof n (check.Text (text.Feed feed.Read))
+-- Why adding a file of groups is stopped by a fault of the reader of such files.
+abbrev pub stop_from_text : GroupTextFault → Stop FileFault
+stop_from_text f = if is_failed_read f then ReadFailed else (if is_environmental f then OutOfMemory else Fault (Groups (groups.Text f)))
 
--- Whether the fault is a failed read of this file.
-abbrev pub is_failed_read_at : ℕ → SumFault → Bool
-is_failed_read_at n (Proof m f) = (m == n) && checks.is_failed_read f
-is_failed_read_at n _ = false
+-- A read of this file failed.
+abbrev pub read_failed_at : ℕ → SumStop
+read_failed_at n = record { file = n; stop = ReadFailed }
 
--- The fault of a file of groups for a fault of its text.
-abbrev pub text_fault_at : ℕ → GroupTextFault → SumFault
-text_fault_at n f = if is_failed_read f then read_failed_at n else (if is_environmental f then OutOfMemory else Groups n (groups.Text f))
+-- Whether a read of this file failed.
+abbrev pub is_failed_read_at : ℕ → SumStop → Bool
+is_failed_read_at n e = (e.file == n) && stops.is_failed_read e.stop
 
--- Being out of memory is a single fault.
-abbrev pub OutOfMemoryIsOneFault : SumFault → Type 0
-OutOfMemoryIsOneFault (Proof n f) = ¬ (f ≡ check.OutOfMemory) × OutOfMemoryIsNoTextFault f
-OutOfMemoryIsOneFault (Groups n f) = IsOfFile f
-OutOfMemoryIsOneFault _ = ⊤
+-- The fault holds no fault of memory or of a failed read: these would have stopped the sum.
+abbrev pub HoldsNoStop : FileFault → Type 0
+HoldsNoStop (Proof f) = checks.HoldsNoStop f
+HoldsNoStop (Groups f) = IsOfFile f
+HoldsNoStop (ClaimedElsewhere i e) = ⊤
+HoldsNoStop TooLarge = ⊤
 
--- The fault is being out of memory, a failed read, or a group whose claim is left open.
-abbrev pub IsSilentSum : SumFault → Type 0
-IsSilentSum (Proof n f) = f ≡ check.Text (text.Feed feed.Read)
-IsSilentSum (Groups n f) = IsLeftOpen f
-IsSilentSum (ClaimedElsewhere n i e) = ⊥
-IsSilentSum (TooLarge n) = ⊥
-IsSilentSum OutOfMemory = ⊤
+-- The check of a group's claim wasn't finished, so it may be right.
+abbrev pub IsUnfinished : FileFault → Type 0
+IsUnfinished (Groups f) = IsLeftOpen f
+IsUnfinished _ = ⊥

@@ -99,7 +99,7 @@ ExplainsGroups p parts s (Group i f) =
 ExplainsGroups p parts s TooCheap =
     AfterClaims p parts s (λ b claims rest. (after : Stream) × (group_at (sizes_of p) rest ≡ Ok (None, after)) × (sum_by (λ k. k.value) claims < b))
 
--- The fault belongs to the file: it is neither being out of memory nor a failed read.
+-- The fault holds none of memory or of a failed read.
 abbrev pub IsOfFile : GroupsFault → Type 0
 IsOfFile (Text f) = is_environmental f ≡ false
 IsOfFile (Group i f) = ¬ (f ≡ group.OutOfMemory)

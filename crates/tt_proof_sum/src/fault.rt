@@ -2,7 +2,7 @@
 
 ghost use Rattle.std.specs.Prelude.{◌≡◌, false};
 ghost use Rattle.tt_groups_read.specs.Faults.{is_failed_read, is_environmental};
-ghost use Rattle.tt_proof_sum.specs.Faults.{proof_fault_at, text_fault_at, read_failed_at};
+ghost use Rattle.tt_proof_sum.specs.Faults.{stop_from_check, stop_from_text};
 
 use crate::groups_fault::GroupsFault;
 use std::alloc::AllocError;
@@ -11,69 +11,67 @@ use std::fmt;
 use tt_groups_read::GroupTextFault;
 use tt_proof_check::CheckFault;
 use tt_proof_read::TextFault;
+use tt_stop::Stop;
 use tt_text::FeedFault;
 
-/// Why files can't be added up. Files are counted from 1, and nodes and groups from 0 in the order of the file.
+/// Why a file can't be added to others. Nodes and groups are counted from 0 in the order of the file, and files from 1.
 #[derive(Clone, Copy, Debug, PartialEq, Eq)]
-pub enum SumFault {
-    /// This proof has this fault, or a read of this file failed, of whichever kind the file is; being out of memory is `OutOfMemory`.
-    Proof(u64, CheckFault),
-    /// This file of groups has this fault.
-    Groups(u64, GroupsFault),
+pub enum FileFault {
+    /// The proof has this fault.
+    Proof(CheckFault),
+    /// The file of groups has this fault.
+    Groups(GroupsFault),
     /// This node of the proof is its first that claims a target which an earlier file claims.
-    ClaimedElsewhere { proof: u64, node: u32, earlier: u64 },
+    ClaimedElsewhere { node: u32, earlier: u64 },
     /// With this file the bounds add up to 2^64 or more.
-    TooLarge(u64),
-    OutOfMemory,
+    TooLarge,
 }
 
-impl From<AllocError> for SumFault {
-    ghost use Rattle.std.specs.Prelude.{◌≡◌};
-    ghost use Rattle.tt_proof_sum.specs.declared.fault.SumFault.TheVariants as fault;
-
-    ghost from_gives = { λ _ e. e ≡ fault.OutOfMemory };
-
-    fn from(_e: AllocError) -> SumFault {
-        SumFault::OutOfMemory
-    }
-}
-
-impl fmt::Display for SumFault {
+impl fmt::Display for FileFault {
     fn fmt<W: fmt::Write>(&self, f: &mut fmt::Formatter<W>) -> fmt::Result {
         match self {
-            SumFault::Proof(proof, fault) => write!(f, "proof {proof}: {fault}"),
-            SumFault::Groups(proof, fault) => write!(f, "proof {proof}: {fault}"),
-            SumFault::ClaimedElsewhere {
-                proof,
-                node,
-                earlier,
-            } => write!(
-                f,
-                "proof {proof}: ClaimedElsewhere at node {node}, by proof {earlier}"
-            ),
-            SumFault::TooLarge(proof) => write!(f, "proof {proof}: TooLarge"),
-            SumFault::OutOfMemory => write!(f, "out of memory"),
+            FileFault::Proof(fault) => write!(f, "{fault}"),
+            FileFault::Groups(fault) => write!(f, "{fault}"),
+            FileFault::ClaimedElsewhere { node, earlier } => {
+                write!(f, "ClaimedElsewhere at node {node}, by proof {earlier}")
+            }
+            FileFault::TooLarge => write!(f, "TooLarge"),
         }
     }
 }
 
-impl Error for SumFault {}
+impl Error for FileFault {}
 
-/// Returns the fault of the proof with this number.
-pub fn fault_of_proof(number: u64, fault: CheckFault) -> SumFault
-    ensures { result ≡ proof_fault_at number fault }
-{
-    match fault {
-        CheckFault::OutOfMemory => SumFault::OutOfMemory,
-        fault => SumFault::Proof(number, fault),
+/// Why files weren't added up: the file, counted from 1, that was being added (0 before the first), and why that ended.
+#[derive(Clone, Copy, Debug, PartialEq, Eq)]
+pub struct SumStop {
+    pub file: u64,
+    pub stop: Stop<FileFault>,
+}
+
+impl From<AllocError> for SumStop {
+    ghost use Rattle.std.specs.Prelude.{◌≡◌};
+    ghost use Rattle.tt_stop.specs.declared.stop.Stop.TheVariants.{OutOfMemory};
+
+    ghost from_gives = { λ _ e. e ≡ record { file = 0; stop = OutOfMemory } };
+
+    fn from(_e: AllocError) -> SumStop {
+        SumStop {
+            file: 0,
+            stop: Stop::OutOfMemory,
+        }
     }
 }
 
-/// Returns the fault of a failed read of the file with this number.
-pub fn read_failed(number: u64) -> SumFault
-    ensures { result ≡ read_failed_at number }
+/// Returns why adding a file is stopped after the check of its proof was.
+pub fn stop_from_check(stop: Stop<CheckFault>) -> Stop<FileFault>
+    ensures { result ≡ stop_from_check stop }
 {
-    SumFault::Proof(number, CheckFault::Text(TextFault::Feed(FeedFault::Read)))
+    match stop {
+        Stop::Fault(fault) => Stop::Fault(FileFault::Proof(fault)),
+        Stop::ReadFailed => Stop::ReadFailed,
+        Stop::OutOfMemory => Stop::OutOfMemory,
+    }
 }
 
 fn is_failed_read(fault: &GroupTextFault) -> bool
@@ -91,15 +89,15 @@ fn is_out_of_memory(fault: &GroupTextFault) -> bool
     matches!(fault, GroupTextFault::Text(TextFault::OutOfMemory))
 }
 
-/// Returns the fault of the text of the file of groups with this number.
-pub fn fault_of_text(number: u64, fault: GroupTextFault) -> SumFault
-    ensures { result ≡ text_fault_at number fault }
+/// Returns why adding a file of groups is stopped by a fault of the reader of such files.
+pub fn stop_from_text(fault: GroupTextFault) -> Stop<FileFault>
+    ensures { result ≡ stop_from_text fault }
 {
     if is_failed_read(&fault) {
-        read_failed(number)
+        Stop::ReadFailed
     } else if is_out_of_memory(&fault) {
-        SumFault::OutOfMemory
+        Stop::OutOfMemory
     } else {
-        SumFault::Groups(number, GroupsFault::Text(fault))
+        Stop::Fault(FileFault::Groups(GroupsFault::Text(fault)))
     }
 }

@@ -1,6 +1,6 @@
 //! Adding a file of groups, whose claims are added to the table of owners.
 
-ghost use Rattle.std.specs.Prelude.{◌≡◌, ◌<◌, ◌==◌, ℕ, List, Some, None, Ok, Err, true, IfOk, IfErr, OnOk, if◌then◌else◌, nat_lt};
+ghost use Rattle.std.specs.Prelude.{◌≡◌, ◌<◌, ◌==◌, ℕ, List, Some, None, Ok, Err, true, false, IfOk, OnOk, if◌then◌else◌, nat_lt};
 ghost use Rattle.std.specs.Io.KnownBytes.{Keeps};
 ghost use Rattle.std.specs.declared.option.Option.{Option};
 ghost use Rattle.tt_groups.specs.Group.{IsGroupBound};
@@ -10,15 +10,16 @@ ghost use Rattle.tt_text_peek.specs.Fronts.{is_groups};
 ghost use Rattle.tt_proof_check.specs.FailedReads.{HoldsOfGiven};
 ghost use Rattle.tt_proof_sum.specs.Added.{Joins, IsOfKind};
 ghost use Rattle.tt_proof_sum.specs.Inner.Claiming.{ExplainsClaim};
-ghost use Rattle.tt_text.specs.Failures.{is_err_and};
-ghost use Rattle.tt_proof_sum.specs.Faults.{ExplainsAdded, IsNumbered, OutOfMemoryIsOneFault, read_failed_at, is_failed_read_at};
+ghost use Rattle.tt_stop.specs.Stops.{IfFault, is_read_failed};
+ghost use Rattle.tt_stop.specs.declared.stop.Stop.TheVariants.{Fault};
+ghost use Rattle.tt_proof_sum.specs.Faults.{ExplainsAdded, HoldsNoStop};
 ghost use Rattle.tt_proof_sum.specs.Sums.{Part};
 ghost use Rattle.tt_proof_sum.specs.Tables.{State, IsTableOf, begun, group_places, first_owner, Marks};
 ghost use Rattle.tt_proof_sum.specs.UpToFailedRead.{AreGroupsCutOff};
-ghost use Rattle.tt_proof_sum.specs.declared.fault.SumFault.TheVariants.{Groups};
+ghost use Rattle.tt_proof_sum.specs.declared.fault.FileFault.TheVariants.{Groups};
 ghost use Rattle.tt_proof_sum.specs.declared.groups_fault.GroupsFault.TheVariants as groups;
 
-use crate::fault::{SumFault, fault_of_text};
+use crate::fault::{FileFault, stop_from_text};
 use crate::groups_fault::GroupsFault;
 use crate::table::Table;
 use std::alloc::Global;
@@ -26,6 +27,7 @@ use tt_groups_check::{GroupFault, Work, check_group};
 use tt_groups_read::{GroupClaim, GroupReader, GroupTextFault};
 use tt_instance::Instance;
 use tt_leaf::Bound;
+use tt_stop::Stop;
 use tt_text::Source;
 
 /// Returns the fault of a group that has a target which this file or an earlier one claims.
@@ -50,32 +52,33 @@ fn take_claim(
     work: &mut Work,
     number: u32,
     claim: &GroupClaim,
-) -> Result<(), SumFault>
+) -> Result<(), Stop<FileFault>>
     requires { IsGroupOf instance.now claim.now.group }
     ensures free { OnOk result (first_owner table.old (group_places claim.now.group) ≡ None) }
     ensures marks { OnOk result (Marks table.old (group_places claim.now.group) table.new) }
     ensures holds { OnOk result (IsGroupBound instance.now claim.now.group claim.now.value) }
-    ensures fault { IfErr result (ExplainsClaim instance.now table.old number claim.now) }
-    ensures memory { IfErr result OutOfMemoryIsOneFault }
+    ensures fault { IfFault result (ExplainsClaim instance.now table.old number claim.now) }
+    ensures lower { IfFault result HoldsNoStop }
+    ensures unread { is_read_failed result ≡ false }
 {
     let file = table.proof();
     if let Some(owner) = table.owner_of_group(&claim.group) {
-        return Err(SumFault::Groups(file, claimed_before(file, number, owner)));
+        return Err(Stop::Fault(FileFault::Groups(claimed_before(file, number, owner))));
     }
     table.mark_group(&claim.group);
     match check_group(alloc, instance, &claim.group, claim.value, work) {
         Ok(()) => Ok(()),
-        Err(GroupFault::OutOfMemory) => Err(SumFault::OutOfMemory),
-        Err(fault) => Err(SumFault::Groups(file, GroupsFault::Group(number, fault))),
+        Err(GroupFault::OutOfMemory) => Err(Stop::OutOfMemory),
+        Err(fault) => Err(Stop::Fault(FileFault::Groups(GroupsFault::Group(number, fault)))),
     }
 }
 
 /// Returns the bound if the values of all groups reach it.
-fn reached(file: u64, bound: u64, total: u64) -> Result<Bound, SumFault>
-    ensures { result ≡ (if nat_lt total bound then Err (Groups file groups.TooCheap) else Ok (AtLeast bound)) }
+fn reached(bound: u64, total: u64) -> Result<Bound, Stop<FileFault>>
+    ensures { result ≡ (if nat_lt total bound then Err (Fault (Groups groups.TooCheap)) else Ok (AtLeast bound)) }
 {
     if total < bound {
-        Err(SumFault::Groups(file, GroupsFault::TooCheap))
+        Err(Stop::Fault(FileFault::Groups(GroupsFault::TooCheap)))
     } else {
         Ok(Bound::AtLeast(bound))
     }
@@ -89,25 +92,23 @@ pub fn take_groups<R: Source>(
     instance: &Instance<'_>,
     table: &mut Table,
     source: &mut R,
-) -> Result<Bound, SumFault>
+) -> Result<Bound, Stop<FileFault>>
     requires { 0 < table.old.proof }
     ensures joins { IfOk result (λ b. (before : State) (parts : List Part) (known : Option (List ℕ)) → IsTableOf before parts → table.old ≡ begun before →
         Keeps known (R.remaining source.old) → IsOfKind true known → Joins instance.now known parts table.new b) }
     ensures proof { OnOk result (table.new.proof ≡ table.old.proof) }
-    ensures fault { IfErr result (λ e. (before : State) (parts : List Part) (bytes : List ℕ) → IsTableOf before parts → table.old ≡ begun before →
-        R.remaining source.old ≡ Some bytes → is_groups bytes ≡ true → ExplainsAdded instance.now parts bytes e) }
-    ensures numbered { IfErr result (IsNumbered table.old.proof) }
-    ensures failed { R.has_failed source.new ≡ (if is_err_and result (is_failed_read_at table.old.proof) then true else R.has_failed source.old) }
-    ensures memory { IfErr result OutOfMemoryIsOneFault }
-    ensures up_to_failed_read { result ≡ Err (read_failed_at table.old.proof) → (bytes : List ℕ) → R.remaining source.old ≡ Some bytes →
+    ensures fault { IfFault result (λ f. (before : State) (parts : List Part) (bytes : List ℕ) → IsTableOf before parts → table.old ≡ begun before →
+        R.remaining source.old ≡ Some bytes → is_groups bytes ≡ true → ExplainsAdded instance.now parts bytes f) }
+    ensures lower { IfFault result HoldsNoStop }
+    ensures failed { R.has_failed source.new ≡ (if is_read_failed result then true else R.has_failed source.old) }
+    ensures up_to_failed_read { result ≡ Err Stop.ReadFailed → (bytes : List ℕ) → R.remaining source.old ≡ Some bytes →
         HoldsOfGiven bytes (R.remaining source.new) (AreGroupsCutOff instance.now) }
 {
     // Brings the instance's limits into the proof.
     prove!(instance.days() > 0);
-    let file = table.proof();
     let mut reader = match GroupReader::new(alloc, instance, source) {
         Ok(reader) => reader,
-        Err(fault) => return Err(fault_of_text(file, fault)),
+        Err(fault) => return Err(stop_from_text(fault)),
     };
     let mut work = Work::new();
     let mut number = 0;
@@ -115,8 +116,8 @@ pub fn take_groups<R: Source>(
     loop {
         let claim = match reader.next_group(source) {
             Ok(Some(claim)) => claim,
-            Ok(None) => return reached(file, reader.bound(), total),
-            Err(fault) => return Err(fault_of_text(file, GroupTextFault::Text(fault))),
+            Ok(None) => return reached(reader.bound(), total),
+            Err(fault) => return Err(stop_from_text(GroupTextFault::Text(fault))),
         };
         take_claim(alloc, instance, table, &mut work, number, &claim)?;
         total = total.saturating_add(claim.value);

@@ -7,13 +7,13 @@ use tt_groups_read::GroupTextFault;
 /// Why a file of groups can't be added. Groups are counted from 0 in the order of the file.
 #[derive(Clone, Copy, Debug, PartialEq, Eq)]
 pub enum GroupsFault {
-    /// The text isn't a file of groups; being out of memory and failed reads are faults of their own.
+    /// The text isn't a file of groups.
     Text(GroupTextFault),
     /// This group has a target that an earlier group of the file has.
     ClaimedTwice(u32),
     /// This group has a target that an earlier file claims, and none of its targets before that one is claimed.
     ClaimedElsewhere { group: u32, earlier: u64 },
-    /// This group's claim was not confirmed; being out of memory is a fault of its own.
+    /// This group's claim was not confirmed.
     Group(u32, GroupFault),
     /// The values of all groups add up to less than the bound.
     TooCheap,

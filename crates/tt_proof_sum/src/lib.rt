@@ -10,7 +10,7 @@ mod several;
 mod summed;
 mod table;
 
-pub use fault::SumFault;
+pub use fault::{FileFault, SumStop};
 pub use groups_fault::GroupsFault;
 pub use laws::{
     apart_bounds_add, bounds_hold_over, bounds_hold_over_all, group_bounds_hold_over, sums_hold,

@@ -1,22 +1,23 @@
 //! Adding a file, whose claims are added to the table of owners.
 
-ghost use Rattle.std.specs.Prelude.{◌≡◌, ◌+◌, ◌<◌, ℕ, List, Some, Err, true, false, if◌then◌else◌, IfOk, IfErr, OnOk};
+ghost use Rattle.std.specs.Prelude.{◌≡◌, ◌+◌, ◌<◌, ℕ, List, Some, Err, true, false, if◌then◌else◌, IfOk, OnOk};
 ghost use Rattle.tt_text_peek.specs.Fronts.{is_groups};
-ghost use Rattle.tt_text.specs.Failures.{is_err_and};
+ghost use Rattle.tt_stop.specs.Stops.{IfFault, is_read_failed};
 ghost use Rattle.tt_proof_check.specs.FailedReads.{IsCheckedUpToFailedRead};
 ghost use Rattle.tt_proof_sum.specs.Added.{Joins};
-ghost use Rattle.tt_proof_sum.specs.Faults.{ExplainsAdded, IsNumbered, OutOfMemoryIsOneFault, read_failed_at, is_failed_read_at};
+ghost use Rattle.tt_proof_sum.specs.Faults.{ExplainsAdded, HoldsNoStop};
 ghost use Rattle.tt_proof_sum.specs.Sums.{Part};
 ghost use Rattle.tt_proof_sum.specs.Tables.{State, IsTableOf, begun};
 ghost use Rattle.tt_proof_sum.specs.UpToFailedRead.{IsFileCheckedUpToFailedRead};
 
-use crate::fault::{SumFault, fault_of_proof, read_failed};
+use crate::fault::{FileFault, stop_from_check};
 use crate::groups::take_groups;
 use crate::table::Table;
 use std::alloc::Global;
 use tt_instance::Instance;
 use tt_leaf::Bound;
 use tt_proof_check::check_proof_with;
+use tt_stop::Stop;
 use tt_text::Source;
 use tt_text_peek::{Peek, PeekFault};
 
@@ -26,32 +27,29 @@ fn take_proof<R: Source>(
     instance: &Instance<'_>,
     table: &mut Table,
     source: &mut R,
-) -> Result<Bound, SumFault>
+) -> Result<Bound, Stop<FileFault>>
     requires { 0 < table.old.proof }
     ensures joins { IfOk result (λ b. (before : State) (parts : List Part) → IsTableOf before parts → table.old ≡ begun before →
         Joins instance.now (R.remaining source.old) parts table.new b) }
     ensures proof { OnOk result (table.new.proof ≡ table.old.proof) }
-    ensures fault { IfErr result (λ e. (before : State) (parts : List Part) (bytes : List ℕ) → IsTableOf before parts → table.old ≡ begun before →
-        R.remaining source.old ≡ Some bytes → is_groups bytes ≡ false → ExplainsAdded instance.now parts bytes e) }
-    ensures numbered { IfErr result (IsNumbered table.old.proof) }
-    ensures failed { R.has_failed source.new ≡ (if is_err_and result (is_failed_read_at table.old.proof) then true else R.has_failed source.old) }
-    ensures memory { IfErr result OutOfMemoryIsOneFault }
-    ensures up_to_failed_read { result ≡ Err (read_failed_at table.old.proof) → (bytes : List ℕ) → R.remaining source.old ≡ Some bytes →
+    ensures fault { IfFault result (λ f. (before : State) (parts : List Part) (bytes : List ℕ) → IsTableOf before parts → table.old ≡ begun before →
+        R.remaining source.old ≡ Some bytes → is_groups bytes ≡ false → ExplainsAdded instance.now parts bytes f) }
+    ensures lower { IfFault result HoldsNoStop }
+    ensures failed { R.has_failed source.new ≡ (if is_read_failed result then true else R.has_failed source.old) }
+    ensures up_to_failed_read { result ≡ Err Stop.ReadFailed → (bytes : List ℕ) → R.remaining source.old ≡ Some bytes →
         IsCheckedUpToFailedRead instance.now bytes (R.remaining source.new) }
 {
     // Brings the instance's limits into the proof.
     prove!(instance.days() > 0);
-    let proof = table.proof();
     let bound = match check_proof_with(alloc, instance, table, source) {
         Ok(bound) => bound,
-        Err(fault) => return Err(fault_of_proof(proof, fault)),
+        Err(stop) => return Err(stop_from_check(stop)),
     };
     if let Some(clash) = table.clash() {
-        return Err(SumFault::ClaimedElsewhere {
-            proof,
+        return Err(Stop::Fault(FileFault::ClaimedElsewhere {
             node: clash.node,
             earlier: clash.earlier,
-        });
+        }));
     }
     Ok(bound)
 }
@@ -62,23 +60,22 @@ pub fn take_file<R: Peek>(
     instance: &Instance<'_>,
     table: &mut Table,
     source: &mut R,
-) -> Result<Bound, SumFault>
+) -> Result<Bound, Stop<FileFault>>
     requires room { table.old.proof < u64.MAX }
     ensures joins { IfOk result (λ b. (parts : List Part) → IsTableOf table.old parts → Joins instance.now (R.remaining source.old) parts table.new b) }
     ensures next { OnOk result (table.new.proof ≡ table.old.proof + 1) }
-    ensures fault { IfErr result (λ e. (parts : List Part) (bytes : List ℕ) → IsTableOf table.old parts → R.remaining source.old ≡ Some bytes →
-        ExplainsAdded instance.now parts bytes e) }
-    ensures numbered { IfErr result (IsNumbered (table.old.proof + 1)) }
-    ensures failed { R.has_failed source.new ≡ (if is_err_and result (is_failed_read_at (table.old.proof + 1)) then true else R.has_failed source.old) }
-    ensures memory { IfErr result OutOfMemoryIsOneFault }
-    ensures up_to_failed_read { result ≡ Err (read_failed_at (table.old.proof + 1)) → (bytes : List ℕ) → R.remaining source.old ≡ Some bytes →
+    ensures fault { IfFault result (λ f. (parts : List Part) (bytes : List ℕ) → IsTableOf table.old parts → R.remaining source.old ≡ Some bytes →
+        ExplainsAdded instance.now parts bytes f) }
+    ensures lower { IfFault result HoldsNoStop }
+    ensures failed { R.has_failed source.new ≡ (if is_read_failed result then true else R.has_failed source.old) }
+    ensures up_to_failed_read { result ≡ Err Stop.ReadFailed → (bytes : List ℕ) → R.remaining source.old ≡ Some bytes →
         IsFileCheckedUpToFailedRead instance.now bytes (R.remaining source.new) }
 {
     table.begin();
     match source.peek_groups() {
         Ok(true) => take_groups(alloc, instance, table, source),
         Ok(false) => take_proof(alloc, instance, table, source),
-        Err(PeekFault::Read) => Err(read_failed(table.proof())),
-        Err(PeekFault::OutOfMemory) => Err(SumFault::OutOfMemory),
+        Err(PeekFault::Read) => Err(Stop::ReadFailed),
+        Err(PeekFault::OutOfMemory) => Err(Stop::OutOfMemory),
     }
 }

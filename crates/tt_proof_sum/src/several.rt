@@ -1,15 +1,16 @@
 //! The sum of a list of files.
 
-ghost use Rattle.std.specs.Prelude.{◌≡◌, ◌+◌, ◌-◌, ◌<◌, ◌≤◌, ◌^◌, ℕ, List, Some, Err, true, if◌then◌else◌, IfOk, IfErr, MatchResult, slice_get, slice_index_or};
+ghost use Rattle.std.specs.Prelude.{◌≡◌, ◌+◌, ◌-◌, ◌<◌, ◌^◌, ℕ, List, Some, Err, true, if◌then◌else◌, IfOk, IfErr, MatchResult, slice_get, slice_index_or};
 ghost use Rattle.tt_leaf.specs.declared.leaf.Bound.{Bound};
 ghost use Rattle.tt_proof_check.specs.Derives.{HoldsOfAll};
+ghost use Rattle.tt_stop.specs.Stops.{OnFault};
 ghost use Rattle.tt_text.specs.Failures.{is_err_and};
 ghost use Rattle.tt_proof_sum.specs.Added.{Give};
-ghost use Rattle.tt_proof_sum.specs.Faults.{IsSumFault, OutOfMemoryIsOneFault, IsSilentSum, read_failed_at, is_failed_read_at, all_points};
+ghost use Rattle.tt_proof_sum.specs.Faults.{IsSumStop, HoldsNoStop, IsUnfinished, read_failed_at, is_failed_read_at, all_points};
 ghost use Rattle.tt_proof_sum.specs.Sums.{IsSum};
 ghost use Rattle.tt_proof_sum.specs.UpToFailedRead.{IsFileCheckedUpToFailedRead};
 
-use crate::fault::SumFault;
+use crate::fault::SumStop;
 use crate::summed::Sum;
 use std::alloc::Global;
 use tt_instance::Instance;
@@ -22,20 +23,21 @@ pub fn sum_proofs<R: Peek>(
     alloc: Global,
     instance: &Instance<'_>,
     sources: &mut [R],
-) -> Result<Bound, SumFault>
+) -> Result<Bound, SumStop>
     // Each file spells a part that is right, no target is claimed by two of them, and the result is the sum.
     ensures found { IfOk result (λ s. (files : List (List ℕ)) → Give R.remaining sources.old files → IsSum instance.now files s) }
     // If the files have a sum below 2^64, the result is that sum, unless memory runs out, a read fails or a group's claim is left open.
     ensures only { (files : List (List ℕ)) (s : Bound) → Give R.remaining sources.old files → (h : IsSum instance.now files s) →
-        all_points h.parts < 2 ^ 64 → MatchResult result (λ c. c ≡ s) IsSilentSum }
+        all_points h.parts < 2 ^ 64 → MatchResult result (λ c. c ≡ s) (λ e. OnFault e.stop IsUnfinished) }
     // This holds for any bytes that the sources give.
     ensures holds { IfOk result (HoldsOfAll instance.now) }
-    // A refusal names the first file that can't be added to those before it, and its first fault.
-    ensures fault { IfErr result (λ e. (files : List (List ℕ)) → Give R.remaining sources.old files → IsSumFault instance.now files e) }
+    // A fault is the first one of the first file that can't be added to those before it.
+    ensures fault { IfErr result (λ e. (files : List (List ℕ)) → Give R.remaining sources.old files → IsSumStop instance.now files e.file e.stop) }
     // A failed read is reported exactly if a read failed.
     ensures failed { (i : ℕ) (r : R) → slice_get sources.new i ≡ Some r →
         R.has_failed r ≡ (if is_err_and result (is_failed_read_at (i + 1)) then true else R.has_failed (slice_index_or sources.old i r)) }
-    ensures memory { IfErr result OutOfMemoryIsOneFault }
+    // A fault holds none of memory or of a failed read.
+    ensures lower { IfErr result (λ e. OnFault e.stop HoldsNoStop) }
     // If a read failed, everything in the bytes before it has been checked.
     ensures up_to_failed_read { (i : ℕ) (r q : R) (bytes : List ℕ) → result ≡ Err (read_failed_at (i + 1)) → slice_get sources.old i ≡ Some r → slice_get sources.new i ≡ Some q →
         R.remaining r ≡ Some bytes → IsFileCheckedUpToFailedRead instance.now bytes (R.remaining q) }
@@ -44,7 +46,11 @@ pub fn sum_proofs<R: Peek>(
     prove!(instance.days() > 0);
     let mut sum = Sum::new(alloc)?;
     for source in sources {
-        sum = sum.add(alloc, instance, source)?;
+        let file = sum.due();
+        sum = match sum.add(alloc, instance, source) {
+            Ok(sum) => sum,
+            Err(stop) => return Err(SumStop { file, stop }),
+        };
     }
     Ok(sum.bound())
 }

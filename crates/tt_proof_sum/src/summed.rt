@@ -1,18 +1,19 @@
 //! A sum of files that are added in turn.
 
-ghost use Rattle.std.specs.Prelude.{◌≡◌, ◌+◌, ◌<◌, ◌≤◌, ◌^◌, ℕ, List, [], ◌++◌, ◌∷◌, Some, Err, true, if◌then◌else◌, IfOk, IfErr, MatchOption};
+ghost use Rattle.std.specs.Prelude.{◌≡◌, ◌+◌, ◌<◌, ◌≤◌, ◌^◌, ℕ, List, [], ◌++◌, ◌∷◌, Some, Err, true, if◌then◌else◌, IfOk, MatchOption};
 ghost use Rattle.tt_proof_sum.specs.Added.{IsSumOf, Adds, due};
-ghost use Rattle.tt_text.specs.Failures.{is_err_and};
-ghost use Rattle.tt_proof_sum.specs.Faults.{ExplainsAdded, IsNumbered, OutOfMemoryIsOneFault, IsSilentSum, read_failed_at, is_failed_read_at, points, all_points};
+ghost use Rattle.tt_stop.specs.Stops.{IfFault, is_read_failed};
+ghost use Rattle.tt_proof_sum.specs.Faults.{ExplainsAdded, HoldsNoStop, IsUnfinished, points, all_points};
 ghost use Rattle.tt_proof_sum.specs.Sums.{Part, IsPart, AreApart, both_bounds, sum_of};
 ghost use Rattle.tt_proof_sum.specs.UpToFailedRead.{IsFileCheckedUpToFailedRead};
 
-use crate::fault::SumFault;
+use crate::fault::FileFault;
 use crate::one_more::take_file;
 use crate::table::Table;
 use std::alloc::{AllocError, Global};
 use tt_instance::Instance;
 use tt_leaf::Bound;
+use tt_stop::Stop;
 use tt_text_peek::Peek;
 
 /// Returns the sum of two bounds if it is below 2^64.
@@ -50,29 +51,37 @@ impl Sum {
         self.total
     }
 
+    /// Returns the number of the next file, counted from 1.
+    pub fn due(&self) -> u64
+        requires { due self.now < 2 ^ 64 }
+        ensures { result ≡ due self.now }
+    {
+        self.table.proof() + 1
+    }
+
     /// Checks another file, and adds its bound if it claims no target that an earlier file claims.
     pub fn add<R: Peek>(
         mut self,
         alloc: Global,
         instance: &Instance<'_>,
         source: &mut R,
-    ) -> Result<Sum, SumFault>
+    ) -> Result<Sum, Stop<FileFault>>
         requires room { due self < 2 ^ 64 }
         // The source's bytes spell a part that is right and apart from the others, and its bound is added.
         ensures added { IfOk result (λ s. (parts : List Part) → IsSumOf self parts → Adds instance.now (R.remaining source.old) parts s) }
         ensures next { IfOk result (λ s. due s ≡ due self + 1) }
         // If the bytes spell such a part, it is added if the sum stays below 2^64, unless memory runs out, a read fails or a group's claim is left open.
         ensures only { (parts : List Part) (bytes : List ℕ) (part : Part) → IsSumOf self parts → R.remaining source.old ≡ Some bytes →
-            IsPart instance.now bytes part → AreApart (parts ++ part ∷ []) → all_points (parts ++ part ∷ []) < 2 ^ 64 → IfErr result IsSilentSum }
-        // A refusal reports the first fault.
-        ensures fault { IfErr result (λ e. (parts : List Part) (bytes : List ℕ) → IsSumOf self parts → R.remaining source.old ≡ Some bytes →
-            ExplainsAdded instance.now parts bytes e) }
-        ensures numbered { IfErr result (IsNumbered (due self)) }
+            IsPart instance.now bytes part → AreApart (parts ++ part ∷ []) → all_points (parts ++ part ∷ []) < 2 ^ 64 → IfFault result IsUnfinished }
+        // The first fault is reported.
+        ensures fault { IfFault result (λ f. (parts : List Part) (bytes : List ℕ) → IsSumOf self parts → R.remaining source.old ≡ Some bytes →
+            ExplainsAdded instance.now parts bytes f) }
+        // A fault holds none of memory or of a failed read.
+        ensures lower { IfFault result HoldsNoStop }
         // A failed read is reported exactly if a read failed.
-        ensures failed { R.has_failed source.new ≡ (if is_err_and result (is_failed_read_at (due self)) then true else R.has_failed source.old) }
-        ensures memory { IfErr result OutOfMemoryIsOneFault }
+        ensures failed { R.has_failed source.new ≡ (if is_read_failed result then true else R.has_failed source.old) }
         // If a read failed, everything in the bytes before it has been checked.
-        ensures up_to_failed_read { result ≡ Err (read_failed_at (due self)) → (bytes : List ℕ) → R.remaining source.old ≡ Some bytes →
+        ensures up_to_failed_read { result ≡ Err Stop.ReadFailed → (bytes : List ℕ) → R.remaining source.old ≡ Some bytes →
             IsFileCheckedUpToFailedRead instance.now bytes (R.remaining source.new) }
     {
         // Brings the instance's limits into the proof.
@@ -83,7 +92,7 @@ impl Sum {
                 self.total = total;
                 Ok(self)
             }
-            None => Err(SumFault::TooLarge(self.table.proof())),
+            None => Err(Stop::Fault(FileFault::TooLarge)),
         }
     }
 }

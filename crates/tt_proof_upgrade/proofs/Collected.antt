@@ -4,7 +4,6 @@ use Rattle.std.specs.Prelude.{All}
 use Rattle.std.proofs.lemmas.List.Elements.{All-push}
 use Rattle.tt_text.specs.Feeds.{Stream}
 use Rattle.tt_leaf.specs.declared.leaf.Leaf.TheVariants.{Many}
-use Rattle.tt_proof_read.specs.Faults.{read_failed}
 use Rattle.tt_proof_read.specs.Reading.{node_at}
 use Rattle.tt_proof_read.specs.Readers.{Reader, IsNodeAt, IsReaderAfter, IsReadingOf}
 use Rattle.tt_proof_read.specs.Reads.{ReadsNodes}
@@ -13,11 +12,10 @@ use Rattle.tt_proof_read.specs.declared.fault.TextFault.{TextFault}
 use Rattle.tt_proof_read.specs.declared.node.Node.{Node}
 use Rattle.tt_proof_read.specs.declared.node.Node.TheVariants.{Leaf}
 use Rattle.tt_proof_read.specs.declared.sizes.Sizes.{Sizes}
-use Rattle.tt_proof_check.specs.Streams.{Fails}
 use Rattle.tt_proof_check.proofs.Counting.{next_places}
 use Rattle.tt_proof_check.proofs.Reading.{Stack, root, next_stack, stack_after, stack_after-push, closing, some_tree, stack_whole}
 use Rattle.tt_proof_check.proofs.Streaming.{reads_push}
-use Rattle.tt_proof_upgrade.specs.Texts.{IsCollected, NodeTextFails, NodeIsCutOff}
+use Rattle.tt_proof_upgrade.specs.Texts.{IsCollected, NodeTextFails}
 
 -- The nodes stored so far, in this state of the reader, with this stream after them.
 pub record Collected (sizes : Sizes) (v : ℕ) (known : Bool) (s : Stream) (reader : Reader) (t : Stream) (nodes : List Node) : Type 0 where
@@ -102,7 +100,7 @@ module _ (sizes : Sizes) (v : ℕ) (known : Bool) (s : Stream) (old : Reader) (t
       (subst (λ (i : ℕ). P (node_at sizes i old.count t)) m.version
       (subst (λ (x : Sizes). P (node_at x old.version old.count t)) m.sizes_are h))
 
-  pub collected_breaks : (f : TextFault) → 0 < old.places → known ≡ true → Fails f (node_at old.sizes old.version old.count t)
+  pub collected_breaks : (f : TextFault) → 0 < old.places → known ≡ true → node_at old.sizes old.version old.count t ≡ Err f
       → NodeTextFails sizes v s f
   collected_breaks f some k fails =
       let w = goes_on some in
@@ -114,13 +112,5 @@ module _ (sizes : Sizes) (v : ℕ) (known : Bool) (s : Stream) (old : Reader) (t
         next = Leaf (Many 0);
         more = w.1;
         begins = w.2;
-        fails = here (Fails f) fails;
+        fails = here (λ r. r ≡ Err f) fails;
       }
-
-  pub collected_breaks_off : 0 < old.places → known ≡ true → node_at old.sizes old.version old.count t ≡ Err read_failed
-      → NodeIsCutOff sizes v s
-  collected_breaks_off some k breaks =
-      let w = goes_on some in (
-        record { nodes = nodes; rest = t; reads = m.reads k; tree = w.0; next = Leaf (Many 0); more = w.1; begins = w.2; fails = tt },
-        here (λ r. r ≡ Err read_failed) breaks,
-      )

@@ -1,21 +1,27 @@
 -- The faults of the nodes of a tree.
-use Rattle.std.proofs.Common.{◌≡◌, refl, Bool, false, ℕ, ◌≤◌, ◌<◌, List, [], length, Some, sym, ap, ◌∙◌, subst, arith}
+use Rattle.std.proofs.Common.{◌≡◌, refl, Bool, true, false, if◌then◌else◌, ℕ, ◌≤◌, ◌<◌, List, [], length, Some, sym, ap, ◌∙◌, subst, arith}
 use Rattle.std.specs.Prelude.{slice_get}
 use Rattle.std.proofs.lemmas.Option.{slice_get_within}
 use Rattle.tt_text.specs.declared.feed.FeedFault.TheVariants as feed
+use Rattle.tt_stop.specs.Stops.{OnFault, mapped, is_failed_read}
+use Rattle.tt_stop.specs.declared.stop.Stop.{Stop}
+use Rattle.tt_stop.specs.declared.stop.Stop.TheVariants.{Fault, ReadFailed, OutOfMemory}
 use Rattle.tt_instance.specs.Problem.{Problem}
 use Rattle.tt_leaf.specs.declared.leaf.Bound.{Bound}
 use Rattle.tt_proof_read.specs.Faults as read
+use Rattle.tt_proof_read.specs.Faults.{is_environmental, read_failed}
 use Rattle.tt_proof_read.specs.Trees.{Tree, preorder, OnPath, on_paths, IsPreorder}
 use Rattle.tt_proof_read.specs.declared.fault.TextFault.{TextFault}
 use Rattle.tt_proof_read.specs.declared.fault.TextFault.TheVariants as text
 use Rattle.tt_proof_read.specs.declared.node.Node.{Node}
 use Rattle.tt_proof_check.specs.Explains.{Explains}
+use Rattle.tt_proof_check.specs.Faults as checks
 use Rattle.tt_proof_check.specs.declared.fault.CheckFault.TheVariants as check
 use Rattle.tt_proof_check.specs.declared.fault.NodesFault.{NodesFault}
-use Rattle.tt_proof_check.specs.declared.fault.NodesFault.TheVariants.{NotATree, Rule, TooDeep, OutOfMemory}
+use Rattle.tt_proof_check.specs.declared.fault.NodesFault.TheVariants.{NotATree, Rule, TooDeep}
 use Rattle.tt_proof_check.proofs.Reading.{root, length-places_of, whole_places, whole_stack}
-use Rattle.tt_proof_upgrade.specs.Faults.{fault_from_text, read_failed, is_failed_read, IsOfNode, IsFaultOfNode, IsNodesFault, IsWriteFault, OutOfMemoryIsOneFault}
+use Rattle.tt_proof_check.proofs.TextFaults.{stop_cases}
+use Rattle.tt_proof_upgrade.specs.Faults.{stop_from_text, IsOfNode, IsFaultOfNode, IsNodesFault, IsWriteFault, HoldsNoStop}
 use Rattle.tt_proof_upgrade.specs.declared.fault.UpgradeFault.{UpgradeFault}
 use Rattle.tt_proof_upgrade.specs.declared.fault.UpgradeFault.TheVariants as upgrade
 
@@ -36,53 +42,47 @@ pub is_of_node : (p : Problem) (b : Bound) (nodes : List Node) → IsPreorder no
 is_of_node p b nodes tree at_most NotATree t = absurd (t tree)
 is_of_node p b nodes tree at_most (Rule i f) t = place_small t.0 nodes i _ t.1 at_most t.2.found
 is_of_node p b nodes tree at_most (TooDeep i) t = place_small t.0 nodes i _ t.1 at_most t.2.found
-is_of_node p b nodes tree at_most OutOfMemory t = tt
 
 pub fault_of_node : (p : Problem) (b : Bound) (nodes : List Node) (e : NodesFault) (u : UpgradeFault) → IsFaultOfNode e u
     → Explains p b nodes e → IsNodesFault p b nodes u
 fault_of_node p b nodes NotATree u is t = absurd is
 fault_of_node p b nodes (Rule i f) u is t = subst (IsNodesFault p b nodes) (sym is) t
 fault_of_node p b nodes (TooDeep i) u is t = subst (IsNodesFault p b nodes) (sym is) t
-fault_of_node p b nodes OutOfMemory u is t = subst (IsNodesFault p b nodes) (sym is) tt
 
--- only a failed read is reported as one
-pub read_reported : (f : TextFault) → fault_from_text f ≡ read_failed → f ≡ text.Feed feed.Read
-read_reported text.OutOfMemory e = cc
-read_reported f e = cc
+-- why an upgrade is stopped by a fault of the reader
+module _ (f : TextFault) (x : Stop UpgradeFault) (is : x ≡ stop_from_text f) where
+  at_text : (Q : Stop UpgradeFault → Type 0) → Q OutOfMemory → (f ≡ read_failed → Q ReadFailed)
+      → (is_environmental f ≡ false → checks.HoldsNoStop (check.Text f) → Q (Fault (upgrade.Proof (check.Text f)))) → Q x
+  at_text Q a r b = subst Q (sym is) (stop_cases f (λ y. Q (mapped upgrade.Proof y)) a r b)
 
--- a fault made from a fault of the text is a failed read exactly if that fault is one
-pub text_read : (f : TextFault) → is_failed_read (fault_from_text f) ≡ read.is_failed_read f
-text_read text.OutOfMemory = refl
-text_read f = refl
+  -- a property of the fault that the upgrade reports
+  pub text_reported : (P : UpgradeFault → Type 0) → (is_environmental f ≡ false → P (upgrade.Proof (check.Text f))) → OnFault x P
+  text_reported P h = at_text (λ y. OnFault y P) tt (λ failed. tt) (λ calm kept. h calm)
 
--- a fault of a node, or one of writing, is no failed read
-pub nodes_read : (p : Problem) (b : Bound) (nodes : List Node) (f : UpgradeFault) → IsNodesFault p b nodes f → is_failed_read f ≡ false
-nodes_read p b nodes (upgrade.Proof (check.Text f)) t = absurd t
-nodes_read p b nodes (upgrade.Proof (check.Rule i f)) t = refl
-nodes_read p b nodes (upgrade.Proof (check.TooDeep i)) t = refl
-nodes_read p b nodes (upgrade.Proof check.OutOfMemory) t = absurd t
-nodes_read p b nodes upgrade.TooLarge t = absurd t
-nodes_read p b nodes upgrade.OutOfMemory t = refl
+  pub text_lower : OnFault x HoldsNoStop
+  text_lower = at_text (λ y. OnFault y HoldsNoStop) tt (λ failed. tt) (λ calm kept. kept)
 
-pub write_read : (b : Bound) (nodes : List Node) (f : UpgradeFault) → IsWriteFault b nodes f → is_failed_read f ≡ false
-write_read b nodes (upgrade.Proof f) t = absurd t
-write_read b nodes upgrade.TooLarge t = refl
-write_read b nodes upgrade.OutOfMemory t = refl
+  pub text_read : x ≡ ReadFailed → f ≡ read_failed
+  text_read = at_text (λ y. y ≡ ReadFailed → f ≡ read_failed) (λ e. absurd cc) (λ failed e. failed) (λ calm kept e. absurd cc)
 
--- being out of memory is reported as such
-pub memory_text : (f : TextFault) → OutOfMemoryIsOneFault (fault_from_text f)
-memory_text text.OutOfMemory = tt
-memory_text f = (λ e. cc, λ e. cc)
+  pub text_failed : (before after : Bool) → after ≡ (if read.is_failed_read f then true else before)
+      → after ≡ (if is_failed_read x then true else before)
+  text_failed before after h = h ∙ ap (λ (b : Bool). if b then true else before)
+      (of_check f ∙ ap (λ (y : Stop UpgradeFault). is_failed_read y) (sym is))
+    where
+      of_check : (f : TextFault) → read.is_failed_read f ≡ is_failed_read (stop_from_text f)
+      of_check text.OutOfMemory = refl
+      of_check (text.Feed feed.Read) = refl
+      of_check (text.Feed feed.OutOfMemory) = refl
+      of_check f = refl
 
-pub memory_nodes : (p : Problem) (b : Bound) (nodes : List Node) (f : UpgradeFault) → IsNodesFault p b nodes f → OutOfMemoryIsOneFault f
-memory_nodes p b nodes (upgrade.Proof (check.Text f)) t = absurd t
-memory_nodes p b nodes (upgrade.Proof (check.Rule i f)) t = (λ e. cc, tt)
-memory_nodes p b nodes (upgrade.Proof (check.TooDeep i)) t = (λ e. cc, tt)
-memory_nodes p b nodes (upgrade.Proof check.OutOfMemory) t = absurd t
-memory_nodes p b nodes upgrade.TooLarge t = tt
-memory_nodes p b nodes upgrade.OutOfMemory t = tt
+-- a fault of a node, or one of writing, holds no fault of memory or of a failed read
+pub nodes_lower : (p : Problem) (b : Bound) (nodes : List Node) (f : UpgradeFault) → IsNodesFault p b nodes f → HoldsNoStop f
+nodes_lower p b nodes (upgrade.Proof (check.Text f)) t = absurd t
+nodes_lower p b nodes (upgrade.Proof (check.Rule i f)) t = tt
+nodes_lower p b nodes (upgrade.Proof (check.TooDeep i)) t = tt
+nodes_lower p b nodes upgrade.TooLarge t = absurd t
 
-pub memory_write : (b : Bound) (nodes : List Node) (f : UpgradeFault) → IsWriteFault b nodes f → OutOfMemoryIsOneFault f
-memory_write b nodes (upgrade.Proof f) t = absurd t
-memory_write b nodes upgrade.TooLarge t = tt
-memory_write b nodes upgrade.OutOfMemory t = tt
+pub write_lower : (b : Bound) (nodes : List Node) (f : UpgradeFault) → IsWriteFault b nodes f → HoldsNoStop f
+write_lower b nodes (upgrade.Proof f) t = absurd t
+write_lower b nodes upgrade.TooLarge t = tt

@@ -3,7 +3,6 @@ use Rattle.std.proofs.Common.{◌≡◌, ℕ, Bool, true, List, Some, Option, Ok
 use Rattle.tt_text.specs.Feeds.{Stream, stream_at, fresh}
 use Rattle.tt_instance.specs.Problem.{Problem}
 use Rattle.tt_leaf.specs.declared.leaf.Bound.{Bound}
-use Rattle.tt_proof_read.specs.Faults.{read_failed}
 use Rattle.tt_proof_read.specs.Reading.{header_at, end_at}
 use Rattle.tt_proof_read.specs.Reads.{ReadsNodes}
 use Rattle.tt_proof_read.specs.Sizes.{AreSizes}
@@ -11,9 +10,9 @@ use Rattle.tt_proof_read.specs.Trees.{preorder}
 use Rattle.tt_proof_read.specs.declared.fault.TextFault.{TextFault}
 use Rattle.tt_proof_read.specs.declared.node.Node.{Node}
 use Rattle.tt_proof_read.specs.declared.sizes.Sizes.{Sizes}
-use Rattle.tt_proof_check.specs.Streams.{sizes_of, Fails}
+use Rattle.tt_proof_check.specs.Streams.{sizes_of}
 use Rattle.tt_proof_check.proofs.Sizes.{sizes_are}
-use Rattle.tt_proof_upgrade.specs.Texts.{IsRead, IsCollected, NodeTextFails, NodeIsCutOff, IsTextFault, TextIsCutOff}
+use Rattle.tt_proof_upgrade.specs.Texts.{IsRead, IsCollected, NodeTextFails, IsTextFault}
 
 module _ (p : Problem) (sizes : Sizes) (are : AreSizes p sizes) (s : Stream) (v : ℕ) (b : Bound) (headed : Stream)
     (header : header_at s ≡ Ok ((v, b), headed)) where
@@ -21,19 +20,13 @@ module _ (p : Problem) (sizes : Sizes) (are : AreSizes p sizes) (s : Stream) (v 
   pub nodes_break : (f : TextFault) → NodeTextFails sizes v headed f → IsTextFault p s f
   nodes_break f h = inr (v, b, headed, header, inl (subst (λ (x : Sizes). NodeTextFails x v headed f) (sizes_are p sizes are) h))
 
-  pub nodes_break_off : NodeIsCutOff sizes v headed → TextIsCutOff p s
-  nodes_break_off h = inr (v, b, headed, header, inl (subst (λ (x : Sizes). NodeIsCutOff x v headed) (sizes_are p sizes are) h))
-
   module _ (known : Bool) (k : known ≡ true) (noded : Stream) (nodes : List Node) (c : IsCollected sizes v known headed noded nodes) where
     reads : ReadsNodes (sizes_of p) v 0 headed (preorder c.tree.0) noded
     reads = subst (λ (x : Sizes). ReadsNodes x v 0 headed (preorder c.tree.0) noded) (sizes_are p sizes are)
         (subst (λ (l : List Node). ReadsNodes sizes v 0 headed l noded) (sym c.tree.1) (c.reads k))
 
-    pub end_breaks : (f : TextFault) → Fails f (end_at noded) → IsTextFault p s f
+    pub end_breaks : (f : TextFault) → end_at noded ≡ Err f → IsTextFault p s f
     end_breaks f fails = inr (v, b, headed, header, inr (record { tree = c.tree.0; rest = noded; reads = reads; fails = fails }))
-
-    pub end_breaks_off : end_at noded ≡ Err read_failed → TextIsCutOff p s
-    end_breaks_off breaks = inr (v, b, headed, header, inr (record { tree = c.tree.0; rest = noded; reads = reads; fails = tt }, breaks))
 
     pub is_read : (ended : Stream) → end_at noded ≡ Ok ended → IsRead p s v b nodes
     is_read ended finish = record {

@@ -14,8 +14,6 @@ use Rattle.tt_proof_read.specs.Reads.{ReadsNodes, Reads}
 use Rattle.tt_proof_read.specs.Limits.{IsLeafIn, IsClaimIn}
 use Rattle.tt_proof_read.specs.Spelling.{IsNode, SpellsProof}
 use Rattle.tt_proof_read.specs.Trees.{Tree, preorder, on_paths}
-use Rattle.tt_proof_read.specs.declared.fault.TextFault.{TextFault}
-use Rattle.tt_proof_read.specs.declared.fault.TextFault.TheVariants as text
 use Rattle.tt_proof_read.specs.declared.node.Node.{Node}
 use Rattle.tt_proof_read.specs.declared.node.Node.TheVariants as node
 use Rattle.tt_proof_read.specs.declared.sizes.Sizes.{Sizes}
@@ -24,21 +22,19 @@ use Rattle.tt_proof_read.proofs.ProofLaws.{reads_spelled, spelled_reads}
 use Rattle.tt_proof_read.proofs.Small.{are_small}
 use Rattle.tt_proof_check.specs.Derives.{Proves}
 use Rattle.tt_proof_check.specs.Streams.{IsProved, stream_of, sizes_of, HasHeader}
-use Rattle.tt_proof_check.specs.Streams as checked
 use Rattle.tt_proof_check.specs.Explains.{FailsAt, IsDeepAt}
 use Rattle.tt_proof_check.specs.declared.fault.CheckFault.TheVariants as check
 use Rattle.tt_proof_check.proofs.Determined.{begins_whole, same_header, compare}
 use Rattle.tt_proof_check.proofs.InOrder.{tree_passes, never_fails, never_deep}
 use Rattle.tt_proof_check.proofs.Sizes.{are_sizes_of}
-use Rattle.tt_proof_check.proofs.TextFaults.{fails_silently}
-use Rattle.tt_proof_check.proofs.Texts.{node_silent, end_silent}
+use Rattle.tt_proof_check.proofs.Texts.{only_one, node_read, end_read}
 use Rattle.tt_proof_write.specs.Within.{FitsFile, IsNodeIn, Writes}
 use Rattle.tt_proof_write.specs.Written.{proof_text}
-use Rattle.tt_proof_upgrade.specs.Faults.{fault_from_text, IsNodesFault, IsWriteFault}
-use Rattle.tt_proof_upgrade.specs.Texts.{IsRead, AreNodesOf, NodeTextFails, EndTextFails, IsTextFault}
-use Rattle.tt_proof_upgrade.specs.Upgrades.{IsUpgraded, IsUpgradeFault, IsEnvironmental}
+use Rattle.tt_proof_upgrade.specs.Faults.{IsNodesFault, IsWriteFault}
+use Rattle.tt_proof_upgrade.specs.Texts.{IsRead, AreNodesOf, NodeTextFails, EndTextFails}
+use Rattle.tt_proof_upgrade.specs.Upgrades.{IsUpgraded, IsUpgradeFault}
 use Rattle.tt_proof_upgrade.specs.declared.fault.UpgradeFault.{UpgradeFault}
-use Rattle.tt_proof_upgrade.specs.declared.fault.UpgradeFault.TheVariants.{Proof, TooLarge, OutOfMemory}
+use Rattle.tt_proof_upgrade.specs.declared.fault.UpgradeFault.TheVariants.{Proof, TooLarge}
 
 -- ---- each claim is of version 2
 
@@ -91,9 +87,7 @@ module _ (p : Problem) (s : Stream) (v : ℕ) (b : Bound) (nodes : List Node) (r
   nodes_tell (Proof (check.Text f)) t = absurd t
   nodes_tell (Proof (check.Rule i f)) t = record { version = v; bound = b; tree = t.0; reads = read_as t.0 t.1; is = t.2 }
   nodes_tell (Proof (check.TooDeep i)) t = record { version = v; bound = b; tree = t.0; reads = read_as t.0 t.1; is = t.2 }
-  nodes_tell (Proof check.OutOfMemory) t = absurd t
   nodes_tell TooLarge t = absurd t
-  nodes_tell OutOfMemory t = tt
 
   module _ (h : Proves p b nodes) where
     -- a text that grows too large is reported
@@ -106,7 +100,6 @@ module _ (p : Problem) (s : Stream) (v : ℕ) (b : Bound) (nodes : List Node) (r
       reads = read_as h.0 h.1;
       is = record { shallow = h.2; derives = h.3; large = λ fits. t (subst (FitsFile 2 b) h.1 fits) };
     }
-    write_tells OutOfMemory t = tt
 
 -- a proof that was read, checked and written is written again
 pub upgraded : (p : Problem) (bytes out : List ℕ) (v : ℕ) (b : Bound) (nodes : List Node) → IsRead p (stream_of bytes) v b nodes
@@ -121,29 +114,7 @@ upgraded p bytes out v b nodes r h are w again = record {
   again = again h.0 h.1 (λ k n e. node_of_two p v _ (are.each k n e));
 }
 
--- -- a text that derives its bound is refused only by silent faults
-
--- a fault of the text is being out of memory, or is reported unchanged
-cases_of_fault : (f : TextFault) (Q : UpgradeFault → Type 0) → Q OutOfMemory → (¬ (f ≡ text.OutOfMemory) → Q (Proof (check.Text f)))
-    → Q (fault_from_text f)
-cases_of_fault (text.Ended at) Q a b = b (λ e. cc)
-cases_of_fault (text.Expected w at) Q a b = b (λ e. cc)
-cases_of_fault (text.UnknownWord at) Q a b = b (λ e. cc)
-cases_of_fault (text.NotANumber at) Q a b = b (λ e. cc)
-cases_of_fault (text.UnknownIndex at) Q a b = b (λ e. cc)
-cases_of_fault (text.RepeatedIndex at) Q a b = b (λ e. cc)
-cases_of_fault (text.TrailingToken at) Q a b = b (λ e. cc)
-cases_of_fault (text.TooManyNodes at) Q a b = b (λ e. cc)
-cases_of_fault (text.Feed f) Q a b = b (λ e. cc)
-cases_of_fault text.OutOfMemory Q a b = a
-
-silent_text : (f : TextFault) → checked.IsEnvironmental (check.Text f) → IsEnvironmental (Proof (check.Text f))
-silent_text f (inl e) = absurd cc
-silent_text f (inr e) = inr (inl (ap Proof e))
-
-pub text_tells : (p : Problem) (s : Stream) (f : TextFault) → (¬ (f ≡ text.OutOfMemory) → IsTextFault p s f)
-    → IsUpgradeFault p s (fault_from_text f)
-text_tells p s f h = cases_of_fault f (IsUpgradeFault p s) tt (λ n. (n, h n))
+-- -- a text that derives its bound is refused only if it grows too large
 
 module _ (p : Problem) (is : IsInstance p) (bytes : List ℕ) (b : Bound) (proved : IsProved p bytes b) where
   abbrev tree : Tree
@@ -160,25 +131,22 @@ module _ (p : Problem) (is : IsInstance p) (bytes : List ℕ) (b : Bound) (prove
   pub bound_read : (v : ℕ) (c : Bound) (nodes : List Node) → IsRead p (stream_of bytes) v c nodes → c ≡ b
   bound_read v c nodes r = (same_text (sizes_of p) (stream_of bytes) v proved.0 c b r.tree tree r.reads reads).0
 
-  pub silent : (e : UpgradeFault) → IsUpgradeFault p (stream_of bytes) e → IsEnvironmental e
-  silent (Proof (check.Text f)) (n, inl h) =
-      silent_text f (fails_silently f (header_at (stream_of bytes)) ((proved.0, b), reads.headed) reads.header n h)
-  silent (Proof (check.Text f)) (n, inr h) =
-      silent_text f (elim (header_is (λ v c rest. NodeTextFails (sizes_of p) v rest f ⊎ EndTextFails p v rest f) h) [
-        | inl a ↦ node_silent p proved.0 reads.headed reads.noded tree reads.nodes f n a.nodes a.rest a.tree a.next a.more a.reads a.begins
+  pub only_large : (e : UpgradeFault) → IsUpgradeFault p (stream_of bytes) e → e ≡ TooLarge
+  only_large (Proof (check.Text f)) (inl h) = absurd (only_one (header_at (stream_of bytes)) ((proved.0, b), reads.headed) f reads.header h)
+  only_large (Proof (check.Text f)) (inr h) =
+      absurd (elim (header_is (λ v c rest. NodeTextFails (sizes_of p) v rest f ⊎ EndTextFails p v rest f) h) [
+        | inl a ↦ node_read p proved.0 reads.headed reads.noded tree reads.nodes f a.nodes a.rest a.tree a.next a.more a.reads a.begins
             a.fails
-        | inr a ↦ end_silent p proved.0 reads.headed reads.noded tree reads.nodes reads.ended reads.finish f n a.tree a.rest a.reads a.fails
+        | inr a ↦ end_read p proved.0 reads.headed reads.noded tree reads.nodes reads.ended reads.finish f a.tree a.rest a.reads a.fails
       ])
-  silent (Proof (check.Rule i f)) h =
+  only_large (Proof (check.Rule i f)) h =
       let same = same_text (sizes_of p) (stream_of bytes) h.version proved.0 h.bound b h.tree tree h.reads reads in
       let here = subst (λ (c : Bound). FailsAt p c h.tree i f) same.0 h.is in
       absurd (never_fails p b tree h.tree i f (tree_passes p b tree proved.2.within.depth proved.3)
       (ap (λ (t : Tree). slice_get (on_paths [] t) i) (sym same.1)) here)
-  silent (Proof (check.TooDeep i)) h =
+  only_large (Proof (check.TooDeep i)) h =
       let same = same_text (sizes_of p) (stream_of bytes) h.version proved.0 h.bound b h.tree tree h.reads reads in
       let here = subst (λ (c : Bound). IsDeepAt p c h.tree i) same.0 h.is in
       absurd (never_deep p b tree h.tree i (tree_passes p b tree proved.2.within.depth proved.3)
       (ap (λ (t : Tree). slice_get (on_paths [] t) i) (sym same.1)) here)
-  silent (Proof check.OutOfMemory) h = absurd h
-  silent TooLarge h = inr (inr refl)
-  silent OutOfMemory h = inl refl
+  only_large TooLarge h = refl

@@ -13,7 +13,7 @@ use Rattle.tt_proof_read.specs.declared.format.TheConstants.{MAX_PROOF_NODES}
 use Rattle.tt_proof_read.specs.declared.node.Node.{Node}
 use Rattle.tt_proof_read.specs.declared.sizes.Sizes.{Sizes}
 use Rattle.tt_proof_check.specs.FailedReads.{HoldsOfGiven}
-use Rattle.tt_proof_check.specs.Streams.{sizes_of, Fails, HasHeader}
+use Rattle.tt_proof_check.specs.Streams.{sizes_of, HasHeader}
 
 -- The text is a proof of this version with this bound, and these are the nodes of its tree in preorder.
 pub record IsRead (p : Problem) (s : Stream) (v : ℕ) (b : Bound) (nodes : List Node) : Type 0 where
@@ -41,32 +41,24 @@ pub record NodeTextFails (sizes : Sizes) (v : ℕ) (s : Stream) (f : TextFault) 
   pub next : Node
   pub more : List Node
   pub begins : preorder tree ≡ nodes ++ next ∷ more
-  pub fails : Fails f (node_at sizes v (length nodes) rest)
+  pub fails : node_at sizes v (length nodes) rest ≡ Err f
 
 -- The tree is complete, and the text of the end fails.
 pub record EndTextFails (p : Problem) (v : ℕ) (s : Stream) (f : TextFault) : Type 0 where
   pub tree : Tree
   pub rest : Stream
   pub reads : ReadsNodes (sizes_of p) v 0 s (preorder tree) rest
-  pub fails : Fails f (end_at rest)
+  pub fails : end_at rest ≡ Err f
 
--- The first fault of the text; being out of memory and a failed read say nothing about it.
+-- The first fault of the text.
 abbrev pub IsTextFault : Problem → Stream → TextFault → Type 0
-IsTextFault p s f = Fails f (header_at s) ⊎ HasHeader s (λ v b rest. NodeTextFails (sizes_of p) v rest f ⊎ EndTextFails p v rest f)
+IsTextFault p s f = (header_at s ≡ Err f) ⊎ HasHeader s (λ v b rest. NodeTextFails (sizes_of p) v rest f ⊎ EndTextFails p v rest f)
 
 -- -- what is known after a failed read
 
--- Nodes have been read, and the failure is within the next one.
-abbrev pub NodeIsCutOff : Sizes → ℕ → Stream → Type 0
-NodeIsCutOff sizes v s = (x : NodeTextFails sizes v s read_failed) × (node_at sizes v (length x.nodes) x.rest ≡ Err read_failed)
-
--- The tree is complete, and the failure is within the end.
-abbrev pub EndIsCutOff : Problem → ℕ → Stream → Type 0
-EndIsCutOff p v s = (x : EndTextFails p v s read_failed) × (end_at x.rest ≡ Err read_failed)
-
--- All of the stream has been read, up to the failure at its end.
+-- All of the stream has been read, up to the failure at its end, which is its first fault.
 abbrev pub TextIsCutOff : Problem → Stream → Type 0
-TextIsCutOff p s = (header_at s ≡ Err read_failed) ⊎ HasHeader s (λ v b rest. NodeIsCutOff (sizes_of p) v rest ⊎ EndIsCutOff p v rest)
+TextIsCutOff p s = IsTextFault p s read_failed
 
 -- Everything in the bytes that the source gave has been read, and nothing of it was checked.
 abbrev pub IsReadUpToFailedRead : Problem → List ℕ → Option (List ℕ) → Type 0

@@ -1,22 +1,20 @@
 -- The meaning of an upgrade of a proof, and of a refusal.
-use Rattle.std.specs.Prelude.{◌≡◌, ℕ, ◌⊎◌, List, [], ⊤}
+use Rattle.std.specs.Prelude.{◌≡◌, ℕ, List, []}
 use Rattle.tt_text.specs.Feeds.{Stream}
 use Rattle.tt_instance.specs.Problem.{Problem}
 use Rattle.tt_leaf.specs.declared.leaf.Bound.{Bound}
 use Rattle.tt_proof_read.specs.Reads.{Reads}
 use Rattle.tt_proof_read.specs.Spelling.{SpellsProof}
 use Rattle.tt_proof_read.specs.Trees.{Tree, preorder, IsShallow}
-use Rattle.tt_proof_read.specs.declared.fault.TextFault.TheVariants as text
 use Rattle.tt_proof_check.specs.Derives.{Derives}
 use Rattle.tt_proof_check.specs.Streams.{sizes_of}
 use Rattle.tt_proof_check.specs.Explains.{FailsAt, IsDeepAt}
 use Rattle.tt_proof_check.specs.declared.fault.CheckFault.TheVariants as check
 use Rattle.tt_proof_write.specs.Within.{FitsFile}
 use Rattle.tt_proof_write.specs.Written.{proof_text}
-use Rattle.tt_proof_upgrade.specs.Faults.{read_failed}
 use Rattle.tt_proof_upgrade.specs.Texts.{IsTextFault}
 use Rattle.tt_proof_upgrade.specs.declared.fault.UpgradeFault.{UpgradeFault}
-use Rattle.tt_proof_upgrade.specs.declared.fault.UpgradeFault.TheVariants.{Proof, TooLarge, OutOfMemory}
+use Rattle.tt_proof_upgrade.specs.declared.fault.UpgradeFault.TheVariants.{Proof, TooLarge}
 
 -- The bytes spell a tree that derives the bound, and the output is the text of this tree in version 2, which spells it again.
 pub record IsUpgraded (p : Problem) (bytes : List ℕ) (b : Bound) (out : List ℕ) : Type 0 where
@@ -43,13 +41,7 @@ pub record IsTooLarge (p : Problem) (b : Bound) (tree : Tree) : Type 0 where
 
 -- A fault of the text is reported before one of a node; if a node has a fault, the text has none.
 abbrev pub IsUpgradeFault : Problem → Stream → UpgradeFault → Type 0
-IsUpgradeFault p s (Proof (check.Text f)) = ¬ (f ≡ text.OutOfMemory) × IsTextFault p s f
+IsUpgradeFault p s (Proof (check.Text f)) = IsTextFault p s f
 IsUpgradeFault p s (Proof (check.Rule i f)) = HasTree p s (λ b tree. FailsAt p b tree i f)
 IsUpgradeFault p s (Proof (check.TooDeep i)) = HasTree p s (λ b tree. IsDeepAt p b tree i)
-IsUpgradeFault p s (Proof check.OutOfMemory) = ⊥
 IsUpgradeFault p s TooLarge = HasTree p s (λ b tree. IsTooLarge p b tree)
-IsUpgradeFault p s OutOfMemory = ⊤
-
--- The fault is being out of memory, a failed read or a text that is too large: these say nothing against the proof.
-abbrev pub IsEnvironmental : UpgradeFault → Type 0
-IsEnvironmental e = (e ≡ OutOfMemory) ⊎ (e ≡ read_failed) ⊎ (e ≡ TooLarge)

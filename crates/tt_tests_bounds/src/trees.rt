@@ -7,14 +7,15 @@ use tt_instance_read::read_instance;
 use tt_leaf::{Bound, Leaf};
 use tt_leaf_rules::RuleFault;
 use tt_path::{Pattern, Who};
-use tt_proof_check::{CheckFault, NodesFault, check_nodes};
-use tt_proof_read::{Node, TextFault};
+use tt_proof_check::{NodesFault, check_nodes};
+use tt_proof_read::Node;
+use tt_stop::Stop;
 use tt_testing_files::StoredFile;
 use tt_testing_runs::{Outcome, checked, run_with};
 use tt_testing_samples::{
     APART, CROWDED, GAP, GAP_PROOF, MINI, SAME, SEATS, TOUR, WIDE, edited, repeated,
 };
-use tt_text::{FeedFault, Pieces};
+use tt_text::Pieces;
 
 fn bounded(alloc: Global, instance: &str, proof: &str) -> Result<Outcome, Fail> {
     let files = [
@@ -96,10 +97,7 @@ fn each_read_of_a_tree_fails(rt: HostRuntime) -> Result<(), Fail> {
     for fail_at in 1..=125 {
         let mut proof = Pieces::new(GAP_PROOF.as_bytes(), 1, fail_at);
         let answer = check(rt.alloc(), GAP.as_bytes(), solution, &mut proof);
-        assert_eq!(rt;
-            answer.err(),
-            Some(AppFault::Proof(CheckFault::Text(TextFault::Feed(FeedFault::Read))))
-        );
+        assert_eq!(rt; answer.err(), Some(AppFault::ReadFailed));
     }
     Ok(())
 }
@@ -361,16 +359,16 @@ fn lists_that_are_no_tree(rt: HostRuntime) -> Result<(), Fail> {
     });
     assert_eq!(rt;
         check_nodes(rt.alloc(), &instance, Bound::Nothing, &[]),
-        Err(NodesFault::NotATree)
+        Err(Stop::Fault(NodesFault::NotATree))
     );
     assert_eq!(rt;
         check_nodes(rt.alloc(), &instance, Bound::Nothing, &[split]),
-        Err(NodesFault::NotATree)
+        Err(Stop::Fault(NodesFault::NotATree))
     );
     let leaves = [Node::Leaf(Leaf::Many(0)), Node::Leaf(Leaf::Many(1))];
     assert_eq!(rt;
         check_nodes(rt.alloc(), &instance, Bound::Nothing, &leaves),
-        Err(NodesFault::NotATree)
+        Err(Stop::Fault(NodesFault::NotATree))
     );
     Ok(())
 }
@@ -383,7 +381,7 @@ fn lists_of_nodes(rt: HostRuntime) -> Result<(), Fail> {
     for bound in [Bound::Nothing, Bound::AtLeast(0)] {
         assert_eq!(rt;
             check_nodes(rt.alloc(), &instance, bound, &nodes),
-            Err(NodesFault::Rule(0, RuleFault::NotTooMany))
+            Err(Stop::Fault(NodesFault::Rule(0, RuleFault::NotTooMany)))
         );
     }
     Ok(())

@@ -2,11 +2,9 @@
 
 use std::test::Fail;
 use tt_app::{AppFault, check};
-use tt_proof_check::CheckFault;
-use tt_proof_read::TextFault;
 use tt_testing_runs::{checked, run_with};
 use tt_testing_samples::{MINI, WIDE, WIDE_SOLUTION, edited};
-use tt_text::{FeedFault, Pieces, Source};
+use tt_text::{Pieces, Source};
 
 const WIDE_PROOF: &str = "CTTP 1 bound 5 B D c0 ; end";
 
@@ -101,10 +99,7 @@ fn a_proof_in_pieces(rt: HostRuntime) -> Result<(), Fail> {
                 );
             }
             Err(fault) => {
-                assert_eq!(rt;
-                    fault,
-                    AppFault::Proof(CheckFault::Text(TextFault::Feed(FeedFault::Read)))
-                );
+                assert_eq!(rt; fault, AppFault::ReadFailed);
             }
         }
     }

@@ -8,9 +8,11 @@ use tt_instance_read::{InstanceFault, Word};
 use tt_leaf_rules::RuleFault;
 use tt_proof_check::{CertifyFault, CheckFault, NodesFault};
 use tt_proof_read::{TextFault, Word as ProofWord};
+use tt_proof_sum::FileFault;
 use tt_proof_upgrade::UpgradeFault;
 use tt_proof_write::WriteFault;
 use tt_report::ReportFault;
+use tt_stop::Stop;
 use tt_table::{PushFault, SolutionFault};
 use tt_text::FeedFault;
 
@@ -194,6 +196,7 @@ fn of_the_program(rt: HostRuntime) -> Result<(), Fail> {
             AppFault::Proof(CheckFault::Text(TextFault::Feed(FeedFault::TooManyBytes))),
             "proof: TooManyBytes",
         ),
+        (AppFault::ReadFailed, "proof: Read"),
         (AppFault::ProofTooLarge, "proof too large"),
         (AppFault::PageTooLarge, "page: TooLarge"),
         (AppFault::OutOfMemory, "out of memory"),
@@ -205,11 +208,36 @@ fn of_the_program(rt: HostRuntime) -> Result<(), Fail> {
 }
 
 #[test]
+fn of_sums(rt: HostRuntime) -> Result<(), Fail> {
+    for (fault, text) in [
+        (AppFault::ReadFailedIn(2), "proof 2: Read"),
+        (
+            AppFault::Sum(2, FileFault::Proof(CheckFault::TooDeep(9))),
+            "proof 2: TooDeep at node 9",
+        ),
+        (
+            AppFault::Sum(
+                3,
+                FileFault::ClaimedElsewhere {
+                    node: 4,
+                    earlier: 1,
+                },
+            ),
+            "proof 3: ClaimedElsewhere at node 4, by proof 1",
+        ),
+        (AppFault::Sum(2, FileFault::TooLarge), "proof 2: TooLarge"),
+    ] {
+        assert_eq!(rt; fault.to_string(rt.alloc())?.as_str(), text);
+    }
+    Ok(())
+}
+
+#[test]
 fn out_of_memory_is_one_fault(rt: HostRuntime) {
     for fault in [
         AppFault::from(InstanceFault::OutOfMemory),
         AppFault::from(SolutionFault::OutOfMemory),
-        AppFault::from(CheckFault::OutOfMemory),
+        AppFault::from(Stop::<CheckFault>::OutOfMemory),
         AppFault::from(AllocError),
     ] {
         assert_eq!(rt; fault, AppFault::OutOfMemory);

@@ -7,7 +7,8 @@ use std::test::Fail;
 use tt_groups_check::GroupFault;
 use tt_instance_read::read_instance;
 use tt_leaf::Bound;
-use tt_proof_sum::{GroupsFault, SumFault, sum_proofs};
+use tt_proof_sum::{FileFault, GroupsFault, SumStop, sum_proofs};
+use tt_stop::Stop;
 use tt_text::Pieces;
 use tt_text_peek::Peeked;
 
@@ -18,7 +19,7 @@ const GROUPS: u64 = 500;
 const ANY_VALUE: u64 = 100;
 
 /// Returns the sum of one file that has one claim about the group.
-fn sum_of(alloc: Global, drawn: &Drawn, value: u64) -> Result<Result<Bound, SumFault>, Fail> {
+fn sum_of(alloc: Global, drawn: &Drawn, value: u64) -> Result<Result<Bound, SumStop>, Fail> {
     let text = drawn.instance_text(alloc)?;
     let instance = read_instance(alloc, text.as_bytes())?;
     let claim = drawn.claim_text(alloc, value)?;
@@ -30,7 +31,11 @@ fn sum_of(alloc: Global, drawn: &Drawn, value: u64) -> Result<Result<Bound, SumF
 #[test]
 fn the_least_cost_is_the_highest_bound(rt: HostRuntime) -> Result<(), Fail> {
     let alloc = rt.alloc();
-    let too_cheap = SumFault::Groups(1, GroupsFault::Group(0, GroupFault::TooCheap));
+    let fault = FileFault::Groups(GroupsFault::Group(0, GroupFault::TooCheap));
+    let too_cheap = SumStop {
+        file: 1,
+        stop: Stop::Fault(fault),
+    };
     let mut impossible: u64 = 0;
     let mut positive: u64 = 0;
     for seed in 0..GROUPS {

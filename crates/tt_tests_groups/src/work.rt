@@ -5,7 +5,8 @@ use std::test::Fail;
 use tt_groups_check::GroupFault;
 use tt_instance_read::read_instance;
 use tt_leaf::Bound;
-use tt_proof_sum::{GroupsFault, SumFault, sum_proofs};
+use tt_proof_sum::{FileFault, GroupsFault, SumStop, sum_proofs};
+use tt_stop::Stop;
 use tt_text::Pieces;
 use tt_text_peek::Peeked;
 
@@ -16,7 +17,7 @@ const APART: &str =
 /// All curricula together: each lecture is isolated.
 const ALL: &str = "CTTG 1 bound 24\nG 24 q0 q1 q2 q3 q4 q5 q6 q7 q8 q9 q10 q11 / ;\nend\n";
 
-fn sum_of(alloc: Global, file: &str) -> Result<Result<Bound, SumFault>, Fail> {
+fn sum_of(alloc: Global, file: &str) -> Result<Result<Bound, SumStop>, Fail> {
     let instance = read_instance(alloc, APART.as_bytes())?;
     let mut sources = Vec::new(alloc);
     sources.push(Peeked::new(alloc, Pieces::new(file.as_bytes(), 64, 0)))?;
@@ -25,7 +26,11 @@ fn sum_of(alloc: Global, file: &str) -> Result<Result<Bound, SumFault>, Fail> {
 
 #[test]
 fn too_many_tries_end_soon(rt: HostRuntime) -> Result<(), Fail> {
-    let too_much = SumFault::Groups(1, GroupsFault::Group(0, GroupFault::TooMuchWork));
+    let fault = FileFault::Groups(GroupsFault::Group(0, GroupFault::TooMuchWork));
+    let too_much = SumStop {
+        file: 1,
+        stop: Stop::Fault(fault),
+    };
     assert_eq!(rt; sum_of(rt.alloc(), ALL)?, Err(too_much));
     Ok(())
 }

@@ -18,6 +18,7 @@ use tt_proof_check::{NodesFault, Verdict, certify, check_nodes, check_proof};
 use tt_proof_read::Node;
 use tt_proof_upgrade::parse_proof;
 use tt_report::By;
+use tt_stop::Stop;
 use tt_testing_samples::{GAP, GAP_PROOF, MARK, MINI, MINI_SOLUTION};
 use tt_text::{Pieces, Writing};
 use tt_watch::Unwatched;
@@ -143,7 +144,7 @@ fn the_call_check_proof(rt: HostRuntime) -> Result<(), Fail> {
 }
 
 /// Returns the result of checking a split and two leaves without claims for the bound 0; `None` if there is no course.
-fn split_checked(alloc: Global, instance: &Instance<'_>) -> Option<Result<(), NodesFault>> {
+fn split_checked(alloc: Global, instance: &Instance<'_>) -> Option<Result<(), Stop<NodesFault>>> {
     if instance.courses() == 0 {
         return None;
     }

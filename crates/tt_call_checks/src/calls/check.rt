@@ -5,8 +5,8 @@ ghost use Rattle.tt_proof_check.specs.FailedReads.{IsSpelledAndCheckedUpToFailed
 ghost use Rattle.tt_text.specs.Failures.{is_err_and};
 ghost use Rattle.tt_proof_check.specs.Headline.{BreaksARule, Certifies};
 ghost use Rattle.tt_call_checks.specs.Checked.{IsChecked, IsCheckRefusal, IsFileFault, AnswersYes, AnswersBroken, IsYesAnswer, IsBrokenAnswer};
-ghost use Rattle.tt_call_answers.specs.Refusals.{read_failed, is_failed_read};
-ghost use Rattle.tt_call_answers.specs.FaultMaps.{OutOfMemoryIsOneFault};
+ghost use Rattle.tt_call_answers.specs.Refusals.{is_failed_read};
+ghost use Rattle.tt_call_answers.specs.FaultMaps.{HoldsNoStop};
 
 use crate::lines::{broken, yes};
 use std::alloc::{AllocError, Global};
@@ -63,10 +63,10 @@ pub fn check<R: Source>(
     // A failed read is reported exactly if a read failed.
     ensures failed { R.has_failed proof.new ≡ (if is_err_and result is_failed_read then true else R.has_failed proof.old) }
     // If a failed read is reported, all the bytes of the proof before it have been checked.
-    ensures up_to_failed_read { result ≡ Err read_failed → (bytes : List ℕ) → R.remaining proof.old ≡ Some bytes →
+    ensures up_to_failed_read { result ≡ Err AppFault.ReadFailed → (bytes : List ℕ) → R.remaining proof.old ≡ Some bytes →
         IsSpelledAndCheckedUpToFailedRead instance.now bytes (R.remaining proof.new) }
-    // Being out of memory is always the same error, regardless of its source.
-    ensures memory { IfErr result OutOfMemoryIsOneFault }
+    // A fault holds none of memory or of a failed read.
+    ensures lower { IfErr result HoldsNoStop }
 {
     match certify(alloc, instance, solution, proof)? {
         Verdict::Yes { cost, bound } => Ok(yes_answer(alloc, cost, bound)?),

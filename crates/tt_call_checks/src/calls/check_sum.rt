@@ -5,17 +5,18 @@ ghost use Rattle.tt_rules.specs.Score.{IsFeasible};
 ghost use Rattle.tt_leaf.specs.declared.leaf.Bound.TheVariants.{AtLeast};
 ghost use Rattle.tt_proof_check.specs.Derives.{HoldsOfAll};
 ghost use Rattle.tt_proof_sum.specs.UpToFailedRead.{IsFileCheckedUpToFailedRead};
+ghost use Rattle.tt_stop.specs.Stops.{OnFault};
 ghost use Rattle.tt_text.specs.Failures.{is_err_and};
 ghost use Rattle.tt_proof_check.specs.Headline.{BreaksARule};
 ghost use Rattle.tt_proof_sum.specs.Added.{Give};
 ghost use Rattle.tt_proof_sum.specs.Faults as below;
-ghost use Rattle.tt_proof_sum.specs.Faults.{IsSumFault, IsSilentSum, all_points};
+ghost use Rattle.tt_proof_sum.specs.Faults.{IsSumStop, IsUnfinished, all_points};
 ghost use Rattle.tt_proof_sum.specs.Sums.{IsSum};
 ghost use Rattle.tt_call_checks.specs.Checked.{IsFileFault, AnswersBroken};
 ghost use Rattle.tt_call_answers.specs.Sums.{IsSpelledAndFileCheckedUpToFailedRead, CertifiesSum};
-ghost use Rattle.tt_call_answers.specs.Refusals.{read_failed_at, is_failed_read_at};
+ghost use Rattle.tt_call_answers.specs.Refusals.{is_failed_read_at};
 ghost use Rattle.tt_call_checks.specs.Summed.{IsSumChecked, IsSumCheckFault, AnswersSumYes};
-ghost use Rattle.tt_call_answers.specs.FaultMaps.{OutOfMemoryIsOneFault};
+ghost use Rattle.tt_call_answers.specs.FaultMaps.{HoldsNoStop};
 
 use crate::calls::check::{broken_answer, yes_answer};
 use std::alloc::Global;
@@ -23,7 +24,7 @@ use tt_call_answers::{Answer, AppFault};
 use tt_instance::Instance;
 use tt_instance_read::read_instance;
 use tt_leaf::Bound;
-use tt_proof_sum::{SumFault, sum_proofs};
+use tt_proof_sum::{SumStop, sum_proofs};
 use tt_rules::score;
 use tt_table::{Timetable, read_solution};
 use tt_text_peek::Peek;
@@ -34,18 +35,18 @@ fn summed_bound<R: Peek>(
     instance: &Instance<'_>,
     table: &Timetable,
     proofs: &mut [R],
-) -> Result<u64, SumFault>
+) -> Result<u64, SumStop>
     requires { IsFeasible instance.now table.now }
     ensures found { IfOk result (λ b. (files : List (List ℕ)) → Give R.remaining proofs.old files → IsSum instance.now files (AtLeast b)) }
     ensures only { (files : List (List ℕ)) (b : ℕ) → Give R.remaining proofs.old files → (h : IsSum instance.now files (AtLeast b)) →
-        all_points h.parts < 2 ^ 64 → MatchResult result (λ c. c ≡ b) IsSilentSum }
+        all_points h.parts < 2 ^ 64 → MatchResult result (λ c. c ≡ b) (λ e. OnFault e.stop IsUnfinished) }
     ensures holds { IfOk result (λ b. HoldsOfAll instance.now (AtLeast b)) }
-    ensures fault { IfErr result (λ e. (files : List (List ℕ)) → Give R.remaining proofs.old files → IsSumFault instance.now files e) }
+    ensures fault { IfErr result (λ e. (files : List (List ℕ)) → Give R.remaining proofs.old files → IsSumStop instance.now files e.file e.stop) }
     ensures failed { (i : ℕ) (r : R) → slice_get proofs.new i ≡ Some r →
         R.has_failed r ≡ (if is_err_and result (below.is_failed_read_at (i + 1)) then true else R.has_failed (slice_index_or proofs.old i r)) }
     ensures up_to_failed_read { (i : ℕ) (r q : R) (bytes : List ℕ) → result ≡ Err (below.read_failed_at (i + 1)) → slice_get proofs.old i ≡ Some r →
         slice_get proofs.new i ≡ Some q → R.remaining r ≡ Some bytes → IsFileCheckedUpToFailedRead instance.now bytes (R.remaining q) }
-    ensures memory { IfErr result below.OutOfMemoryIsOneFault }
+    ensures lower { IfErr result (λ e. OnFault e.stop below.HoldsNoStop) }
 {
     match sum_proofs(alloc, instance, proofs)? {
         Bound::AtLeast(bound) => Ok(bound),
@@ -76,10 +77,10 @@ pub fn check_sum<R: Peek>(
     ensures failed { (i : ℕ) (r : R) → slice_get proofs.new i ≡ Some r →
         R.has_failed r ≡ (if is_err_and result (is_failed_read_at (i + 1)) then true else R.has_failed (slice_index_or proofs.old i r)) }
     // If a failed read is reported, all the bytes of its proof before it have been checked.
-    ensures up_to_failed_read { (i : ℕ) (r q : R) (bytes : List ℕ) → result ≡ Err (read_failed_at (i + 1)) → slice_get proofs.old i ≡ Some r →
+    ensures up_to_failed_read { (i : ℕ) (r q : R) (bytes : List ℕ) → result ≡ Err (AppFault.ReadFailedIn (i + 1)) → slice_get proofs.old i ≡ Some r →
         slice_get proofs.new i ≡ Some q → R.remaining r ≡ Some bytes → IsSpelledAndFileCheckedUpToFailedRead instance.now bytes (R.remaining q) }
-    // Being out of memory is always the same error, regardless of its source.
-    ensures memory { IfErr result OutOfMemoryIsOneFault }
+    // A fault holds none of memory or of a failed read.
+    ensures lower { IfErr result HoldsNoStop }
 {
     let instance = read_instance(alloc, instance)?;
     let table = read_solution(alloc, &instance, solution)?;

@@ -6,13 +6,13 @@ ghost use Rattle.tt_instance.specs.Spelling.{Spells};
 ghost use Rattle.tt_leaf.specs.declared.leaf.Bound.{Bound};
 ghost use Rattle.tt_text.specs.Failures.{is_err_and};
 ghost use Rattle.tt_proof_sum.specs.Added.{Give};
-ghost use Rattle.tt_proof_sum.specs.Faults.{IsSumFault, all_points};
+ghost use Rattle.tt_proof_sum.specs.Faults.{all_points};
 ghost use Rattle.tt_proof_sum.specs.Sums.{IsSum};
 ghost use Rattle.tt_call_checks.specs.Bounded.{IsOfInstance};
 ghost use Rattle.tt_call_answers.specs.Sums.{IsSpelledAndFileCheckedUpToFailedRead};
 ghost use Rattle.tt_call_checks.specs.Summed.{IsSummed, IsSumRefusal, AnswersSum};
-ghost use Rattle.tt_call_answers.specs.Refusals.{read_failed_at, is_failed_read_at};
-ghost use Rattle.tt_call_answers.specs.FaultMaps.{OutOfMemoryIsOneFault};
+ghost use Rattle.tt_call_answers.specs.Refusals.{is_failed_read_at};
+ghost use Rattle.tt_call_answers.specs.FaultMaps.{HoldsNoStop};
 
 use crate::calls::bound::bound_answer;
 use std::alloc::Global;
@@ -36,10 +36,10 @@ pub fn sum<R: Peek>(alloc: Global, instance: &[u8], proofs: &mut [R]) -> Result<
     ensures failed { (i : ℕ) (r : R) → slice_get proofs.new i ≡ Some r →
         R.has_failed r ≡ (if is_err_and result (is_failed_read_at (i + 1)) then true else R.has_failed (slice_index_or proofs.old i r)) }
     // If a failed read is reported, all the bytes of its proof before it have been checked.
-    ensures up_to_failed_read { (i : ℕ) (r q : R) (bytes : List ℕ) → result ≡ Err (read_failed_at (i + 1)) → slice_get proofs.old i ≡ Some r →
+    ensures up_to_failed_read { (i : ℕ) (r q : R) (bytes : List ℕ) → result ≡ Err (AppFault.ReadFailedIn (i + 1)) → slice_get proofs.old i ≡ Some r →
         slice_get proofs.new i ≡ Some q → R.remaining r ≡ Some bytes → IsSpelledAndFileCheckedUpToFailedRead instance.now bytes (R.remaining q) }
-    // Being out of memory is always the same error, regardless of its source.
-    ensures memory { IfErr result OutOfMemoryIsOneFault }
+    // A fault holds none of memory or of a failed read.
+    ensures lower { IfErr result HoldsNoStop }
 {
     let instance = read_instance(alloc, instance)?;
     let bound = sum_proofs(alloc, &instance, proofs)?;

@@ -6,10 +6,10 @@ ghost use Rattle.tt_instance.specs.Spelling.{Spells};
 ghost use Rattle.tt_leaf.specs.declared.leaf.Bound.{Bound};
 ghost use Rattle.tt_text.specs.Failures.{is_err_and};
 ghost use Rattle.tt_proof_check.specs.Streams.{IsProved};
-ghost use Rattle.tt_call_answers.specs.Refusals.{read_failed, is_failed_read};
+ghost use Rattle.tt_call_answers.specs.Refusals.{is_failed_read};
 ghost use Rattle.tt_call_checks.specs.Bounded.{IsOfInstance};
 ghost use Rattle.tt_call_checks.specs.Rewritten.{IsRewritten, IsUpgradeAnswer, IsSpelledAndReadUpToFailedRead, IsUpgradeRefusal, AnswersUpgrade};
-ghost use Rattle.tt_call_answers.specs.FaultMaps.{OutOfMemoryIsOneFault};
+ghost use Rattle.tt_call_answers.specs.FaultMaps.{HoldsNoStop};
 
 use crate::lines::bound_line;
 use std::alloc::{AllocError, Global};
@@ -43,10 +43,10 @@ pub fn upgrade<R: Source>(alloc: Global, instance: &[u8], proof: &mut R) -> Resu
     // A failed read is reported exactly if a read failed.
     ensures failed { R.has_failed proof.new ≡ (if is_err_and result is_failed_read then true else R.has_failed proof.old) }
     // If a failed read is reported, all the bytes of the proof before it have been read.
-    ensures up_to_failed_read { result ≡ Err read_failed → (bytes : List ℕ) → R.remaining proof.old ≡ Some bytes →
+    ensures up_to_failed_read { result ≡ Err AppFault.ReadFailed → (bytes : List ℕ) → R.remaining proof.old ≡ Some bytes →
         IsSpelledAndReadUpToFailedRead instance.now bytes (R.remaining proof.new) }
-    // Being out of memory is always the same error, regardless of its source.
-    ensures memory { IfErr result OutOfMemoryIsOneFault }
+    // A fault holds none of memory or of a failed read.
+    ensures lower { IfErr result HoldsNoStop }
 {
     let instance = read_instance(alloc, instance)?;
     let upgraded = tt_proof_upgrade::upgrade(alloc, &instance, proof)?;

@@ -14,11 +14,11 @@ ghost use Rattle.tt_proof_sum.specs.Added.{Give};
 ghost use Rattle.tt_proof_sum.specs.Faults.{all_points};
 ghost use Rattle.tt_proof_sum.specs.Sums.{IsSum};
 ghost use Rattle.tt_table.specs.Spelling.{SpellsBoth};
-ghost use Rattle.tt_call_answers.specs.FaultMaps.{OutOfMemoryIsOneFault};
+ghost use Rattle.tt_call_answers.specs.FaultMaps.{HoldsNoStop};
 ghost use Rattle.tt_call_texts.specs.Paged.{labels_for, IsBeforeProofs, IsNotPut, IsPaged, IsPageRefusal, IsProvedPaged, IsProvedPageRefusal, IsSilentOrNotPut};
 ghost use Rattle.tt_call_answers.specs.Refusals.{IsUnwritten, is_failed_write};
 ghost use Rattle.tt_call_answers.specs.Sums.{IsSpelledAndFileCheckedUpToFailedRead};
-ghost use Rattle.tt_call_answers.specs.Refusals.{read_failed_at, is_failed_read_at};
+ghost use Rattle.tt_call_answers.specs.Refusals.{is_failed_read_at};
 
 use std::alloc::Global;
 use tt_call_answers::AppFault;
@@ -110,10 +110,10 @@ pub fn proved_page<R: Peek, W: Sink>(
     ensures failed_read { (i : ℕ) (r : R) → slice_get proofs.new i ≡ Some r →
         R.has_failed r ≡ (if is_err_and result (is_failed_read_at (i + 1)) then true else R.has_failed (slice_index_or proofs.old i r)) }
     // If a failed read is reported, all the bytes of its proof before it have been checked.
-    ensures up_to_failed_read { (i : ℕ) (r q : R) (bytes : List ℕ) → result ≡ Err (read_failed_at (i + 1)) → slice_get proofs.old i ≡ Some r →
+    ensures up_to_failed_read { (i : ℕ) (r q : R) (bytes : List ℕ) → result ≡ Err (AppFault.ReadFailedIn (i + 1)) → slice_get proofs.old i ≡ Some r →
         slice_get proofs.new i ≡ Some q → R.remaining r ≡ Some bytes → IsSpelledAndFileCheckedUpToFailedRead instance.now bytes (R.remaining q) }
-    // Being out of memory is always the same error, regardless of its source.
-    ensures memory { IfErr result OutOfMemoryIsOneFault }
+    // A fault holds none of memory or of a failed read.
+    ensures lower { IfErr result HoldsNoStop }
 {
     let instance = read_instance(alloc, instance)?;
     let table = read_solution(alloc, &instance, solution)?;

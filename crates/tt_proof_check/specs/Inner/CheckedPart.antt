@@ -1,18 +1,17 @@
 -- The part of a proof that has been checked so far while it is read, after a header with this version and bound.
-use Rattle.std.specs.Prelude.{◌≡◌, ℕ, Bool, true, List, [], Ok, ⊤}
+use Rattle.std.specs.Prelude.{◌≡◌, ℕ, Bool, true, List, [], Ok, Err}
 use Rattle.tt_text.specs.Feeds.{Stream}
 use Rattle.tt_instance.specs.Problem.{Problem}
 use Rattle.tt_leaf.specs.declared.leaf.Bound.{Bound}
 use Rattle.tt_proof_read.specs.Reading.{node_at}
 use Rattle.tt_proof_read.specs.Reads.{ReadsNodes, Reads}
 use Rattle.tt_proof_read.specs.Trees.{Tree, preorder, IsShallow}
-use Rattle.tt_proof_read.specs.declared.fault.TextFault.TheVariants as text
 use Rattle.tt_proof_read.specs.declared.node.Node.{Node}
 use Rattle.tt_proof_read.specs.declared.sizes.Sizes.{Sizes}
 use Rattle.tt_proof_check.specs.declared.fault.CheckFault.{CheckFault}
-use Rattle.tt_proof_check.specs.declared.fault.CheckFault.TheVariants.{Text, Rule, TooDeep, OutOfMemory}
+use Rattle.tt_proof_check.specs.declared.fault.CheckFault.TheVariants.{Text, Rule, TooDeep}
 use Rattle.tt_proof_check.specs.Derives.{Derives}
-use Rattle.tt_proof_check.specs.Streams.{sizes_of, Fails, NodeFails, IsReadTo}
+use Rattle.tt_proof_check.specs.Streams.{sizes_of, NodeFails, IsReadTo}
 use Rattle.tt_proof_check.specs.Explains.{FailsAt, IsDeepAt}
 
 -- a tree was read whole, if the bytes are known, and derives the bound; its nodes were visited
@@ -25,17 +24,15 @@ pub record CheckedPart (p : Problem) (v : ℕ) (b : Bound) (known : Bool) (H : L
 
 -- the meaning of an error of the nodes
 abbrev pub ExplainsNodes : Problem → ℕ → Bound → Stream → CheckFault → Type 0
-ExplainsNodes p v b s (Text f) = ¬ (f ≡ text.OutOfMemory) × NodeFails p v b s f
+ExplainsNodes p v b s (Text f) = NodeFails p v b s f
 ExplainsNodes p v b s (Rule i f) = IsReadTo p v s i (λ tree. FailsAt p b tree i f)
 ExplainsNodes p v b s (TooDeep i) = IsReadTo p v s i (λ tree. IsDeepAt p b tree i)
-ExplainsNodes p v b s OutOfMemory = ⊤
 
 -- the child that is too deep was read, or its text fails
 abbrev pub ExplainsChild : Sizes → ℕ → ℕ → Stream → ℕ → CheckFault → Type 0
-ExplainsChild sizes v count s i (Text f) = ¬ (f ≡ text.OutOfMemory) × Fails f (node_at sizes v count s)
+ExplainsChild sizes v count s i (Text f) = node_at sizes v count s ≡ Err f
 ExplainsChild sizes v count s i (Rule k f) = ⊥
 ExplainsChild sizes v count s i (TooDeep k) = (k ≡ i) × (child : Node) × (after : Stream) × (node_at sizes v count s ≡ Ok (child, after))
-ExplainsChild sizes v count s i OutOfMemory = ⊤
 
 -- a tree that derives the bound and is spelled by the text, if the text is known; its nodes were visited
 pub record Proved (p : Problem) (known : Bool) (H : List Node → Type 0) (s : Stream) (b : Bound) : Type 0 where

@@ -10,8 +10,8 @@ use Rattle.tt_leaf.specs.declared.leaf.Bound.{Bound}
 use Rattle.tt_proof_read.specs.Trees.{with_fact}
 use Rattle.tt_proof_read.specs.declared.node.Node.{Node}
 use Rattle.tt_proof_read.specs.declared.node.Node.TheVariants.{Split, Leaf}
-use Rattle.tt_proof_check.specs.declared.walk.Stop.{Stop}
-use Rattle.tt_proof_check.specs.declared.walk.Stop.TheVariants.{Rule, TooDeep, OutOfMemory}
+use Rattle.tt_proof_check.specs.declared.walk.NodeStop.{NodeStop}
+use Rattle.tt_proof_check.specs.declared.walk.NodeStop.TheVariants.{Rule, TooDeep, OutOfMemory}
 use Rattle.tt_proof_check.specs.Inner.Pending.{ContinuesWith}
 use Rattle.tt_path.specs.declared.path.TheConstants.{MAX_FACTS}
 
@@ -21,7 +21,7 @@ Steps p b facts (Split g) next = next ≡ with_fact facts g true
 Steps p b facts (Leaf leaf) next = IsRight p facts b leaf × ContinuesWith facts next
 
 -- only a leaf breaks a rule, and only a split can be too deep
-abbrev pub Stops : Problem → Bound → List Fact → Node → Stop → Type 0
+abbrev pub Stops : Problem → Bound → List Fact → Node → NodeStop → Type 0
 Stops p b facts (Split g) (Rule f) = ⊥
 Stops p b facts (Leaf leaf) (Rule f) = fault_of p facts b leaf ≡ Some f
 Stops p b facts (Split g) TooDeep = length facts ≡ MAX_FACTS
@@ -29,6 +29,6 @@ Stops p b facts (Leaf leaf) TooDeep = ⊥
 Stops p b facts node OutOfMemory = ⊤
 
 -- the reason to stop if a fact was not added
-abbrev pub stop_of : PathFault → Stop
+abbrev pub stop_of : PathFault → NodeStop
 stop_of path.TooDeep = TooDeep
 stop_of path.OutOfMemory = OutOfMemory

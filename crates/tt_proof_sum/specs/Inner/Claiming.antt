@@ -1,5 +1,5 @@
 -- Claims of one file that are taken in turn.
-use Rattle.std.specs.Prelude.{◌≡◌, ℕ, ◌+◌, ◌-◌, ◌<◌, ◌≤◌, ◌^◌, min, true, false, is_some, List, [], Option, Some, None, length, map, sum_by, All, Ok, ⊤}
+use Rattle.std.specs.Prelude.{◌≡◌, ℕ, ◌+◌, ◌-◌, ◌<◌, ◌≤◌, ◌^◌, min, true, false, is_some, List, [], Option, Some, None, length, map, sum_by, All, Ok}
 use Rattle.tt_text.specs.CutShort.{cut_at, MayFail}
 use Rattle.tt_text.specs.Feeds.{Stream, stream_at, fresh, room_of}
 use Rattle.tt_text.specs.declared.feed.TheConstants.{MAX_BYTES}
@@ -13,8 +13,8 @@ use Rattle.tt_groups_read.specs.Reading.{header_at}
 use Rattle.tt_groups_read.specs.Reads.{ReadsClaims}
 use Rattle.tt_groups_read.specs.Spelling.{IsClaim}
 use Rattle.tt_groups_read.specs.declared.claim.GroupClaim.{GroupClaim}
-use Rattle.tt_proof_sum.specs.declared.fault.SumFault.{SumFault}
-use Rattle.tt_proof_sum.specs.declared.fault.SumFault.TheVariants as fault
+use Rattle.tt_proof_sum.specs.declared.fault.FileFault.{FileFault}
+use Rattle.tt_proof_sum.specs.declared.fault.FileFault.TheVariants as fault
 use Rattle.tt_proof_sum.specs.declared.groups_fault.GroupsFault.{GroupsFault}
 use Rattle.tt_proof_sum.specs.declared.groups_fault.GroupsFault.TheVariants as groups
 use Rattle.tt_proof_sum.specs.declared.table.TheConstants.{PLACES}
@@ -30,10 +30,9 @@ ExplainsClaimFault p a i k (groups.ClaimedElsewhere j e) = (j ≡ i) × (first_o
 ExplainsClaimFault p a i k (groups.Group j f) = (j ≡ i) × (first_owner a (group_places k.group) ≡ None) × IsRefusal p k f
 ExplainsClaimFault p a i k groups.TooCheap = ⊥
 
--- The fault refuses the claim with number i and names the newest file; being out of memory says nothing about the claim.
-abbrev pub ExplainsClaim : Problem → State → ℕ → GroupClaim → SumFault → Type 0
-ExplainsClaim p a i k (fault.Groups n f) = (n ≡ a.proof) × ExplainsClaimFault p a i k f
-ExplainsClaim p a i k fault.OutOfMemory = ⊤
+-- The fault refuses the claim with number i.
+abbrev pub ExplainsClaim : Problem → State → ℕ → GroupClaim → FileFault → Type 0
+ExplainsClaim p a i k (fault.Groups f) = ExplainsClaimFault p a i k f
 ExplainsClaim p a i k _ = ⊥
 
 -- The stream is a header with this bound and these claims, and then `rest`.

@@ -1,6 +1,6 @@
 use Rattle.std.proofs.Common.{◌<◌, ◌≤◌, length, ◌∙◌, subst, arith}
 use Rattle.tt_proof_check.specs.Inner.Steps.{Steps, Stops}
-use Rattle.tt_proof_check.specs.declared.walk.Stop.TheVariants.{Rule, TooDeep}
+use Rattle.tt_proof_check.specs.declared.walk.NodeStop.TheVariants.{Rule, TooDeep}
 use Rattle.tt_proof_check.proofs.InOrder.{midway_next, midway_fails, midway_deep, midway_end}
 use Rattle.tt_proof_check.proofs.preorder.check_each.Goals as goal
 

@@ -1,5 +1,5 @@
 use Rattle.std.proofs.Common.{◌≡◌, ℕ, true, List, Some, IfOk, subst, is_some}
-use Rattle.std.specs.Prelude.{IfErr}
+use Rattle.tt_stop.specs.Stops.{IfFault}
 use Rattle.tt_text.specs.Feeds.{stream_at, fresh}
 use Rattle.tt_instance.specs.Problem.{Problem}
 use Rattle.tt_proof_check.specs.Derives.{HoldsOfAll}
@@ -34,7 +34,7 @@ returns-clause-only g c =
     (λ (p : Problem). IfOk r
     (λ b. Proved p (is_some remaining) (Visited g.L.NodeVisitor.visits 0 c.args.visitor.now c.check_on_path.new.visitor)
     (stream_at fresh remaining) b)) c.in_ok-path.ensures.problem c.check_on_path.ensures.proved in
-    let fault = subst (λ (p : Problem). is_some remaining ≡ true → IfErr r (λ x. IsProofFault p (stream_at fresh remaining) x))
+    let fault = subst (λ (p : Problem). is_some remaining ≡ true → IfFault r (λ x. IsProofFault p (stream_at fresh remaining) x))
     c.in_ok-path.ensures.problem c.check_on_path.ensures.fault in
     proof_only c.args.instance.now remaining (Visited g.L.NodeVisitor.visits 0 c.args.visitor.now c.check_on_path.new.visitor)
     c.days.ensures.instance r proved fault

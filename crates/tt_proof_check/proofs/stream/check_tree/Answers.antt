@@ -4,15 +4,16 @@ use Rattle.tt_text.specs.CutShort.{cut_at}
 use Rattle.tt_instance.specs.Problem.{Problem}
 use Rattle.tt_proof_read.specs.Faults.{read_failed, is_failed_read}
 use Rattle.tt_proof_read.specs.Readers.{Reader}
+use Rattle.tt_stop.specs.declared.stop.Stop.TheVariants.{ReadFailed}
+use Rattle.tt_stop.proofs.Stops.{OnFault-weaker}
 use Rattle.tt_proof_check.specs.declared.fault.CheckFault.TheVariants.{Text}
-use Rattle.tt_proof_check.specs.declared.walk.Stop.TheVariants.{Rule, TooDeep}
-use Rattle.tt_proof_check.specs.Faults.{OutOfMemoryIsNoTextFault}
+use Rattle.tt_proof_check.specs.declared.walk.NodeStop.TheVariants.{Rule, TooDeep}
 use Rattle.tt_proof_check.specs.Visited.{Visited, Unvisited}
-use Rattle.tt_proof_check.specs.Inner.CheckedPart.{ExplainsNodes}
+use Rattle.tt_proof_check.specs.Inner.CheckedPart.{ExplainsNodes, ExplainsChild}
 use Rattle.tt_proof_check.specs.Nodes.{IsNodeOf}
 use Rattle.tt_proof_check.proofs.Nodes.{node_numbers}
-use Rattle.tt_proof_check.proofs.Streaming.{sofar_start, sofar_next, sofar_wrong, sofar_deep, sofar_end, sofar_unread, sofar_breaks, sofar_deep_breaks, visited_push}
-use Rattle.tt_proof_check.proofs.TextFaults.{memory_text, err_gives, err_read, err_reads}
+use Rattle.tt_proof_check.proofs.Streaming.{sofar_start, sofar_next, sofar_wrong, sofar_deep, sofar_end, sofar_fails, sofar_unread, visited_push}
+use Rattle.tt_proof_check.proofs.TextFaults.{text_reported, text_lower, text_read, text_failed}
 use Rattle.tt_proof_check.proofs.Walking.{steps_as, stops_as}
 use Rattle.tt_proof_check.proofs.stream.check_tree.Goals as goal
 
@@ -39,10 +40,10 @@ loop-node-init g c =
 
 pub take-requires : goal.take-requires
 take-requires g c = λ κs.
-    let e = rw c.in-Some.is at c.in_ok-node.ensures in
+    let e = rw c.in-Ok-Some.field-0-is at c.in-Ok-Some.ensures in
     let inv = c.loop-node.invariant in
     let p = g.P.Path.problem c.args.path.now in
-    let n = c.in-Some.node in (
+    let n = c.in-Ok-Some.node in (
       (refl, tt),
       (
         subst (λ (q : Problem). IsNodeOf q n) (sym inv.problem)
@@ -53,7 +54,7 @@ take-requires g c = λ κs.
 
 pub loop-node-preserved : goal.loop-node-preserved
 loop-node-preserved g c =
-    let e = rw c.in-Some.is at c.in_ok-node.ensures in
+    let e = rw c.in-Ok-Some.field-0-is at c.in-Ok-Some.ensures in
     let inv = c.loop-node.invariant in
     let p = g.P.Path.problem c.args.path.now in
     let v = c.args.reader.now.version in
@@ -66,7 +67,7 @@ loop-node-preserved g c =
     let new = c.next_node.new.self in
     let u = stream_at new.fed (g.R.Source.remaining c.next_node.new.source) in
     let next = g.P.Path.facts c.take.new.path in
-    let n = c.in-Some.node in
+    let n = c.in-Ok-Some.node in
     let goes = e.state inv.sofar.sound in
     let count : old.count + 1 ≡ new.count = ap (λ (r : Reader). r.count) (sym goes.1) in
     record {
@@ -89,11 +90,11 @@ loop-node-preserved g c =
       failed = e.failed inv.sofar.sound ∙ inv.failed;
     }
 
-pub returns-in_err-node-clause-fault : goal.returns-in_err-node-clause-fault
-returns-in_err-node-clause-fault g c =
+pub returns-in-Err-clause-fault : goal.returns-in-Err-clause-fault
+returns-in-Err-clause-fault g c =
     λ k.
-    let e = c.in_err-node.ensures in
-    let f = c.in_err-node.field-0.0 in
+    let e = c.in-Err.ensures in
+    let f = c.in-Err.fault in
     let inv = c.loop-node.invariant in
     let p = g.P.Path.problem c.args.path.now in
     let v = c.args.reader.now.version in
@@ -105,16 +106,16 @@ returns-in_err-node-clause-fault g c =
     let path = g.P.Path.facts c.loop-node.path in
     let new = c.next_node.new.self in
     let u = stream_at new.fed (g.R.Source.remaining c.next_node.new.source) in
-    err_gives c.from_residual.result f (ExplainsNodes p v b s) c.from_residual.ensures.1
+    text_reported c.stop_from_text.result f (ExplainsNodes p v b s) c.stop_from_text.ensures
     (sofar_unread p v b known _ s old t path inv.sofar new u f (e.state inv.sofar.sound) k (e.read inv.sofar.sound (inv.known k)))
 
 pub returns-in-Err-Rule-clause-fault : goal.returns-in-Err-Rule-clause-fault
 returns-in-Err-Rule-clause-fault g c =
     λ k.
-    let e = rw c.in-Some.is at c.in_ok-node.ensures in
+    let e = rw c.in-Ok-Some.field-0-is at c.in-Ok-Some.ensures in
     let taken = rw c.in-Err-Rule.field-0-is at c.in-Err-Rule.ensures in
     let f = c.in-Err-Rule.fault in
-    let n = c.in-Some.node in
+    let n = c.in-Ok-Some.node in
     let inv = c.loop-node.invariant in
     let p = g.P.Path.problem c.args.path.now in
     let v = c.args.reader.now.version in
@@ -132,15 +133,15 @@ returns-in-Err-Rule-clause-fault g c =
 
 pub returns-in-Err-TooDeep-clause-known : goal.returns-in-Err-TooDeep-clause-known
 returns-in-Err-TooDeep-clause-known g c =
-    let e = rw c.in-Some.is at c.in_ok-node.ensures in
+    let e = rw c.in-Ok-Some.field-0-is at c.in-Ok-Some.ensures in
     λ k. c.deep_fault.ensures.known (e.known (c.loop-node.invariant.known k))
 
 pub returns-in-Err-TooDeep-clause-fault : goal.returns-in-Err-TooDeep-clause-fault
 returns-in-Err-TooDeep-clause-fault g c =
     λ k.
-    let e = rw c.in-Some.is at c.in_ok-node.ensures in
+    let e = rw c.in-Ok-Some.field-0-is at c.in-Ok-Some.ensures in
     let taken = rw c.in-Err-TooDeep.field-0-is at c.in-Err-TooDeep.ensures in
-    let n = c.in-Some.node in
+    let n = c.in-Ok-Some.node in
     let inv = c.loop-node.invariant in
     let p = g.P.Path.problem c.args.path.now in
     let v = c.args.reader.now.version in
@@ -152,14 +153,15 @@ returns-in-Err-TooDeep-clause-fault g c =
     let path = g.P.Path.facts c.loop-node.path in
     let new = c.next_node.new.self in
     let u = stream_at new.fed (g.R.Source.remaining c.next_node.new.source) in
-    sofar_deep p v b known _ s old t path inv.sofar new u n (e.state inv.sofar.sound)
-    (λ j. e.read inv.sofar.sound (inv.known j)) c.loop-node.count c.deep_fault.result inv.count
-    (stops_as _ p c.bound-bound.result b path n TooDeep inv.problem c.bound-bound.ensures taken.stops) k
+    OnFault-weaker c.deep_fault.result (ExplainsChild new.sizes new.version new.count u (c.loop-node.count + 1)) (ExplainsNodes p v b s)
+    (λ f. sofar_deep p v b known _ s old t path inv.sofar new u n (e.state inv.sofar.sound)
+    (λ j. e.read inv.sofar.sound (inv.known j)) c.loop-node.count f inv.count
+    (stops_as _ p c.bound-bound.result b path n TooDeep inv.problem c.bound-bound.ensures taken.stops) k)
     (c.deep_fault.ensures.fault (e.known (inv.known k)))
 
-pub returns-clause-checked : goal.returns-clause-checked
-returns-clause-checked g c =
-    let e = rw c.in_default.is at c.in_ok-node.ensures in
+pub returns-in-Ok-None-clause-checked : goal.returns-in-Ok-None-clause-checked
+returns-in-Ok-None-clause-checked g c =
+    let e = rw c.in-Ok-None.field-0-is at c.in-Ok-None.ensures in
     let inv = c.loop-node.invariant in
     let p = g.P.Path.problem c.args.path.now in
     let v = c.args.reader.now.version in
@@ -173,44 +175,47 @@ returns-clause-checked g c =
     let u = stream_at new.fed (g.R.Source.remaining c.next_node.new.source) in
     sofar_end p v b known _ s old t path inv.sofar new u (e.state inv.sofar.sound) (λ k. e.read inv.sofar.sound (inv.known k))
 
-pub returns-in_err-node-clause-up_to_failed_read : goal.returns-in_err-node-clause-up_to_failed_read
-returns-in_err-node-clause-up_to_failed_read g c =
+pub returns-in-Err-clause-up_to_failed_read : goal.returns-in-Err-clause-up_to_failed_read
+returns-in-Err-clause-up_to_failed_read g c =
     λ reported k.
-    let e = c.in_err-node.ensures in
-    let f = c.in_err-node.field-0.0 in
+    let e = c.in-Err.ensures in
+    let f = c.in-Err.fault in
     let inv = c.loop-node.invariant in
     let old = c.loop-node.reader in
     let path = g.P.Path.facts c.loop-node.path in
-    let is : f ≡ read_failed = err_read c.from_residual.result f c.from_residual.ensures.1 reported in
+    let is : f ≡ read_failed = text_read c.stop_from_text.result f c.stop_from_text.ensures (cc) in
     let here = e.cut_short inv.sofar.sound (inv.known k) (ap is_failed_read is) in
-    let first = inv.failing k _ here.0 in
-    (first.0, sofar_breaks _ _ _ true Unvisited _ old _ path first.1 (e.state inv.sofar.sound).0 refl (here.1 ∙ ap (λ x. Err x) is))
+    let first = inv.failing k _ here.0 in (
+      first.0,
+      sofar_fails _ _ _ true Unvisited _ old _ path first.1 read_failed (e.state inv.sofar.sound).0 refl (here.1 ∙ ap
+          (λ x. Err x) is),
+    )
 
 pub returns-in-Err-TooDeep-clause-up_to_failed_read : goal.returns-in-Err-TooDeep-clause-up_to_failed_read
 returns-in-Err-TooDeep-clause-up_to_failed_read g c =
     λ reported k.
-    let e = rw c.in-Some.is at c.in_ok-node.ensures in
+    let e = rw c.in-Ok-Some.field-0-is at c.in-Ok-Some.ensures in
     let taken = rw c.in-Err-TooDeep.field-0-is at c.in-Err-TooDeep.ensures in
-    let n = c.in-Some.node in
+    let n = c.in-Ok-Some.node in
     let inv = c.loop-node.invariant in
     let p = g.P.Path.problem c.args.path.now in
     let b = c.args.reader.now.bound in
     let old = c.loop-node.reader in
     let path = g.P.Path.facts c.loop-node.path in
     let new = c.next_node.new.self in
-    let is : c.deep_fault.result ≡ Text read_failed = cc in
+    let is : c.deep_fault.result ≡ ReadFailed = cc in
     let child = c.deep_fault.ensures.up_to_failed_read is (e.known (inv.known k)) in
     let here = e.cut_short inv.sofar.sound (inv.known k) _ child.0 in
     let first = inv.failing k _ here.0 in (
       first.0,
-      sofar_deep_breaks p _ b true Unvisited _ old _ path first.1 new _ n (e.state inv.sofar.sound) (λ _. here.1)
+      sofar_deep p _ b true Unvisited _ old _ path first.1 new _ n (e.state inv.sofar.sound) (λ _. here.1) old.count (Text read_failed) refl
           (stops_as _ p c.bound-bound.result b path n TooDeep inv.problem c.bound-bound.ensures taken.stops) refl child.1,
     )
 
-pub returns-clause-cut_short : goal.returns-clause-cut_short
-returns-clause-cut_short g c =
+pub returns-in-Ok-None-clause-cut_short : goal.returns-in-Ok-None-clause-cut_short
+returns-in-Ok-None-clause-cut_short g c =
     λ k rest m.
-    let e = rw c.in_default.is at c.in_ok-node.ensures in
+    let e = rw c.in-Ok-None.field-0-is at c.in-Ok-None.ensures in
     let inv = c.loop-node.invariant in
     let old = c.loop-node.reader in
     let path = g.P.Path.facts c.loop-node.path in
@@ -219,13 +224,11 @@ returns-clause-cut_short g c =
     let first = inv.failing k rest here.0 in
     (first.0, sofar_end _ _ _ true Unvisited _ old _ path first.1 new _ (e.state inv.sofar.sound) (λ _. here.1))
 
-pub returns-in_err-node-clause-memory : goal.returns-in_err-node-clause-memory
-returns-in_err-node-clause-memory g c =
-    let f = c.in_err-node.field-0.0 in
-    err_gives c.from_residual.result f OutOfMemoryIsNoTextFault c.from_residual.ensures.1 (memory_text f)
+pub returns-in-Err-clause-lower : goal.returns-in-Err-clause-lower
+returns-in-Err-clause-lower g c = text_lower c.stop_from_text.result c.in-Err.fault c.stop_from_text.ensures
 
-pub returns-in_err-node-clause-failed : goal.returns-in_err-node-clause-failed
-returns-in_err-node-clause-failed g c =
-    let e = c.in_err-node.ensures in
+pub returns-in-Err-clause-failed : goal.returns-in-Err-clause-failed
+returns-in-Err-clause-failed g c =
+    let e = c.in-Err.ensures in
     let inv = c.loop-node.invariant in
-    err_reads c.from_residual.result c.in_err-node.field-0.0 _ _ _ c.from_residual.ensures.1 (e.failed inv.sofar.sound) inv.failed
+    text_failed c.stop_from_text.result c.in-Err.fault _ _ _ c.stop_from_text.ensures (e.failed inv.sofar.sound) inv.failed

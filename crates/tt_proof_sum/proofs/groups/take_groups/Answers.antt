@@ -4,14 +4,14 @@ use Rattle.std.proofs.lemmas.Result.{err_from_is_err_and}
 use Rattle.tt_text.specs.Feeds.{stream_at, room_of}
 use Rattle.tt_proof_read.specs.Faults.{is_failed_read}
 use Rattle.tt_proof_read.specs.declared.fault.TextFault.{TextFault}
-use Rattle.tt_proof_check.proofs.TextFaults.{same_reads}
+use Rattle.tt_proof_check.proofs.TextFaults.{err_same}
 use Rattle.tt_groups_read.specs.Readers.{Reader, IsReaderAfter, IsReadingOf, GroupAgreesWhenCut, IsClaimAt}
 use Rattle.tt_groups_read.specs.declared.claim.GroupClaim.{GroupClaim}
 use Rattle.tt_groups_read.specs.declared.fault.GroupTextFault.TheVariants.{Text}
-use Rattle.tt_proof_sum.specs.Faults.{ExplainsAdded, is_failed_read_at}
-use Rattle.tt_proof_sum.specs.declared.fault.SumFault.{SumFault}
-use Rattle.tt_proof_sum.proofs.FailedReads.{reported_reads, result_reads, claim_read, reached_read}
-use Rattle.tt_proof_sum.proofs.Underway.{underway_start, underway_more, claim_is, reading_claim, reading_end, joins, cheap_fault, claim_fault, text_fault, claim_cut, header_cut, reached_ok, reached_err, reported_failed}
+use Rattle.tt_stop.proofs.Stops.{OnFault-weaker, not_read, unread, passed_reads}
+use Rattle.tt_stop.specs.declared.stop.Stop.TheVariants.{ReadFailed}
+use Rattle.tt_proof_sum.proofs.FailedReads.{reported_reads, result_reads, reached_read, reached_unread}
+use Rattle.tt_proof_sum.proofs.Underway.{underway_start, underway_more, claim_is, reading_claim, reading_end, joins, cheap_fault, claim_fault, header_fault, text_fault, claim_cut, header_cut, reached_ok, reached_err, reported_fault, reported_lower, reported_read}
 use Rattle.tt_proof_sum.proofs.groups.take_groups.Goals as goal
 
 pub returns-in-Err-clause-up_to_failed_read : goal.returns-in-Err-clause-up_to_failed_read
@@ -19,8 +19,7 @@ returns-in-Err-clause-up_to_failed_read g c =
     λ reported bytes known.
     let e = c.in-Err.ensures in
     header_cut c.args.instance.now (g.R.Source.remaining c.args.source.now) (g.R.Source.remaining c.new.new.source) c.in-Err.fault
-    (reported_failed c.fault_of_text.result c.proof-file.result c.args.table.now.proof c.in-Err.fault c.fault_of_text.ensures
-    c.proof-file.ensures reported) e.known e.cut_short bytes known
+    (reported_read c.stop_from_text.result c.in-Err.fault c.stop_from_text.ensures (cc)) e.known e.cut_short bytes known
 
 pub loop-claim-init : goal.loop-claim-init
 loop-claim-init g c =
@@ -48,7 +47,7 @@ returns-in-Ok-None-clause-joins g c =
     c.loop-claim.total u after later e.known
     (λ k. subst (λ (x : Result (Option GroupClaim) TextFault). IsReadingOf r (stream_at r.fed now) x (stream_at after.fed later)) is
     (e.read u.sound k)) in
-    reached_ok c.reached.result c.proof-file.result c.loop-claim.total c.bound.result _ c.reached.ensures
+    reached_ok c.reached.result c.loop-claim.total c.bound.result _ c.reached.ensures
     (λ enough before parts known of begins kept kind.
     rw bound_is (joins p c.days.ensures.instance start c.args.table.now r now c.loop-claim.table c.loop-claim.number c.loop-claim.total
     u parts before of begins known kept kind later after finish (omega (arith, enough, bound_is))))
@@ -70,7 +69,7 @@ returns-in-Ok-None-clause-fault g c =
     c.loop-claim.total u after later e.known
     (λ k. subst (λ (x : Result (Option GroupClaim) TextFault). IsReadingOf r (stream_at r.fed now) x (stream_at after.fed later)) is
     (e.read u.sound k)) in
-    reached_err c.reached.result c.proof-file.result c.loop-claim.total c.bound.result _ c.reached.ensures
+    reached_err c.reached.result c.loop-claim.total c.bound.result _ c.reached.ensures
     (λ below before parts bytes of begins known kind.
     cheap_fault p c.days.ensures.instance start c.args.table.now r now c.loop-claim.table c.loop-claim.number c.loop-claim.total u parts
     before of begins bytes known kind later after finish (omega (arith, below, bound_is))
@@ -78,7 +77,6 @@ returns-in-Ok-None-clause-fault g c =
 
 pub returns-in-Err-next_group-clause-fault : goal.returns-in-Err-next_group-clause-fault
 returns-in-Err-next_group-clause-fault g c =
-    λ before parts bytes of begins known kind.
     let p = c.args.instance.now in
     let start = g.R.Source.remaining c.args.source.now in
     let r = c.loop-claim.reader in
@@ -89,9 +87,24 @@ returns-in-Err-next_group-clause-fault g c =
     let says : is_some now ≡ true → IsReadingOf r (stream_at r.fed now) (Err c.in-Err-next_group.fault) (stream_at after.fed later) =
     λ k. subst (λ (x : Result (Option GroupClaim) TextFault). IsReadingOf r (stream_at r.fed now) x (stream_at after.fed later))
     c.in-Err-next_group.is (c.next_group.ensures.read u.sound k) in
-    subst (λ (x : SumFault). ExplainsAdded p parts bytes x) (sym c.fault_of_text-in-Err-next_group.ensures)
-    (text_fault p c.days.ensures.instance start c.args.table.now r now c.loop-claim.table c.loop-claim.number c.loop-claim.total u after
-    later c.in-Err-next_group.fault parts before of begins says bytes known kind c.proof-file.result)
+    reported_fault c.stop_from_text-in-Err-next_group.result (Text c.in-Err-next_group.fault) c.stop_from_text-in-Err-next_group.ensures _
+    (λ calm before parts bytes of begins known kind.
+    text_fault p c.days.ensures.instance start c.args.table.now r now c.loop-claim.table c.loop-claim.number c.loop-claim.total u after
+    later c.in-Err-next_group.fault parts before of begins says bytes known kind calm)
+
+pub returns-in-Err-clause-fault : goal.returns-in-Err-clause-fault
+returns-in-Err-clause-fault g c =
+    reported_fault c.stop_from_text.result c.in-Err.fault c.stop_from_text.ensures _
+    (λ calm before parts bytes of begins known kind.
+    header_fault c.args.instance.now parts bytes (g.R.Source.remaining c.args.source.now) (g.R.Source.remaining c.new.new.source) known kind
+    c.in-Err.fault c.in-Err.ensures.read calm)
+
+pub returns-in-Err-clause-lower : goal.returns-in-Err-clause-lower
+returns-in-Err-clause-lower g c = reported_lower c.stop_from_text.result c.in-Err.fault c.stop_from_text.ensures
+
+pub returns-in-Err-next_group-clause-lower : goal.returns-in-Err-next_group-clause-lower
+returns-in-Err-next_group-clause-lower g c =
+    reported_lower c.stop_from_text-in-Err-next_group.result (Text c.in-Err-next_group.fault) c.stop_from_text-in-Err-next_group.ensures
 
 pub returns-in-Err-next_group-clause-up_to_failed_read : goal.returns-in-Err-next_group-clause-up_to_failed_read
 returns-in-Err-next_group-clause-up_to_failed_read g c =
@@ -107,8 +120,8 @@ returns-in-Err-next_group-clause-up_to_failed_read g c =
     (c.next_group.ensures.cut_short u.sound) in
     claim_cut p c.days.ensures.instance start c.args.table.now r now c.loop-claim.table c.loop-claim.number c.loop-claim.total u after
     later c.in-Err-next_group.fault
-    (reported_failed c.fault_of_text-in-Err-next_group.result c.proof-file.result c.args.table.now.proof
-    (Text c.in-Err-next_group.fault) c.fault_of_text-in-Err-next_group.ensures c.proof-file.ensures reported)
+    (reported_read c.stop_from_text-in-Err-next_group.result (Text c.in-Err-next_group.fault)
+    c.stop_from_text-in-Err-next_group.ensures (cc))
     c.next_group.ensures.known cut bytes known
 
 pub returns-in_err-take_claim-clause-fault : goal.returns-in_err-take_claim-clause-fault
@@ -128,15 +141,14 @@ returns-in_err-take_claim-clause-fault g c =
     λ kn. subst (λ (x : Result (Option GroupClaim) TextFault). IsReadingOf r (stream_at r.fed now) x (stream_at after.fed later)) is
     (e.read u.sound kn) in
     let f = err_from_is_err_and c.from_residual.result c.from_residual.ensures.1 in
-    rw (f.1, f.2) (λ before parts bytes of begins known kind.
+    rw (f.1, f.2) (OnFault-weaker c.in_err-take_claim.field-0.0 _ _ (λ x explains before parts bytes of begins known kind.
     let kn : is_some start ≡ true = ap is_some known in
     claim_fault p c.days.ensures.instance start c.args.table.now r now c.loop-claim.table c.loop-claim.number c.loop-claim.total u parts
     before of begins k
     (claim_is p c.days.ensures.instance start c.args.table.now r now c.loop-claim.table c.loop-claim.number c.loop-claim.total u k
     claim) kn (stream_at after.fed later)
     (reading_claim p c.days.ensures.instance start c.args.table.now r now c.loop-claim.table c.loop-claim.number c.loop-claim.total u
-    after later e.known k says kn) bytes known kind c.in_err-take_claim.field-0.0
-    c.in_err-take_claim.ensures.fault)
+    after later e.known k says kn) bytes known kind x explains) c.in_err-take_claim.ensures.fault)
 
 pub loop-claim-preserved : goal.loop-claim-preserved
 loop-claim-preserved g c =
@@ -168,10 +180,7 @@ loop-claim-preserved g c =
 
 pub returns-in-Err-clause-failed : goal.returns-in-Err-clause-failed
 returns-in-Err-clause-failed g c =
-    let e = c.in-Err.ensures in
-    let f = c.in-Err.fault in
-    reported_reads c.fault_of_text.result c.proof-file.result c.args.table.now.proof f _ _ c.fault_of_text.ensures c.proof-file.ensures
-    e.failed
+    reported_reads c.stop_from_text.result c.in-Err.fault _ _ c.stop_from_text.ensures c.in-Err.ensures.failed
 
 pub returns-in-Err-next_group-clause-failed : goal.returns-in-Err-next_group-clause-failed
 returns-in-Err-next_group-clause-failed g c =
@@ -179,24 +188,26 @@ returns-in-Err-next_group-clause-failed g c =
     let t = c.in-Err-next_group.fault in
     let u = c.loop-claim.invariant.under in
     let is = c.in-Err-next_group.is in
-    reported_reads c.fault_of_text-in-Err-next_group.result c.proof-file.result c.args.table.now.proof
-    (Text t) _ _ c.fault_of_text-in-Err-next_group.ensures c.proof-file.ensures
+    reported_reads c.stop_from_text-in-Err-next_group.result (Text t) _ _ c.stop_from_text-in-Err-next_group.ensures
     (result_reads c.next_group.result (Err t) is_failed_read _ _ is (e.failed u.sound)
     ∙ ap (λ (b : Bool). if is_failed_read t then true else b) c.loop-claim.invariant.calm)
 
 pub returns-in_err-take_claim-clause-failed : goal.returns-in_err-take_claim-clause-failed
 returns-in_err-take_claim-clause-failed g c =
-    let f = c.in_err-take_claim.field-0.0 in
+    let s = c.in_err-take_claim.field-0.0 in
     let u = c.loop-claim.invariant.under in
     let before = g.R.Source.has_failed c.args.source.now in
     let is : c.next_group.result ≡ Ok (Some c.in-Ok-Some.claim) = c.in-Ok-Some.is
     ∙ ap (λ (x : Option GroupClaim). Ok x) c.in-Ok-Some.field-0-is in
     let calm = result_reads c.next_group.result (Ok (Some c.in-Ok-Some.claim)) is_failed_read _ _ is
     (c.next_group.ensures.failed u.sound) ∙ c.loop-claim.invariant.calm in
-    same_reads c.from_residual.result f (is_failed_read_at c.args.table.now.proof) before before _ c.from_residual.ensures.1
-    (calm ∙ ap (λ (b : Bool). if b then true else before)
-    (sym (claim_read c.args.instance.now c.loop-claim.table c.loop-claim.number c.in-Ok-Some.claim c.args.table.now.proof f
-    c.in_err-take_claim.ensures.fault))) refl
+    passed_reads c.from_residual.result s before before _ c.from_residual.ensures.1
+    (calm ∙ unread s before c.in_err-take_claim.ensures.unread) refl
+
+pub returns-in_err-take_claim-clause-up_to_failed_read : goal.returns-in_err-take_claim-clause-up_to_failed_read
+returns-in_err-take_claim-clause-up_to_failed_read g c =
+    λ reported. absurd (not_read c.in_err-take_claim.field-0.0 c.in_err-take_claim.ensures.unread
+    (err_same c.from_residual.result _ ReadFailed c.from_residual.ensures.1 reported))
 
 pub returns-in-Ok-None-clause-failed : goal.returns-in-Ok-None-clause-failed
 returns-in-Ok-None-clause-failed g c =
@@ -206,4 +217,12 @@ returns-in-Ok-None-clause-failed g c =
     let calm = result_reads c.next_group.result (Ok None) is_failed_read _ _ is (c.next_group.ensures.failed u.sound)
     ∙ c.loop-claim.invariant.calm in
     calm ∙ ap (λ (b : Bool). if b then true else before)
-    (sym (reached_read c.reached.result c.proof-file.result c.args.table.now.proof c.loop-claim.total c.bound.result c.reached.ensures))
+    (sym (reached_read c.reached.result c.loop-claim.total c.bound.result c.reached.ensures))
+
+pub returns-in-Ok-None-clause-up_to_failed_read : goal.returns-in-Ok-None-clause-up_to_failed_read
+returns-in-Ok-None-clause-up_to_failed_read g c =
+    λ reported. absurd (reached_unread c.reached.result (reached_read c.reached.result c.loop-claim.total c.bound.result c.reached.ensures)
+    reported)
+
+pub returns-in-Ok-None-clause-lower : goal.returns-in-Ok-None-clause-lower
+returns-in-Ok-None-clause-lower g c = reached_err c.reached.result c.loop-claim.total c.bound.result _ c.reached.ensures (λ below. tt)

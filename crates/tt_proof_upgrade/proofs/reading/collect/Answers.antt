@@ -4,8 +4,8 @@ use Rattle.tt_text.specs.Feeds.{stream_at}
 use Rattle.tt_text.specs.CutShort.{cut_at}
 use Rattle.tt_proof_read.specs.Faults.{read_failed, is_failed_read}
 use Rattle.tt_proof_read.specs.Readers.{Reader}
-use Rattle.tt_proof_check.proofs.TextFaults.{err_same, same_reads}
-use Rattle.tt_proof_upgrade.proofs.Collected.{collected_start, collected_next, collected_end, collected_breaks, collected_breaks_off}
+use Rattle.tt_proof_check.proofs.TextFaults.{told, err_same, same_reads}
+use Rattle.tt_proof_upgrade.proofs.Collected.{collected_start, collected_next, collected_end, collected_breaks}
 use Rattle.tt_proof_upgrade.proofs.reading.collect.Goals as goal
 
 pub loop-nodes-init : goal.loop-nodes-init
@@ -35,7 +35,7 @@ returns-in_err-node-clause-fault g c =
     rw (e.1, e.2) (λ n. collected_breaks c.args.reader.now.sizes c.args.reader.now.version
     (is_some (g.R.Source.remaining c.args.source.now)) (stream_at c.args.reader.now.fed (g.R.Source.remaining c.args.source.now))
     old (stream_at old.fed (g.R.Source.remaining c.loop-nodes.source)) c.loop-nodes.nodes.items inv.sofar c.in_err-node.field-0.0
-    (h.state inv.sofar.sound).0 k (h.read inv.sofar.sound (inv.known k)))
+    (h.state inv.sofar.sound).0 k (told c.in_err-node.field-0.0 _ n (h.read inv.sofar.sound (inv.known k))))
 
 pub loop-nodes-preserved : goal.loop-nodes-preserved
 loop-nodes-preserved g c =
@@ -69,7 +69,7 @@ pub returns-in_err-push-clause-fault : goal.returns-in_err-push-clause-fault
 returns-in_err-push-clause-fault g c =
     λ k.
     let e = err_from_is_err_and c.from_residual-in_err-push.result c.from_residual-in_err-push.ensures.1 in
-    rw (e.1, e.2) (λ n. absurd (n refl))
+    rw (e.1, e.2) (λ n. absurd cc)
 
 pub returns-clause-collected : goal.returns-clause-collected
 returns-clause-collected g c =
@@ -102,7 +102,7 @@ returns-in_err-node-clause-up_to_failed_read g c =
     let here = e.cut_short inv.sofar.sound (inv.known k) (ap is_failed_read is) in
     let first = inv.failing k _ here.0 in (
       first.0,
-      collected_breaks_off _ _ true _ c.loop-nodes.reader _ c.loop-nodes.nodes.items first.1 (e.state inv.sofar.sound).0 refl
+      collected_breaks _ _ true _ c.loop-nodes.reader _ c.loop-nodes.nodes.items first.1 read_failed (e.state inv.sofar.sound).0 refl
           (here.1 ∙ ap (λ x. Err x) is),
     )
 

@@ -3,9 +3,9 @@ use Rattle.std.proofs.lemmas.Result.{err_from_is_err_and}
 use Rattle.tt_text.specs.Feeds.{stream_at, fresh}
 use Rattle.tt_proof_read.specs.Faults.{read_failed, is_failed_read}
 use Rattle.tt_proof_check.proofs.FailedReads.{of_given}
-use Rattle.tt_proof_check.proofs.TextFaults.{err_same, same_reads}
+use Rattle.tt_proof_check.proofs.TextFaults.{told, err_same, same_reads}
 use Rattle.tt_proof_upgrade.specs.Texts.{IsRead, IsTextFault, TextIsCutOff}
-use Rattle.tt_proof_upgrade.proofs.Whole.{nodes_break, nodes_break_off, end_breaks, end_breaks_off, is_read, of_bytes}
+use Rattle.tt_proof_upgrade.proofs.Whole.{nodes_break, end_breaks, is_read, of_bytes}
 use Rattle.tt_proof_upgrade.proofs.reading.parse_proof.Goals as goal
 
 pub returns-in_err-nodes-clause-fault : goal.returns-in_err-nodes-clause-fault
@@ -34,7 +34,7 @@ returns-in_err-finish-clause-fault g c =
     rw (e.1, e.2) (λ n bytes known. of_bytes (λ s. IsTextFault p s f) bytes remaining known
     (λ k. end_breaks p reader.sizes start.sizes (stream_at fresh remaining) reader.version reader.bound headed (start.read k)
     (is_some (g.R.Source.remaining c.new.new.source)) (start.known k) noded c.in_ok-nodes.nodes.items collected.collected f
-    (c.in_err-finish.ensures.read collected.sound (collected.known (start.known k)))))
+    (told f _ n (c.in_err-finish.ensures.read collected.sound (collected.known (start.known k))))))
 
 pub returns-clause-read : goal.returns-clause-read
 returns-clause-read g c =
@@ -75,7 +75,7 @@ returns-in_err-nodes-clause-up_to_failed_read g c =
     reported in
     let here = c.in_err-nodes.ensures.up_to_failed_read (ap (λ x. Err x) is) (start.known k) in
     let first = start.cut_short k _ here.0 in
-    (first.0, nodes_break_off p reader.sizes start.sizes _ reader.version reader.bound _ first.1 here.1))
+    (first.0, nodes_break p reader.sizes start.sizes _ reader.version reader.bound _ first.1 read_failed here.1))
 
 pub returns-in_err-finish-clause-up_to_failed_read : goal.returns-in_err-finish-clause-up_to_failed_read
 returns-in_err-finish-clause-up_to_failed_read g c =
@@ -92,8 +92,8 @@ returns-in_err-finish-clause-up_to_failed_read g c =
     let nodes = collected.cut_short (start.known k) _ here.0 in
     let first = start.cut_short k _ nodes.0 in (
       first.0,
-      end_breaks_off p reader.sizes start.sizes _ reader.version reader.bound _ first.1 true refl _ c.in_ok-nodes.nodes.items
-          nodes.1 (here.1 ∙ ap (λ x. Err x) is),
+      end_breaks p reader.sizes start.sizes _ reader.version reader.bound _ first.1 true refl _ c.in_ok-nodes.nodes.items
+          nodes.1 read_failed (here.1 ∙ ap (λ x. Err x) is),
     ))
 
 pub returns-in_err-reader-clause-failed : goal.returns-in_err-reader-clause-failed
@@ -114,3 +114,12 @@ returns-in_err-finish-clause-failed g c =
     let collected = c.in_ok-nodes.ensures in
     same_reads c.from_residual-in_err-finish.result f is_failed_read _ _ _ c.from_residual-in_err-finish.ensures.1
     (e.failed collected.sound) (collected.failed ∙ c.in_ok-reader.ensures.failed)
+
+pub returns-in_err-reader-clause-fault : goal.returns-in_err-reader-clause-fault
+returns-in_err-reader-clause-fault g c =
+    let e = err_from_is_err_and c.from_residual.result c.from_residual.ensures.1 in
+    let p = c.args.instance.now in
+    let remaining = g.R.Source.remaining c.args.source.now in
+    let f = c.in_err-reader.field-0.0 in
+    rw (e.1, e.2) (λ n bytes known. of_bytes (λ s. IsTextFault p s f) bytes remaining known
+    (λ k. inl (told f _ n (c.in_err-reader.ensures.read k))))

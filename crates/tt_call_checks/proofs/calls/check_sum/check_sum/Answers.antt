@@ -5,12 +5,14 @@ use Rattle.tt_proof_check.proofs.Certifying.{points, no_points, is_feasible, not
 use Rattle.tt_proof_sum.specs.Added.{Give}
 use Rattle.tt_call_answers.specs.FaultMaps.{fault_from_instance, fault_from_solution, fault_from_sum}
 use Rattle.tt_call_checks.specs.Summed.{IsSumYes}
-use Rattle.tt_call_answers.specs.Refusals.{read_failed_at, is_failed_read_at}
+use Rattle.tt_call_answers.specs.declared.fault.AppFault.TheVariants as fault
+use Rattle.tt_call_answers.specs.Refusals.{is_failed_read_at}
 use Rattle.tt_call_checks.proofs.Answering.{yes_same}
 use Rattle.tt_call_answers.proofs.FailedReads.{passed, calm, unread, instance_read_at, solution_read_at, sum_read, read_summed}
 use Rattle.tt_call_answers.proofs.Files.{tells_instance, tells_solution, only_memory}
-use Rattle.tt_call_answers.proofs.ReportedMemory.{memory_instance, memory_solution, memory_sum}
-use Rattle.tt_call_checks.proofs.AddingBoth.{silent_yes, sum_certified, sum_not_certified, sum_cost, sum_fails, sum_yes}
+use Rattle.tt_call_answers.proofs.ReportedMemory.{lower_instance, lower_solution, lower_sum}
+use Rattle.tt_call_answers.proofs.Sums.{silent_refusal}
+use Rattle.tt_call_checks.proofs.AddingBoth.{sum_certified, sum_not_certified, sum_cost, sum_fails, sum_yes}
 use Rattle.tt_call_checks.proofs.calls.check_sum.check_sum.Goals as goal
 
 pub returns-in_err-instance-clause-yes : goal.returns-in_err-instance-clause-yes
@@ -29,10 +31,10 @@ returns-in_err-instance-clause-broken g c =
       refl,
     )
 
-pub returns-in_err-instance-clause-memory : goal.returns-in_err-instance-clause-memory
-returns-in_err-instance-clause-memory g c =
+pub returns-in_err-instance-clause-lower : goal.returns-in_err-instance-clause-lower
+returns-in_err-instance-clause-lower g c =
     let e = err_from_is_err_and c.from_residual.result c.from_residual.ensures.1 in
-    rw (e.1, e.2) (memory_instance c.in_err-instance.field-0.0)
+    rw (e.1, e.2) (lower_instance c.in_err-instance.field-0.0)
 
 pub returns-in_err-table-clause-yes : goal.returns-in_err-table-clause-yes
 returns-in_err-table-clause-yes g c =
@@ -52,10 +54,10 @@ returns-in_err-table-clause-broken g c =
       refl,
     )
 
-pub returns-in_err-table-clause-memory : goal.returns-in_err-table-clause-memory
-returns-in_err-table-clause-memory g c =
+pub returns-in_err-table-clause-lower : goal.returns-in_err-table-clause-lower
+returns-in_err-table-clause-lower g c =
     let e = err_from_is_err_and c.from_residual-in_err-table.result c.from_residual-in_err-table.ensures.1 in
-    rw (e.1, e.2) (memory_solution c.in_err-table.field-0.0)
+    rw (e.1, e.2) (lower_solution c.in_err-table.field-0.0)
 
 pub returns-then-not-feasible-clause-found : goal.returns-then-not-feasible-clause-found
 returns-then-not-feasible-clause-found g c =
@@ -94,7 +96,7 @@ returns-in_err-bound-clause-yes g c =
     λ n b files given h within.
     let here = sum_certified c.args.instance.now c.args.solution.now c.in_ok-instance.instance c.in_ok-table.table
     c.in_ok-instance.ensures.found c.in_ok-table.ensures.found files n b h within in
-    rw (e.1, e.2) (silent_yes c.in_err-bound.field-0.0 n b (c.in_err-bound.ensures.only files b given here.sum here.within))
+    rw (e.1, e.2) (silent_refusal c.in_err-bound.field-0.0 (c.in_err-bound.ensures.only files b given here.sum here.within))
 
 pub returns-in_err-bound-clause-broken : goal.returns-in_err-bound-clause-broken
 returns-in_err-bound-clause-broken g c =
@@ -102,16 +104,16 @@ returns-in_err-bound-clause-broken g c =
     c.in_ok-instance.ensures.found c.in_ok-table.ensures.found c.score-score.result c.score-score.ensures
     (no_points c.feasible.result _ c.feasible.ensures c.if-not-feasible.false) k)
 
-pub returns-in_err-bound-clause-memory : goal.returns-in_err-bound-clause-memory
-returns-in_err-bound-clause-memory g c =
+pub returns-in_err-bound-clause-lower : goal.returns-in_err-bound-clause-lower
+returns-in_err-bound-clause-lower g c =
     let e = err_from_is_err_and c.from_residual-in_err-bound.result c.from_residual-in_err-bound.ensures.1 in
-    rw (e.1, e.2) (memory_sum c.in_err-bound.field-0.0 c.in_err-bound.ensures.memory)
+    rw (e.1, e.2) (lower_sum c.in_err-bound.field-0.0 c.in_err-bound.ensures.lower)
 
 pub returns-in_err-bound-clause-up_to_failed_read : goal.returns-in_err-bound-clause-up_to_failed_read
 returns-in_err-bound-clause-up_to_failed_read g c =
     λ i r q bytes reported was now known.
     let is = read_summed c.in_err-bound.field-0.0 _
-    (err_same c.from_residual-in_err-bound.result _ (read_failed_at _) c.from_residual-in_err-bound.ensures.1 reported) in
+    (err_same c.from_residual-in_err-bound.result _ (fault.ReadFailedIn _) c.from_residual-in_err-bound.ensures.1 reported) in
     record {
       problem = c.in_ok-instance.instance;
       spelled = c.in_ok-instance.ensures.found;

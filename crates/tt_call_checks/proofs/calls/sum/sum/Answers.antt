@@ -4,9 +4,10 @@ use Rattle.tt_proof_check.proofs.TextFaults.{err_same}
 use Rattle.tt_proof_sum.specs.Added.{Give}
 use Rattle.tt_call_checks.specs.Bounded.{IsBoundAnswer}
 use Rattle.tt_call_answers.specs.FaultMaps.{fault_from_instance, fault_from_sum}
-use Rattle.tt_call_answers.specs.Refusals.{read_failed_at, is_failed_read_at}
+use Rattle.tt_call_answers.specs.declared.fault.AppFault.TheVariants as fault
+use Rattle.tt_call_answers.specs.Refusals.{is_failed_read_at}
 use Rattle.tt_call_answers.proofs.FailedReads.{passed, calm, unread, instance_read_at, sum_read, read_summed}
-use Rattle.tt_call_answers.proofs.ReportedMemory.{memory_instance, memory_sum}
+use Rattle.tt_call_answers.proofs.ReportedMemory.{lower_instance, lower_sum}
 use Rattle.tt_call_checks.proofs.Adding.{spelled_memory, sum_tells}
 use Rattle.tt_call_answers.proofs.Sums.{sum_here, silent_refusal}
 use Rattle.tt_call_checks.proofs.calls.sum.sum.Goals as goal
@@ -17,10 +18,10 @@ returns-in_err-instance-clause-only g c =
     λ p files b spells given h within. rw (e.1, e.2)
     (spelled_memory c.args.instance.now p c.in_err-instance.field-0.0 b spells c.in_err-instance.ensures.exact)
 
-pub returns-in_err-instance-clause-memory : goal.returns-in_err-instance-clause-memory
-returns-in_err-instance-clause-memory g c =
+pub returns-in_err-instance-clause-lower : goal.returns-in_err-instance-clause-lower
+returns-in_err-instance-clause-lower g c =
     let e = err_from_is_err_and c.from_residual.result c.from_residual.ensures.1 in
-    rw (e.1, e.2) (memory_instance c.in_err-instance.field-0.0)
+    rw (e.1, e.2) (lower_instance c.in_err-instance.field-0.0)
 
 pub returns-in_err-bound-clause-fault : goal.returns-in_err-bound-clause-fault
 returns-in_err-bound-clause-fault g c =
@@ -36,16 +37,16 @@ returns-in_err-bound-clause-only g c =
     let here = sum_here c.args.instance.now files p c.in_ok-instance.instance b spells c.in_ok-instance.ensures.found h within in
     rw (e.1, e.2) (silent_refusal c.in_err-bound.field-0.0 (c.in_err-bound.ensures.only files b given here.is here.within))
 
-pub returns-in_err-bound-clause-memory : goal.returns-in_err-bound-clause-memory
-returns-in_err-bound-clause-memory g c =
+pub returns-in_err-bound-clause-lower : goal.returns-in_err-bound-clause-lower
+returns-in_err-bound-clause-lower g c =
     let e = err_from_is_err_and c.from_residual-in_err-bound.result c.from_residual-in_err-bound.ensures.1 in
-    rw (e.1, e.2) (memory_sum c.in_err-bound.field-0.0 c.in_err-bound.ensures.memory)
+    rw (e.1, e.2) (lower_sum c.in_err-bound.field-0.0 c.in_err-bound.ensures.lower)
 
 pub returns-in_err-bound-clause-up_to_failed_read : goal.returns-in_err-bound-clause-up_to_failed_read
 returns-in_err-bound-clause-up_to_failed_read g c =
     λ i r q bytes reported was now known.
     let is = read_summed c.in_err-bound.field-0.0 _
-    (err_same c.from_residual-in_err-bound.result _ (read_failed_at _) c.from_residual-in_err-bound.ensures.1 reported) in
+    (err_same c.from_residual-in_err-bound.result _ (fault.ReadFailedIn _) c.from_residual-in_err-bound.ensures.1 reported) in
     record {
       problem = c.in_ok-instance.instance;
       spelled = c.in_ok-instance.ensures.found;

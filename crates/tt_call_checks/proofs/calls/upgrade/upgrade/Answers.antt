@@ -1,11 +1,12 @@
 use Rattle.std.proofs.Common.{Err, refl, ap, ◌∙◌}
 use Rattle.std.proofs.lemmas.Result.{err_from_is_err_and}
 use Rattle.tt_proof_check.proofs.TextFaults.{err_same}
-use Rattle.tt_call_answers.specs.Refusals.{read_failed, is_failed_read}
+use Rattle.tt_call_answers.specs.declared.fault.AppFault.TheVariants as fault
+use Rattle.tt_call_answers.specs.Refusals.{is_failed_read}
 use Rattle.tt_call_answers.specs.Lines.{bound_line}
 use Rattle.tt_call_answers.specs.FaultMaps.{fault_from_instance, fault_from_upgrade}
 use Rattle.tt_call_answers.proofs.FailedReads.{read_upgraded, passed, calm, instance_read, upgrade_read}
-use Rattle.tt_call_answers.proofs.ReportedMemory.{memory_instance, memory_upgrade}
+use Rattle.tt_call_answers.proofs.ReportedMemory.{lower_instance, lower_upgrade}
 use Rattle.tt_call_checks.proofs.DerivedBounds.{spelled_memory, proved_here}
 use Rattle.tt_call_checks.proofs.Rewriting.{as_bound, upgrade_tells, rewritten, silent_upgrade}
 use Rattle.tt_call_checks.proofs.calls.upgrade.upgrade.Goals as goal
@@ -49,22 +50,22 @@ pub returns-in_err-upgraded-clause-up_to_failed_read : goal.returns-in_err-upgra
 returns-in_err-upgraded-clause-up_to_failed_read g c =
     λ reported bytes known.
     let is = read_upgraded c.in_err-upgraded.field-0.0
-    (err_same c.from_residual-in_err-upgraded.result _ read_failed c.from_residual-in_err-upgraded.ensures.1 reported) in
+    (err_same c.from_residual-in_err-upgraded.result _ fault.ReadFailed c.from_residual-in_err-upgraded.ensures.1 reported) in
     record {
       problem = c.in_ok-instance.instance;
       spelled = c.in_ok-instance.ensures.found;
       explains = c.in_err-upgraded.ensures.up_to_failed_read (ap (λ f. Err f) is) bytes known;
     }
 
-pub returns-in_err-instance-clause-memory : goal.returns-in_err-instance-clause-memory
-returns-in_err-instance-clause-memory g c =
+pub returns-in_err-instance-clause-lower : goal.returns-in_err-instance-clause-lower
+returns-in_err-instance-clause-lower g c =
     let e = err_from_is_err_and c.from_residual.result c.from_residual.ensures.1 in
-    rw (e.1, e.2) (memory_instance c.in_err-instance.field-0.0)
+    rw (e.1, e.2) (lower_instance c.in_err-instance.field-0.0)
 
-pub returns-in_err-upgraded-clause-memory : goal.returns-in_err-upgraded-clause-memory
-returns-in_err-upgraded-clause-memory g c =
+pub returns-in_err-upgraded-clause-lower : goal.returns-in_err-upgraded-clause-lower
+returns-in_err-upgraded-clause-lower g c =
     let e = err_from_is_err_and c.from_residual-in_err-upgraded.result c.from_residual-in_err-upgraded.ensures.1 in
-    rw (e.1, e.2) (memory_upgrade c.in_err-upgraded.field-0.0 c.in_err-upgraded.ensures.memory)
+    rw (e.1, e.2) (lower_upgrade c.in_err-upgraded.field-0.0 c.in_err-upgraded.ensures.lower)
 
 pub returns-in_err-instance-clause-failed : goal.returns-in_err-instance-clause-failed
 returns-in_err-instance-clause-failed g c =

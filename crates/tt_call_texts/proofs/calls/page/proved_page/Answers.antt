@@ -6,8 +6,9 @@ use Rattle.tt_proof_check.proofs.TextFaults.{err_same}
 use Rattle.tt_proof_sum.specs.Added.{Give}
 use Rattle.tt_call_answers.specs.FaultMaps.{fault_from_instance, fault_from_solution, fault_from_labels, fault_from_page, fault_from_sum}
 use Rattle.tt_call_texts.specs.Paged.{IsNotPut}
-use Rattle.tt_call_answers.specs.Refusals.{is_failed_write, read_failed_at, is_failed_read_at}
-use Rattle.tt_call_answers.proofs.ReportedMemory.{memory_sum, memory_instance, memory_solution, memory_labels}
+use Rattle.tt_call_answers.specs.declared.fault.AppFault.TheVariants as fault
+use Rattle.tt_call_answers.specs.Refusals.{is_failed_write, is_failed_read_at}
+use Rattle.tt_call_answers.proofs.ReportedMemory.{lower_sum, lower_instance, lower_solution, lower_labels}
 use Rattle.tt_call_answers.proofs.FailedReads.{read_summed, passed, calm, unread, sum_read, instance_read_at, solution_read_at, labels_read_at, page_read_at, instance_write, solution_write, labels_write, sum_write, page_write}
 use Rattle.tt_call_answers.proofs.Sums.{sum_here, silent_refusal}
 use Rattle.tt_call_answers.proofs.Files.{tells_instance, tells_solution, only_memory}
@@ -21,10 +22,10 @@ returns-in_err-instance-clause-only g c =
     (inl (inl (only_memory c.args.instance.now c.args.solution.now p t _ both
     (tells_instance c.args.instance.now c.args.solution.now c.in_err-instance.field-0.0 c.in_err-instance.ensures.exact))))
 
-pub returns-in_err-instance-clause-memory : goal.returns-in_err-instance-clause-memory
-returns-in_err-instance-clause-memory g c =
+pub returns-in_err-instance-clause-lower : goal.returns-in_err-instance-clause-lower
+returns-in_err-instance-clause-lower g c =
     let e = err_from_is_err_and c.from_residual.result c.from_residual.ensures.1 in
-    rw (e.1, e.2) (memory_instance c.in_err-instance.field-0.0)
+    rw (e.1, e.2) (lower_instance c.in_err-instance.field-0.0)
 
 pub returns-in_err-table-clause-only : goal.returns-in_err-table-clause-only
 returns-in_err-table-clause-only g c =
@@ -34,10 +35,10 @@ returns-in_err-table-clause-only g c =
     (tells_solution c.args.instance.now c.args.solution.now c.in_ok-instance.instance c.in_err-table.field-0.0
     c.in_ok-instance.ensures.found c.in_err-table.ensures.exact))))
 
-pub returns-in_err-table-clause-memory : goal.returns-in_err-table-clause-memory
-returns-in_err-table-clause-memory g c =
+pub returns-in_err-table-clause-lower : goal.returns-in_err-table-clause-lower
+returns-in_err-table-clause-lower g c =
     let e = err_from_is_err_and c.from_residual-in_err-table.result c.from_residual-in_err-table.ensures.1 in
-    rw (e.1, e.2) (memory_solution c.in_err-table.field-0.0)
+    rw (e.1, e.2) (lower_solution c.in_err-table.field-0.0)
 
 pub returns-in_err-labels-clause-fault : goal.returns-in_err-labels-clause-fault
 returns-in_err-labels-clause-fault g c =
@@ -54,10 +55,10 @@ returns-in_err-labels-clause-only g c =
     (inl (inl (names_memory c.args.instance.now p c.in_ok-instance.instance c.args.names l c.in_err-labels.field-0.0 both.spelled
     c.in_ok-instance.ensures.found named c.in_err-labels.ensures)))
 
-pub returns-in_err-labels-clause-memory : goal.returns-in_err-labels-clause-memory
-returns-in_err-labels-clause-memory g c =
+pub returns-in_err-labels-clause-lower : goal.returns-in_err-labels-clause-lower
+returns-in_err-labels-clause-lower g c =
     let e = err_from_is_err_and c.from_residual-in_err-labels.result c.from_residual-in_err-labels.ensures.1 in
-    rw (e.1, e.2) (memory_labels c.in_err-labels.field-0.0)
+    rw (e.1, e.2) (lower_labels c.in_err-labels.field-0.0)
 
 pub returns-in_err-bound-clause-fault : goal.returns-in_err-bound-clause-fault
 returns-in_err-bound-clause-fault g c =
@@ -75,16 +76,16 @@ returns-in_err-bound-clause-only g c =
     let here = sum_here c.args.instance.now files p c.in_ok-instance.instance b both.spelled c.in_ok-instance.ensures.found h within in
     rw (e.1, e.2) (inl (silent_refusal c.in_err-bound.field-0.0 (c.in_err-bound.ensures.only files b given here.is here.within)))
 
-pub returns-in_err-bound-clause-memory : goal.returns-in_err-bound-clause-memory
-returns-in_err-bound-clause-memory g c =
+pub returns-in_err-bound-clause-lower : goal.returns-in_err-bound-clause-lower
+returns-in_err-bound-clause-lower g c =
     let e = err_from_is_err_and c.from_residual-in_err-bound.result c.from_residual-in_err-bound.ensures.1 in
-    rw (e.1, e.2) (memory_sum c.in_err-bound.field-0.0 c.in_err-bound.ensures.memory)
+    rw (e.1, e.2) (lower_sum c.in_err-bound.field-0.0 c.in_err-bound.ensures.lower)
 
 pub returns-in_err-bound-clause-up_to_failed_read : goal.returns-in_err-bound-clause-up_to_failed_read
 returns-in_err-bound-clause-up_to_failed_read g c =
     λ i r q bytes reported was now known.
     let is = read_summed c.in_err-bound.field-0.0 _
-    (err_same c.from_residual-in_err-bound.result _ (read_failed_at _) c.from_residual-in_err-bound.ensures.1 reported) in
+    (err_same c.from_residual-in_err-bound.result _ (fault.ReadFailedIn _) c.from_residual-in_err-bound.ensures.1 reported) in
     record {
       problem = c.in_ok-instance.instance;
       spelled = c.in_ok-instance.ensures.found;

@@ -1,6 +1,8 @@
+use Rattle.std.proofs.Common.{refl}
 use Rattle.std.proofs.lemmas.Result.{err_from_is_err_and}
-use Rattle.tt_proof_sum.specs.declared.fault.SumFault.TheVariants.{TooLarge}
-use Rattle.tt_proof_sum.proofs.Added.{adds, too_large, tells_silent}
+use Rattle.tt_stop.proofs.Stops.{OnFault-weaker, passed_reads}
+use Rattle.tt_proof_sum.specs.declared.fault.FileFault.TheVariants.{TooLarge}
+use Rattle.tt_proof_sum.proofs.Added.{adds, too_large, only_unfinished}
 use Rattle.tt_proof_sum.proofs.summed.Sum.add.Goals as goal
 
 pub returns-in_err-bound-clause-only : goal.returns-in_err-bound-clause-only
@@ -8,13 +10,15 @@ returns-in_err-bound-clause-only g c =
     let e = err_from_is_err_and c.from_residual.result c.from_residual.ensures.1 in
     λ parts bytes part of known is apart within.
     rw (e.1, e.2)
-    (tells_silent c.args.instance.now c.days.ensures.instance parts bytes part is apart within c.in_err-bound.field-0.0
-    c.in_err-bound.ensures.memory (c.in_err-bound.ensures.fault parts bytes of.table known))
+    (OnFault-weaker c.in_err-bound.field-0.0 _ _
+    (λ f explains. only_unfinished c.args.instance.now c.days.ensures.instance parts bytes part is apart within f
+    (explains parts bytes of.table known)) c.in_err-bound.ensures.fault)
 
 pub returns-in_err-bound-clause-fault : goal.returns-in_err-bound-clause-fault
 returns-in_err-bound-clause-fault g c =
     let e = err_from_is_err_and c.from_residual.result c.from_residual.ensures.1 in
-    rw (e.1, e.2) (λ parts bytes of known. c.in_err-bound.ensures.fault parts bytes of.table known)
+    rw (e.1, e.2) (OnFault-weaker c.in_err-bound.field-0.0 _ _ (λ f explains parts bytes of known. explains parts bytes of.table known)
+    c.in_err-bound.ensures.fault)
 
 pub returns-in-Some-clause-added : goal.returns-in-Some-clause-added
 returns-in-Some-clause-added g c =
@@ -27,10 +31,14 @@ returns-in-None-clause-only g c =
     λ parts bytes part of known is apart within.
     let large = too_large c.args.instance.now (g.R.Source.remaining c.args.source.now) c.args.self parts c.take_file.new.table
     c.in_ok-bound.bound of (c.in_ok-bound.ensures.joins parts of.table) c.in-None.ensures bytes known in
-    tells_silent c.args.instance.now c.days.ensures.instance parts bytes part is apart within (TooLarge 0) tt large
+    only_unfinished c.args.instance.now c.days.ensures.instance parts bytes part is apart within TooLarge large
 
 pub returns-in-None-clause-fault : goal.returns-in-None-clause-fault
 returns-in-None-clause-fault g c =
     λ parts bytes of known.
     too_large c.args.instance.now (g.R.Source.remaining c.args.source.now) c.args.self parts c.take_file.new.table c.in_ok-bound.bound
     of (c.in_ok-bound.ensures.joins parts of.table) c.in-None.ensures bytes known
+
+pub returns-in_err-bound-clause-failed : goal.returns-in_err-bound-clause-failed
+returns-in_err-bound-clause-failed g c =
+    passed_reads c.from_residual.result c.in_err-bound.field-0.0 _ _ _ c.from_residual.ensures.1 c.in_err-bound.ensures.failed refl

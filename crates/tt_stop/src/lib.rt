@@ -1,0 +1,6 @@
+//! Why a call has no result.
+#![tactic(auto)]
+
+mod stop;
+
+pub use stop::Stop;
