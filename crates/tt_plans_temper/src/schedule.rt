@@ -3,8 +3,8 @@
 /// The number of steps at each place between two exchanges.
 pub const ROUND: u64 = 300;
 
-/// The number of cycles: from the second on, missing days weigh more the hotter the place is.
-const CYCLES: u64 = 2;
+/// The number of steps from which on there are two cycles. In the last one, missing days weigh more the hotter the place is.
+const TWO_CYCLES: u64 = 20_000_000;
 
 /// The number of times that homes alone are searched at the end.
 pub const SETTLINGS: u64 = 10;
@@ -39,7 +39,10 @@ impl Schedule {
 
     /// Returns the number of steps of a cycle.
     pub fn cycle(self) -> u64 {
-        (self.steps / CYCLES).max(1)
+        if self.steps < TWO_CYCLES {
+            return self.steps.max(1);
+        }
+        self.steps / 2
     }
 
     /// Returns the number of steps that were made in the present cycle.
@@ -49,7 +52,7 @@ impl Schedule {
 
     /// Checks whether the present cycle is one in which hot places weigh missing days more.
     pub fn is_weighing_days(self) -> bool {
-        self.made.checked_div(self.cycle()).unwrap_or(0) % 2 == 1
+        self.steps < TWO_CYCLES || self.made >= self.cycle()
     }
 
     /// Checks whether all steps are made.

@@ -123,7 +123,7 @@ fn go_plans<W: Watch>(
 }
 
 /// The number of steps of a tempering for each unit of the root of the number of draws.
-const TEMPERED: u64 = 14_000;
+const TEMPERED: u64 = 12_000;
 
 /// The minimum number of draws with which a timetable is tempered.
 const FEWEST_DRAWS: u64 = 5_000;
