@@ -14,8 +14,11 @@ use tt_parts::Effort;
 use tt_search::improve;
 use tt_watch::Watch;
 
-/// The number of steps that each round makes for a better timetable.
+/// The number of steps that the second round makes for a better timetable; later rounds make more, by the square of the rounds before.
 const STEPS: u64 = 200_000;
+
+/// The maximum number of steps of a round.
+const MOST_STEPS: u64 = 20_000_000;
 
 /// The number of nodes that the first search for bounds may use up.
 const FIRST_NODES: u32 = 20_000;
@@ -43,6 +46,14 @@ fn effort_of(rounds: Rounds, round: u64) -> Option<Effort> {
         nodes: u32::try_from(nodes).unwrap_or(MOST_NODES).min(MOST_NODES),
         seed: rounds.seed,
     })
+}
+
+/// Returns the number of steps that a later round makes for a better timetable.
+fn steps_of(round: u64) -> u64 {
+    STEPS
+        .saturating_mul(round)
+        .saturating_mul(round)
+        .min(MOST_STEPS)
 }
 
 /// Checks whether the search ends with this result: nothing is left to search for, or the watch ends it.
@@ -100,7 +111,7 @@ fn search_round<W: WatchRounds>(
 {
     let Week { table, parts } = week;
     let seed = rounds.seed.wrapping_add(round);
-    let table = improve(alloc, instance, table, seed, STEPS, watch)?;
+    let table = improve(alloc, instance, table, seed, steps_of(round), watch)?;
     let week = Week { table, parts };
     let Some(effort) = effort_of(rounds, round) else {
         return Ok(week);

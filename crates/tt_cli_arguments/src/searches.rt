@@ -7,7 +7,7 @@ use crate::showing::{PROGRESS, QUIET, Showing, showing_of};
 use clap::ArgMatches;
 
 /// The maximum number of steps of a search.
-const MAX_STEPS: u64 = 1_000_000;
+const MAX_STEPS: u64 = 1_000_000_000;
 
 /// The maximum number of runs of a search.
 const MAX_RUNS: u64 = 1_000;
@@ -84,7 +84,7 @@ const STEPS: Argument<'static> = Argument {
         most: MAX_STEPS,
         default: Some("10000"),
     }),
-    help: "How long to search, 0 to 1000000 steps",
+    help: "How long to search, 0 to 1000000000 steps",
     condition: None,
 };
 

@@ -8,11 +8,13 @@ ghost use Rattle.tt_walk.specs.Inner.Pairs.{IsBest};
 
 use crate::planning::walk_by_plans;
 use crate::restoring::restore;
+use crate::tempering::walk_by_tempering;
 use rand_pcg::Pcg32;
 use std::alloc::{AllocError, Global};
 use tt_instance::Instance;
 use tt_moves_descend::descend_in;
 use tt_occupancy::Occupied;
+use tt_plans_temper::{Tempering, can_temper};
 use tt_replan::{Replanner, can_replan};
 use tt_table::Timetable;
 use tt_walk::{
@@ -120,6 +122,51 @@ fn go_plans<W: Watch>(
     restore(occupied, &best.entries);
 }
 
+/// The number of steps of a tempering for each unit of the root of the number of draws.
+const TEMPERED: u64 = 12_000;
+
+/// The minimum number of draws with which a timetable is tempered.
+const FEWEST_DRAWS: u64 = 5_000;
+
+/// Checks whether a timetable is searched by tempering with this many draws: one for each entry leads to whatever is found.
+fn is_tempered(occupied: &Occupied<'_, '_>, draws: u64) -> bool {
+    let entries = occupied.table().len() as u64;
+    draws >= entries.max(FEWEST_DRAWS)
+        && occupied.score().feasible()
+        && can_temper(occupied.instance())
+}
+
+/// Moves to the best timetable that tempering finds.
+fn temper_to_best<W: Watch>(
+    alloc: Global,
+    occupied: &mut Occupied<'_, '_>,
+    seed: u64,
+    draws: u64,
+    limit: u64,
+    watch: &mut W,
+) -> Result<(), AllocError>
+    ensures problem { occupied.new.problem ≡ occupied.old.problem }
+    ensures best { OnOk result (IsNoWorse occupied.old.problem occupied.old.entries occupied.new.entries) }
+    ensures reached { OnOk result (LeadsWithin occupied.old.problem occupied.old.entries draws occupied.new.entries) }
+{
+    let mut best = Best::new(alloc, occupied)?;
+    let first = Vec::from_slice(alloc, occupied.table().entries())?;
+    let steps = draws.isqrt().saturating_mul(TEMPERED);
+    let mut tempering = Tempering::new(alloc, occupied, seed, steps)?;
+    let span = Span { before: 0, limit };
+    walk_by_tempering(
+        occupied,
+        &mut best,
+        &first,
+        &mut tempering,
+        draws,
+        span,
+        watch,
+    );
+    restore(occupied, &best.entries);
+    Ok(())
+}
+
 /// Moves to the best timetable that this many drawn steps lead to.
 fn walk_to_best<W: Watch>(
     alloc: Global,
@@ -135,6 +182,9 @@ fn walk_to_best<W: Watch>(
 {
     if occupied.table().is_empty() {
         return Ok(());
+    }
+    if is_tempered(occupied, draws) {
+        return temper_to_best(alloc, occupied, seed, draws, limit, watch);
     }
     let mut best = Best::new(alloc, occupied)?;
     let mut walker = Walker::new(alloc, occupied, seed)?;
@@ -169,7 +219,7 @@ fn walk_to_best<W: Watch>(
 }
 
 /// Searches for a better timetable with the same courses, from a seed and a number of steps: half of them are drawn, and make a walk
-/// near the best timetable so far; the others descend from the best one. If the watch ends the search, fewer are drawn. The same seed gives
+/// near the best timetable so far, or lead to what tempering has found; the others descend from the best one. If the watch ends the search, fewer are drawn. The same seed gives
 /// the same result on every machine, unless the watch ends the search. The table is consumed even if memory runs out. It is not proved that
 /// the result is mostly better.
 pub fn improve<W: Watch>(

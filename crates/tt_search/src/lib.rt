@@ -5,6 +5,7 @@ mod improving;
 mod planning;
 mod restoring;
 mod runs;
+mod tempering;
 
 pub use improving::improve;
 pub use runs::{Search, improve_in_runs};

@@ -28,7 +28,7 @@ fn try_step(occupied: &mut Occupied<'_, '_>, step: Step)
 }
 
 /// Makes steps in turn, and skips those that can't be made.
-fn make_steps(occupied: &mut Occupied<'_, '_>, steps: &[Step])
+pub fn make_steps(occupied: &mut Occupied<'_, '_>, steps: &[Step])
     ensures problem { occupied.new.problem ≡ occupied.old.problem }
     ensures courses { courses_of occupied.new.entries ≡ courses_of occupied.old.entries }
     ensures reached { LeadsWithin occupied.old.problem occupied.old.entries (length steps.now) occupied.new.entries }

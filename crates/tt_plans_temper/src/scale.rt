@@ -1,0 +1,90 @@
+//! How the search follows the number of curricula of a course.
+
+use tt_plans::Facts;
+use tt_plans_odds::{Heat, POINT};
+
+/// The number of units of a load of 1.
+const UNIT: u64 = 1_024;
+
+/// The number of curricula of a course whose load is 1.
+const CURRICULA: u64 = 3;
+
+/// The number of plans at a load of 1.
+const PLANS: u64 = 6;
+
+/// The minimum and the maximum number of plans.
+const FEWEST_PLANS: u64 = 3;
+
+const MOST_PLANS: u64 = 16;
+
+/// The temperature of the coldest place, in hundredths of a point.
+const COLDEST: i64 = 23;
+
+/// The temperature of the hottest place at a load of 1, in hundredths of a point.
+const HOTTEST: i64 = 90;
+
+/// The temperature at which a plan forgets its start at a load of 1, in hundredths of a point.
+const MELTING: i64 = 1_500;
+
+/// The average number of curricula of a course, as a multiple of three: what a lecture that moves changes.
+#[derive(Clone, Copy)]
+pub struct Load {
+    /// At least `UNIT`.
+    units: u64,
+}
+
+/// Returns the level of a temperature in hundredths of a point, times a number of units.
+fn level(hundredths: i64, units: u64) -> i64 {
+    let units = i64::try_from(units).unwrap_or(i64::MAX);
+    Heat::POINT_LEVEL
+        .wrapping_mul(hundredths)
+        .saturating_mul(units)
+        / (100 * UNIT as i64)
+}
+
+impl Load {
+    /// Returns the load of an instance.
+    pub fn new(facts: &Facts) -> Load {
+        let mut curricula: u64 = 0;
+        for course in 0..facts.sizes.courses {
+            curricula = curricula.saturating_add(facts.curricula.row(course).len() as u64);
+        }
+        let courses = (facts.sizes.courses as u64).saturating_mul(CURRICULA);
+        let units = curricula
+            .saturating_mul(UNIT)
+            .checked_div(courses)
+            .unwrap_or(0);
+        Load {
+            units: units.clamp(UNIT, 64 * UNIT),
+        }
+    }
+
+    /// Returns its root, in units.
+    fn root(self) -> u64 {
+        self.units.saturating_mul(UNIT).isqrt()
+    }
+
+    /// Returns the number of plans.
+    pub fn plans(self) -> usize {
+        let plans = self.root().saturating_mul(PLANS).saturating_add(UNIT / 2) / UNIT;
+        plans.clamp(FEWEST_PLANS, MOST_PLANS) as usize
+    }
+
+    /// Returns the level of the coldest place.
+    pub fn coldest() -> i64 {
+        level(COLDEST, UNIT)
+    }
+
+    /// Returns the level of the hottest place: it grows with the load to the power of 1.75.
+    pub fn hottest(self) -> i64 {
+        let quarter_root = self.root().saturating_mul(UNIT).isqrt().max(1);
+        let square = self.units.saturating_mul(self.units);
+        let power = square.checked_div(quarter_root).unwrap_or(UNIT);
+        level(HOTTEST, power)
+    }
+
+    /// Returns the level at which a plan forgets its start.
+    pub fn melting(self) -> i64 {
+        level(MELTING, self.units)
+    }
+}

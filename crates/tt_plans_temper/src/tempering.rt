@@ -1,0 +1,297 @@
+//! Tempering.
+
+use crate::draft::Draft;
+use crate::incumbent::Incumbent;
+use crate::ladder::{Ladder, ROUNDS};
+use crate::scale::Load;
+use crate::schedule::{ROUND, SETTLINGS, Schedule};
+use crate::stepping::Stepper;
+use std::alloc::{AllocError, Global};
+use tt_instance::Instance;
+use tt_moves::Step;
+use tt_occupancy::Occupied;
+use tt_plans::{DAY_COST, Facts, Plan};
+use tt_plans_odds::{CERTAIN, Dice, Heat, POINT, logarithm};
+use tt_plans_redraw::can_redraw;
+use tt_plans_tables::put;
+
+/// The amount that a missing day costs more at the hottest place, in quarters of a point, in a cycle that weighs days.
+const DEARER_DAYS: i64 = 3 * POINT;
+
+/// The amount that a clash costs more in one of the plans of a round that are kept, in quarters of a point.
+const DEARER_CLASHES: i64 = 29 * POINT;
+
+/// The temperature at which the search for homes alone begins, and that at which it ends, in hundredths of a point.
+const WARM_HOMES: i64 = 100;
+
+const COLD_HOMES: i64 = 15;
+
+/// The number of temperatures of such a search.
+const STAGES: u64 = 64;
+
+/// The maximum number of rooms.
+const MOST_ROOMS: u32 = 512;
+
+/// Several plans at temperatures of their own.
+#[derive(Drop)]
+pub struct Tempering {
+    facts: Facts,
+    dice: Dice,
+    stepper: Stepper,
+    ladder: Ladder,
+    schedule: Schedule,
+    load: Load,
+    plans: Vec<Plan>,
+    /// The plan at each place, the coldest place first.
+    order: Vec<usize>,
+    incumbent: Incumbent,
+    /// The plan of least cost of a round, if it costs less than the best timetable.
+    cheapest: Draft,
+    /// The same, with dearer clashes.
+    clearest: Draft,
+    melted: usize,
+    rounds: u64,
+    settled: u64,
+}
+
+/// Checks whether an instance is small enough for the tables.
+pub fn can_temper(instance: &Instance<'_>) -> bool {
+    instance.rooms() <= MOST_ROOMS && can_redraw(instance)
+}
+
+/// Returns a timetable without its rooms: the home of a course is the room of its last lecture.
+fn start_of(
+    alloc: Global,
+    facts: &Facts,
+    occupied: &Occupied<'_, '_>,
+) -> Result<Draft, AllocError> {
+    let mut draft = Draft::new(alloc, facts)?;
+    let periods = facts.sizes.periods;
+    for (lecture, entry) in occupied.table().entries().iter().enumerate() {
+        let slot = (entry.day as usize)
+            .wrapping_mul(periods)
+            .wrapping_add(entry.period as usize);
+        put(&mut draft.slots, lecture, u32::try_from(slot).unwrap_or(0));
+        put(&mut draft.homes, entry.course as usize, entry.room);
+    }
+    let cost = i64::try_from(occupied.score().cost()).unwrap_or(i64::MAX);
+    draft.cost = cost.saturating_mul(POINT);
+    Ok(draft)
+}
+
+/// Returns this many copies of a plan. Fails if memory runs out.
+fn plans_of(
+    alloc: Global,
+    facts: &Facts,
+    start: &Draft,
+    count: usize,
+) -> Result<Vec<Plan>, AllocError> {
+    let mut plans = Vec::new(alloc);
+    for _ in 0..count {
+        let mut plan = Plan::new(alloc, facts)?;
+        plan.read(facts, &start.slots, &start.homes);
+        plans.push(plan)?;
+    }
+    Ok(plans)
+}
+
+/// Returns the numbers below a limit.
+fn numbers_below(alloc: Global, limit: usize) -> Result<Vec<usize>, AllocError> {
+    let mut numbers = Vec::new(alloc);
+    for number in 0..limit {
+        numbers.push(number)?;
+    }
+    Ok(numbers)
+}
+
+/// Returns the temperature of a stage of a search for homes.
+fn heat_of_stage(dice: &Dice, stage: u64) -> Heat {
+    let height = logarithm(WARM_HOMES.cast_unsigned()).saturating_sub(logarithm(
+        COLD_HOMES.cast_unsigned(),
+    ));
+    let fallen = height.wrapping_mul(stage) / STAGES;
+    let chance = dice.chance(i64::try_from(fallen).unwrap_or(i64::MAX));
+    Heat::new(Heat::POINT_LEVEL.wrapping_mul(chance) / CERTAIN)
+}
+
+impl Tempering {
+    /// Begins with a timetable that breaks no hard rule. No later call allocates memory.
+    pub fn new(
+        alloc: Global,
+        occupied: &Occupied<'_, '_>,
+        seed: u64,
+        steps: u64,
+    ) -> Result<Tempering, AllocError> {
+        let facts = Facts::new(alloc, occupied)?;
+        let load = Load::new(&facts);
+        let start = start_of(alloc, &facts, occupied)?;
+        let plans = plans_of(alloc, &facts, &start, load.plans())?;
+        Ok(Tempering {
+            order: numbers_below(alloc, plans.len())?,
+            dice: Dice::new(alloc, seed)?,
+            stepper: Stepper::new(alloc, &facts)?,
+            ladder: Ladder::new(alloc, load, plans.len())?,
+            schedule: Schedule::new(steps, facts.sizes.lectures),
+            load,
+            plans,
+            incumbent: Incumbent::new(alloc, &facts, start)?,
+            cheapest: Draft::new(alloc, &facts)?,
+            clearest: Draft::new(alloc, &facts)?,
+            facts,
+            melted: 0,
+            rounds: 0,
+            settled: 0,
+        })
+    }
+
+    /// Returns the moves to the best timetable; they do nothing if it is the one at the start.
+    pub fn moves(&self) -> &[Step] {
+        self.incumbent.moves()
+    }
+
+    /// Returns the steps that were made, as a share of `all`.
+    pub fn share(&self, all: u64) -> u64 {
+        let made = u128::from(self.schedule.made.min(self.schedule.steps));
+        let product = made.wrapping_mul(u128::from(all));
+        let share = product
+            .checked_div(u128::from(self.schedule.steps))
+            .unwrap_or(0);
+        u64::try_from(share).unwrap_or(all)
+    }
+
+    /// Checks whether the search is at its end.
+    pub fn is_over(&self) -> bool {
+        self.schedule.is_over() && self.settled >= SETTLINGS
+    }
+
+    /// Makes a part of the search, of some milliseconds. Returns whether a better timetable was found.
+    pub fn advance(&mut self) -> bool {
+        if self.melted < self.plans.len() {
+            self.melt();
+            return false;
+        }
+        if self.schedule.is_over() {
+            return self.settle_homes();
+        }
+        self.make_round();
+        let is_cheaper = self.incumbent.best.cost > self.cheapest.cost
+            && self.incumbent.challenge(&self.facts, &self.cheapest);
+        let is_clearer = self.incumbent.best.cost > self.clearest.cost
+            && self.incumbent.challenge(&self.facts, &self.clearest);
+        is_cheaper || is_clearer
+    }
+
+    /// Lets another plan forget its start.
+    fn melt(&mut self) {
+        if let Some(plan) = self.plans.get_mut(self.melted) {
+            let heat = Heat::new(self.load.melting());
+            for _ in 0..self.schedule.melting() {
+                self.stepper.melt(&self.facts, plan, &mut self.dice, heat);
+            }
+        }
+        self.melted = self.melted.saturating_add(1);
+    }
+
+    /// Returns the cost of a missing day at a place.
+    fn day_cost(&self, place: usize) -> i64 {
+        if !self.schedule.is_weighing_days() {
+            return DAY_COST;
+        }
+        let places = self.plans.len().saturating_sub(1).max(1);
+        let part = i64::try_from(place)
+            .unwrap_or(0)
+            .wrapping_mul(DEARER_DAYS)
+            .checked_div(i64::try_from(places).unwrap_or(1))
+            .unwrap_or(0);
+        DAY_COST.wrapping_add(part)
+    }
+
+    /// Makes the steps of a round at each place, and lets neighbours change places.
+    fn make_round(&mut self) {
+        if self.rounds % ROUNDS == 0 {
+            self.ladder.adjust(&self.dice, self.schedule);
+        }
+        self.cheapest.cost = self.incumbent.best.cost;
+        self.clearest.cost = self.incumbent.best.cost;
+        let places = self.order.len();
+        for place in 0..places {
+            self.walk(place);
+            self.schedule.count(ROUND);
+        }
+        for pair in 0..places / 2 {
+            let place = pair
+                .wrapping_mul(2)
+                .wrapping_add((self.rounds % 2) as usize);
+            self.exchange(place);
+        }
+        self.rounds = self.rounds.saturating_add(1);
+    }
+
+    /// Makes the steps of a round at a place.
+    fn walk(&mut self, place: usize) {
+        let (heat, day_cost) = (self.ladder.heat(place), self.day_cost(place));
+        let number = self.order.get(place).copied().unwrap_or(0);
+        let Some(plan) = self.plans.get_mut(number) else {
+            return;
+        };
+        plan.weigh_days(day_cost);
+        for _ in 0..ROUND {
+            if self.stepper.step(&self.facts, plan, &mut self.dice, heat) {
+                let cost = plan.cost_with(DAY_COST);
+                self.cheapest.keep(plan, cost);
+                let dearer = plan.clashes.wrapping_mul(DEARER_CLASHES);
+                self.clearest.keep(plan, cost.wrapping_add(dearer));
+            }
+        }
+    }
+
+    /// Returns the wait for an exchange of the plans at a place and at the next one.
+    fn wait_for_exchange(&self, place: usize) -> Option<i64> {
+        let next = place.saturating_add(1);
+        let plan = self.plans.get(*self.order.get(place)?)?;
+        let other = self.plans.get(*self.order.get(next)?)?;
+        let (here, there) = (self.day_cost(place), self.day_cost(next));
+        let colder = other.cost_with(here).wrapping_sub(plan.cost_with(here));
+        let warmer = plan.cost_with(there).wrapping_sub(other.cost_with(there));
+        let wait = self.ladder.heat(place).wait(colder);
+        Some(wait.saturating_add(self.ladder.heat(next).wait(warmer)))
+    }
+
+    /// Lets the plans at a place and at the next one change places, by their odds.
+    fn exchange(&mut self, place: usize) {
+        let Some(wait) = self.wait_for_exchange(place) else {
+            return;
+        };
+        let chance = self.dice.chance(wait);
+        self.ladder.count(place, chance);
+        if wait <= self.dice.wait() {
+            let next = place.saturating_add(1);
+            let number = self.order.get(place).copied().unwrap_or(0);
+            let other = self.order.get(next).copied().unwrap_or(0);
+            put(&mut self.order, place, other);
+            put(&mut self.order, next, number);
+        }
+    }
+
+    /// Searches for homes of the best plan. Returns whether a better timetable was found.
+    fn settle_homes(&mut self) -> bool {
+        self.settled = self.settled.saturating_add(1);
+        self.cheapest.cost = i64::MAX;
+        let Some(plan) = self.plans.get_mut(0) else {
+            return false;
+        };
+        plan.weigh_days(DAY_COST);
+        let best = &self.incumbent.best;
+        plan.read(&self.facts, &best.slots, &best.homes);
+        for stage in 0..STAGES {
+            let heat = heat_of_stage(&self.dice, stage);
+            for _ in 0..self.schedule.settling() / STAGES {
+                if self.stepper.settle(&self.facts, plan, &mut self.dice, heat) {
+                    let cost = plan.cost;
+                    self.cheapest.keep(plan, cost);
+                }
+            }
+        }
+        self.cheapest.cost < i64::MAX && self.incumbent.challenge(&self.facts, &self.cheapest)
+    }
+}
