@@ -122,7 +122,7 @@ fn go_plans<W: Watch>(
     restore(occupied, &best.entries);
 }
 
-/// The number of steps of a tempering for each unit of the root of the number of draws.
+/// The number of steps of a tempering for each unit of the root of the number of draws; at most one for each entry and draw is made.
 const TEMPERED: u64 = 12_000;
 
 /// The minimum number of draws with which a timetable is tempered.
@@ -134,6 +134,12 @@ fn is_tempered(occupied: &Occupied<'_, '_>, draws: u64) -> bool {
     draws >= entries.max(FEWEST_DRAWS)
         && occupied.score().feasible()
         && can_temper(occupied.instance())
+}
+
+/// Returns the number of steps of a tempering with this many draws and entries.
+fn tempered_steps(draws: u64, entries: usize) -> u64 {
+    let most = draws.saturating_mul(entries as u64);
+    draws.isqrt().saturating_mul(TEMPERED).min(most)
 }
 
 /// Moves to the best timetable that tempering finds.
@@ -151,7 +157,7 @@ fn temper_to_best<W: Watch>(
 {
     let mut best = Best::new(alloc, occupied)?;
     let first = Vec::from_slice(alloc, occupied.table().entries())?;
-    let steps = draws.isqrt().saturating_mul(TEMPERED);
+    let steps = tempered_steps(draws, occupied.table().len());
     let mut tempering = Tempering::new(alloc, occupied, seed, steps)?;
     let span = Span { before: 0, limit };
     walk_by_tempering(
