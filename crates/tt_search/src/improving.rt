@@ -128,10 +128,14 @@ const TEMPERED: u64 = 12_000;
 /// The minimum number of draws with which a timetable is tempered.
 const FEWEST_DRAWS: u64 = 5_000;
 
+/// The minimum number of entries of a timetable that is tempered: the other search finds the optimum of smaller ones sooner.
+const FEWEST_ENTRIES: u64 = 64;
+
 /// Checks whether a timetable is searched by tempering with this many draws: one for each entry leads to whatever is found.
 fn is_tempered(occupied: &Occupied<'_, '_>, draws: u64) -> bool {
     let entries = occupied.table().len() as u64;
-    draws >= entries.max(FEWEST_DRAWS)
+    entries >= FEWEST_ENTRIES
+        && draws >= entries.max(FEWEST_DRAWS)
         && occupied.score().feasible()
         && can_temper(occupied.instance())
 }
