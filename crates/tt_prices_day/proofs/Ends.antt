@@ -1,10 +1,10 @@
 -- The end of a day: what its sets pay is what the day pays.
-use Rattle.std.proofs.Common.{◌^◌, ◌≡◌, ℕ, zero, suc, ◌+◌, ◌-◌, ◌*◌, ◌<◌, ◌≤◌, Bool, true, false, not, ◌&&◌, cond, List, [], ◌∷◌, length, refl, sym, ap, ◌∙◌, subst, arith, inl, inr, mul-add, eqb-true, eq-eqb}
+use Rattle.std.proofs.Common.{◌^◌, ◌≡◌, ℕ, ◌+◌, ◌-◌, ◌*◌, ◌<◌, ◌≤◌, Bool, true, false, not, ◌&&◌, cond, List, length, refl, sym, ap, ◌∙◌, subst, arith, inl, inr, mul-add, eqb-true, eq-eqb}
 use Rattle.std.specs.Prelude.{◌⊎◌, ℤ, pos, ◌+ℤ◌, min, count_by, count_ones, sum_by, slice_index, Contains, ◌==◌}
 use Rattle.std.proofs.lemmas.Int.{ints}
 use Rattle.std.proofs.lemmas.Bool.{cases_Bool, cases_lt}
 use Rattle.std.proofs.Math.Nat.{min-eq_left, min-eq_right}
-use Rattle.tt_list_laws.specs.Words.{range_below, has_number, each_two, are_distinct}
+use Rattle.tt_list_laws.specs.Words.{range_below, has_number, are_distinct}
 use Rattle.tt_list_laws.proofs.Apart.{distinct_sum}
 use Rattle.tt_list_laws.proofs.Members.{any_member, member_from_any}
 use Rattle.tt_list_laws.proofs.Sums.{sum_by-plus, sum_by-same, sum_by-nothing}
@@ -21,7 +21,7 @@ use Rattle.tt_groups_day.proofs.Running.{day_cost-pending}
 use Rattle.tt_prices.specs.Days.{unpriced, courses_of, day_prices, further_on}
 use Rattle.tt_prices.specs.Prices.{PricedGroup}
 use Rattle.tt_prices_day.specs.Inner.Following.{is_counted, is_paying, cap, AreRules, beyond}
-use Rattle.tt_prices_day.specs.Inner.Layers.{IsBegun, prices_from}
+use Rattle.tt_prices_day.specs.Inner.Layers.{IsBegun}
 use Rattle.tt_prices_day.specs.declared.node.Key.{Key}
 use Rattle.tt_prices_day.specs.declared.rules.Rules.{Rules}
 use Rattle.tt_prices_day.proofs.Priced.{prices-of_day}
@@ -125,8 +125,13 @@ module _ (p : Problem) (scale : ℕ) (g : PricedGroup) (weights : List ℕ) (d :
       let some = sum-of_some over g.courses cs apart_courses apart inside in
       let each = sum_by-same_member (λ c. over c + ((followed c - 1) - slack p c)) (λ c. further_on p day c - slack p c) g.courses
       (λ c m. at c (any_member (λ k. k == c) g.courses c m (eq-eqb c c refl)) (cases_Bool (has_number g.uncounted c)) (fits c m)) in
-      omega (arith, beyond-of_courses counts are at_most same, some, each,
-        sum_by-plus over (λ c. (followed c - 1) - slack p c) g.courses)
+      omega (
+        arith,
+        beyond-of_courses counts are at_most same,
+        some,
+        each,
+        sum_by-plus over (λ c. (followed c - 1) - slack p c) g.courses,
+      )
     where
       at : (c : ℕ) → has_number g.courses c ≡ true → (has_number g.uncounted c ≡ true) ⊎ (has_number g.uncounted c ≡ false)
           → (is_counted g c ≡ true → lectures_on p day c ≤ lectures p c)

@@ -85,8 +85,12 @@ module _ (base first_kept others : List Node) (first : Node) (i : ℕ) (there : 
         let w = all x h in
         elim (pushed_cases kept best w.0 w.1) [
           | inl k ↦ (w.0, Contains-append_left kept (node ∷ []) w.0 k, w.2, w.3)
-          | inr e ↦ (node, pushed_last kept node, same ∙ ap (λ (n : Node). n.key) e ∙ w.2,
-            omega (arith, ints, less, w.3, subst (λ (n : Node). best.paid ≤ℤ n.paid) e (omega (arith, ints))))
+          | inr e ↦ (
+            node,
+            pushed_last kept node,
+            same ∙ ap (λ (n : Node). n.key) e ∙ w.2,
+            omega (arith, ints, less, w.3, subst (λ (n : Node). best.paid ≤ℤ n.paid) e (omega (arith, ints))),
+          )
         ]
     | inr e ↦ (node, pushed_last kept node, ap (λ (n : Node). n.key) e, subst (λ (n : Node). node.paid ≤ℤ n.paid) e (omega (arith, ints)))
   ]

@@ -1,17 +1,17 @@
 -- The layers of a day: no valid day pays less than some node, and each node is that of a day's first periods.
-use Rattle.std.proofs.Common.{◌^◌, ◌≡◌, ℕ, ◌+◌, ◌-◌, ◌*◌, ◌<◌, ◌≤◌, Bool, true, false, cond, List, [], ◌∷◌, ◌++◌, length, length-append, refl, sym, ap, ◌∙◌, subst, arith, inl, inr, eqb-true, eq-eqb}
-use Rattle.std.specs.Prelude.{ℤ, pos, ◌+ℤ◌, ◌-ℤ◌, ◌≤ℤ◌, ◌==◌, All, Contains, min, count_by, slice_index, slice_get}
+use Rattle.std.proofs.Common.{◌^◌, ◌≡◌, ℕ, ◌+◌, ◌<◌, ◌≤◌, Bool, true, false, cond, List, [], ◌∷◌, ◌++◌, length, length-append, refl, sym, ap, ◌∙◌, subst, arith, inl, inr}
+use Rattle.std.specs.Prelude.{ℤ, pos, ◌+ℤ◌, ◌-ℤ◌, ◌≤ℤ◌, All, Contains, min, count_by, slice_index}
 use Rattle.std.proofs.lemmas.Bool.{cases_Bool, cases_lt}
 use Rattle.std.proofs.lemmas.Int.{ints}
 use Rattle.std.proofs.lemmas.List.Elements.{All-contains, Contains-get_or}
 use Rattle.std.proofs.Math.Nat.{min-eq_left, min-le_left, min-le_right}
-use Rattle.tt_list_laws.specs.Words.{range_below, has_number}
+use Rattle.tt_list_laws.specs.Words.{has_number}
 use Rattle.tt_list_laws.proofs.Members.{member_cases}
 use Rattle.tt_list_laws.proofs.Sums.{one_if}
 use Rattle.tt_instance.specs.Problem.{Problem}
 use Rattle.tt_instance.specs.Courses.{lectures, unavailable}
 use Rattle.tt_groups.specs.Listed.{AreCourses}
-use Rattle.tt_groups.specs.Plans.{Day, lectures_on, slack, IsDay}
+use Rattle.tt_groups.specs.Plans.{Day, lectures_on, slack}
 use Rattle.tt_groups.proofs.Lists.{passing_member, sum_first}
 use Rattle.tt_groups_day.specs.Choosing.{IsApart}
 use Rattle.tt_groups_day.specs.Found.{AreOpenSets}
@@ -20,10 +20,10 @@ use Rattle.tt_groups_day.specs.declared.morning.CourseSet.{CourseSet}
 use Rattle.tt_groups_day.proofs.Beginning.{count_prefix, count_one_more, one_if_course}
 use Rattle.tt_groups_day.proofs.Finding.{nothing_there, open_first, open_more}
 use Rattle.tt_groups_day.proofs.Searching.{begins-more}
-use Rattle.tt_prices.specs.Days.{unpriced, courses_of, counted_of, IsPricedDay}
+use Rattle.tt_prices.specs.Days.{unpriced, courses_of, IsPricedDay}
 use Rattle.tt_prices.specs.Prices.{PricedGroup}
 use Rattle.tt_prices_day.specs.Inner.Following.{is_counted, cap, AreRules}
-use Rattle.tt_prices_day.specs.Inner.Layers.{AreLetters, AreFollowed, AreReached, IsBegun, IsNext, IsOver, set_price}
+use Rattle.tt_prices_day.specs.Inner.Layers.{AreLetters, AreFollowed, AreReached, IsBegun, IsOver, set_price}
 use Rattle.tt_prices_day.specs.declared.letters.Letter.{Letter}
 use Rattle.tt_prices_day.specs.declared.node.Key.{Key}
 use Rattle.tt_prices_day.specs.declared.node.Node.{Node}
@@ -195,12 +195,21 @@ module _ (p : Problem) (scale : ℕ) (g : PricedGroup) (weights : List ℕ) (d :
               let m = first.begun.morning in
               let e : min (slice_index m.counts i) (slice_index rules.caps i) ≡ slice_index m.counts i =
               min-eq_left (omega (arith, first.begun.is.counts i, first.fits i l k, are.caps i l, cap_is i k)) in
-              omega (arith, count_one_more (λ y. has_course y i) before x, one_if_course x i (set.digits i), first.begun.is.counts i,
-                first.begun.counts i, e, step.fits i (omega (arith, l, narrow)), are.most i l k);
+              omega (
+                arith,
+                count_one_more (λ y. has_course y i) before x,
+                one_if_course x i (set.digits i),
+                first.begun.is.counts i,
+                first.begun.counts i,
+                e,
+                step.fits i (omega (arith, l, narrow)),
+                are.most i l k,
+              );
         }
       where
         unpaid : ℕ → ℕ → Bool
         unpaid i n = unavailable p (slice_index cs i) d n
+
         cap_is : (i : ℕ) → is_counted g (slice_index cs i) ≡ true → cap p g (slice_index cs i) ≡ lectures p (slice_index cs i)
         cap_is i k = ap (λ b. cond b (lectures p (slice_index cs i)) (cond (has_number g.courses (slice_index cs i)) (slack p (slice_index cs i) + 1) 0)) k
 

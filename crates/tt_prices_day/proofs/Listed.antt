@@ -1,6 +1,6 @@
 -- The entries of a day, read off its last layer.
-use Rattle.std.proofs.Common.{◌^◌, ◌≡◌, ℕ, zero, suc, ◌+◌, ◌-◌, ◌*◌, ◌<◌, ◌≤◌, Bool, true, false, not, cond, List, [], ◌∷◌, ◌++◌, length, length-append, get_or, map, Some, refl, sym, ap, ◌∙◌, subst, arith, inl, inr, mul-add, eqb-true, eq-eqb}
-use Rattle.std.specs.Prelude.{ℤ, pos, ◌+ℤ◌, ◌≤ℤ◌, ◌==◌, All, Contains, min, count_ones, sum_by, slice_get, slice_index, slice_index_or}
+use Rattle.std.proofs.Common.{◌^◌, ◌≡◌, ℕ, zero, suc, ◌+◌, ◌-◌, ◌*◌, ◌<◌, ◌≤◌, true, false, not, cond, List, [], ◌∷◌, ◌++◌, length, length-append, get_or, map, Some, refl, sym, ap, ◌∙◌, subst, arith, inl, inr, mul-add, eq-eqb}
+use Rattle.std.specs.Prelude.{ℤ, pos, ◌+ℤ◌, ◌==◌, All, Contains, min, count_ones, sum_by, slice_get, slice_index, slice_index_or}
 use Rattle.std.proofs.lemmas.Bool.{and_parts, both_ways, cases_Bool, cases_lt, not-true}
 use Rattle.std.proofs.lemmas.Int.{ints}
 use Rattle.std.proofs.lemmas.List.{length-map, get_or-map, get_or-append_right, get_or_default}
@@ -18,27 +18,27 @@ use Rattle.tt_instance.specs.Cells.{all_courses}
 use Rattle.tt_instance.specs.Problem.{Problem}
 use Rattle.tt_instance.specs.Courses.{lectures, unavailable, conflict}
 use Rattle.tt_groups.specs.Plans.{Day, lectures_on, day_cost, slack}
-use Rattle.tt_groups.proofs.Lists.{member_before, passing_member, sum_by-same_member}
+use Rattle.tt_groups.proofs.Lists.{member_before, passing_member}
 use Rattle.tt_groups.proofs.Projection.{course_own}
 use Rattle.tt_groups_day.specs.Choosing.{IsApart}
 use Rattle.tt_groups_day.specs.Found.{AreDistinct}
-use Rattle.tt_groups_day.specs.Sets.{has_course, Begins, IsComplete, IsCourseSet}
+use Rattle.tt_groups_day.specs.Sets.{Begins, IsComplete, IsCourseSet}
 use Rattle.tt_groups_day.specs.declared.morning.CourseSet.{CourseSet}
 use Rattle.tt_groups_day.proofs.Finding.{is_there, day_of, held, begins_day}
 use Rattle.tt_groups_day.proofs.Searching.{no_set}
-use Rattle.tt_prices.specs.Days.{unpriced, courses_of, counted_of, day_prices, day_paid, further_on, amounts_of, HasAmounts, IsPricedDay, IsDayList}
+use Rattle.tt_prices.specs.Days.{unpriced, courses_of, counted_of, day_paid, further_on, HasAmounts, IsPricedDay, IsDayList}
 use Rattle.tt_prices.specs.Prices.{PricedGroup, concerns}
 use Rattle.tt_prices.specs.declared.day.PricedDay.{PricedDay}
 use Rattle.tt_prices_day.specs.Inner.Entries.{further_at, IsEntryOf}
 use Rattle.tt_prices_day.specs.Inner.Following.{is_counted, cap, AreRules, beyond}
-use Rattle.tt_prices_day.specs.Inner.Layers.{IsBegun, IsEndOf, AreEnded, AreEndsOf}
+use Rattle.tt_prices_day.specs.Inner.Layers.{IsBegun, AreEnded, AreEndsOf}
 use Rattle.tt_prices_day.specs.Shapes.{no_weights, IsShape, ArePlaces, AreOwn}
 use Rattle.tt_prices_day.specs.declared.node.Key.{Key}
 use Rattle.tt_prices_day.specs.declared.node.Node.{Node}
 use Rattle.tt_prices_day.specs.declared.shape.Own.{Own}
 use Rattle.tt_prices_day.specs.declared.shape.Shape.{Shape}
 use Rattle.tt_prices_day.proofs.Ends.{counts-of_day, capped-of_day, paid-of_day, overrun-of_day}
-use Rattle.tt_prices_day.proofs.Layered.{Begun, Reached, IsLayer}
+use Rattle.tt_prices_day.proofs.Layered.{IsLayer}
 
 -- sums over two lists of one length whose terms agree
 sum_pairs : (f : Own → ℕ) (h : ℕ → ℕ) (xs : List Own) (ys : List ℕ) → length xs ≡ length ys
@@ -230,9 +230,12 @@ day-listed p g shape d is layer ends entries are_layer ended ends_of all found r
       let ones : count_ones b.node.key.pending ≡ count_ones b.key.pending = ap (λ (k : Key). count_ones k.pending) b.same in
       let paid_is = paid-of_entry p g shape d is rules_are counted own day b.before b.key b.paid b.long b.begins b.begun valid.fits z counts small in
       let end_paid : y.paid ≡ b.node.paid +ℤ pos (shape.scale * (2 * count_ones b.key.pending)) =
-      end.paid ∙ ap (λ n. b.node.paid +ℤ pos (shape.scale * (2 * n))) ones in
-      (e.0, e.1, amounts-of_entry p g shape d is rules_are counted own day b.before b.key b.paid b.long b.begins b.begun valid.fits z counts e.0 e.2,
-        omega (arith, ints, e.2.paid, w.5, end_paid, b.cheap, paid_is));
+      end.paid ∙ ap (λ n. b.node.paid +ℤ pos (shape.scale * (2 * n))) ones in (
+        e.0,
+        e.1,
+        amounts-of_entry p g shape d is rules_are counted own day b.before b.key b.paid b.long b.begins b.begun valid.fits z counts e.0 e.2,
+        omega (arith, ints, e.2.paid, w.5, end_paid, b.cheap, paid_is),
+      );
   found = λ e there.
       let w = found e there in
       let z = w.0 in
@@ -266,7 +269,10 @@ day-listed p g shape d is layer ends entries are_layer ended ends_of all found r
             subst (λ (n : ℕ). lectures_on p day n ≤ lectures p n) c_is (omega (arith, few, taught, r.begun.is.counts i));
       } in
       let small : node.key.pending < 2 ^ 64 = end.pending_word in
-      let paid_is = paid-of_entry p g shape d is rules_are counted own day r.before node.key node.paid r.long begins r.begun valid.fits z end.counts small in
-      (day, valid, amounts-of_entry p g shape d is rules_are counted own day r.before node.key node.paid r.long begins r.begun valid.fits z end.counts e w.2,
-        omega (arith, ints, w.2.paid, end.paid, paid_is));
+      let paid_is = paid-of_entry p g shape d is rules_are counted own day r.before node.key node.paid r.long begins r.begun valid.fits z end.counts small in (
+        day,
+        valid,
+        amounts-of_entry p g shape d is rules_are counted own day r.before node.key node.paid r.long begins r.begun valid.fits z end.counts e w.2,
+        omega (arith, ints, w.2.paid, end.paid, paid_is),
+      );
 }

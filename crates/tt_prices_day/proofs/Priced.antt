@@ -1,8 +1,8 @@
 -- The prices of the sets of a day are the prices of the day.
-use Rattle.std.proofs.Common.{◌≡◌, ℕ, zero, suc, ◌+◌, ◌<◌, Bool, true, false, cond, List, [], ◌∷◌, ◌++◌, length, Some, refl, sym, ap, ◌∙◌, subst, arith}
+use Rattle.std.proofs.Common.{◌≡◌, ℕ, zero, suc, ◌+◌, ◌<◌, cond, List, [], ◌∷◌, ◌++◌, length, Some, refl, sym, ap, ◌∙◌, arith}
 use Rattle.std.specs.Prelude.{ℤ, pos, ◌+ℤ◌, filter, slice_get, slice_index}
 use Rattle.std.proofs.lemmas.Int.{ints}
-use Rattle.tt_list_laws.proofs.Below.{range_below_more, each_below}
+use Rattle.tt_list_laws.proofs.Below.{range_below_more}
 use Rattle.tt_list_laws.specs.Words.{range_below}
 use Rattle.tt_list_laws.proofs.Range.{below_member}
 use Rattle.tt_instance.specs.Cells.{slot}

@@ -7,7 +7,7 @@ use Rattle.tt_list_laws.specs.Words.{range_below}
 use Rattle.tt_list_laws.proofs.Sums.{sum_by-plus, sum_by-same, sum_by-nothing}
 use Rattle.tt_instance.specs.Problem.{Problem}
 use Rattle.tt_groups.specs.Listed.{AreCourses}
-use Rattle.tt_groups_day.specs.Sets.{IsCourseSet, IsMorningOf}
+use Rattle.tt_groups_day.specs.Sets.{IsCourseSet}
 use Rattle.tt_groups_day.specs.declared.morning.CourseSet.{CourseSet}
 use Rattle.tt_groups_day.specs.declared.morning.Morning.{Morning}
 use Rattle.tt_groups_day.proofs.Beginning.{morning-more}
@@ -15,7 +15,7 @@ use Rattle.tt_groups_day.proofs.Starting.{morning-start}
 use Rattle.tt_prices.specs.Days.{unpriced}
 use Rattle.tt_prices.specs.Prices.{PricedGroup}
 use Rattle.tt_prices_day.specs.Inner.Following.{beyond}
-use Rattle.tt_prices_day.specs.Inner.Layers.{IsBegun, IsNext, set_price, prices_from}
+use Rattle.tt_prices_day.specs.Inner.Layers.{IsBegun, IsNext, set_price}
 use Rattle.tt_prices_day.specs.declared.letters.Letter.{Letter}
 use Rattle.tt_prices_day.specs.declared.node.Key.{Key}
 use Rattle.tt_prices_day.specs.declared.node.Node.{Node}

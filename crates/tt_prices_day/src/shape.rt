@@ -82,8 +82,13 @@ fn own_courses(
     let mut own = Vec::new(alloc);
     for course in &group.courses {
         let place = place_in(courses, *course);
-        let slack = instance.lectures(*course).saturating_sub(instance.min_days(*course));
-        own.push(Own { place, slack: slack as u8 })?;
+        let slack = instance
+            .lectures(*course)
+            .saturating_sub(instance.min_days(*course));
+        own.push(Own {
+            place,
+            slack: slack as u8,
+        })?;
     }
     Ok(own)
 }

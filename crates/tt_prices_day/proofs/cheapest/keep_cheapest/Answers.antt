@@ -1,9 +1,9 @@
-use Rattle.std.proofs.Common.{◌≡◌, ◌+◌, ◌++◌, ◌∷◌, [], List, take, refl, sym, ap, subst, ◌∙◌, arith}
+use Rattle.std.proofs.Common.{◌+◌, ◌++◌, ◌∷◌, [], List, take, refl, sym, ap, subst, ◌∙◌, arith}
 use Rattle.std.specs.Prelude.{Vec}
 use Rattle.std.specs.Global.{Global}
 use Rattle.std.proofs.lemmas.Int.{ints}
 use Rattle.tt_prices_day.specs.declared.node.Node.{Node}
-use Rattle.tt_prices_day.proofs.Kept.{AreOwn, AreKept, no_node, own-first, kept-first, own-push, kept-push, own-replace, kept-replace, kept-stay, own-all, kept-all}
+use Rattle.tt_prices_day.proofs.Kept.{AreOwn, AreKept, own-first, kept-first, own-push, kept-push, own-replace, kept-replace, kept-stay, own-all, kept-all}
 use Rattle.tt_prices_day.proofs.cheapest.keep_cheapest.Goals as goal
 use Rattle.tt_prices_day.proofs.cheapest.keep_cheapest.Goals.{then-not-has_same_key+in_ok-push, else-not-has_same_key+then-node-best, else-not-has_same_key+else-node-best}
 

@@ -1,5 +1,5 @@
-use Rattle.std.proofs.Common.{◌≡◌, ℕ, ◌+◌, ◌*◌, ◌^◌, ◌<◌, ◌≤◌, List, [], ◌∷◌, length, get_or, not, sym, ap, subst, ◌∙◌, arith, inl, inr, refl, pos}
-use Rattle.std.specs.Prelude.{All, Contains, filter, replicate}
+use Rattle.std.proofs.Common.{◌≡◌, ℕ, ◌+◌, ◌*◌, ◌^◌, ◌<◌, ◌≤◌, List, [], ◌∷◌, get_or, not, sym, subst, ◌∙◌, arith, refl}
+use Rattle.std.specs.Prelude.{All, Contains}
 use Rattle.std.proofs.lemmas.Int.{ints}
 use Rattle.std.proofs.lemmas.List.Elements.{All-contains, Contains-get_or}
 use Rattle.tt_prices_day.specs.Inner.Entries.{IsEntryOf}
@@ -7,12 +7,11 @@ use Rattle.tt_list_laws.specs.Words.{has_number}
 use Rattle.tt_groups_day.proofs.Starting.{zeros}
 use Rattle.tt_groups_day.specs.Sets.{IsCourseSet}
 use Rattle.tt_groups_day.specs.declared.morning.CourseSet.{CourseSet}
-use Rattle.tt_prices.specs.Days.{unpriced, courses_of, counted_of}
-use Rattle.tt_prices.specs.Limits.{IsWithin}
+use Rattle.tt_prices.specs.Days.{unpriced, courses_of}
 use Rattle.tt_prices.specs.Rows.{group_of}
 use Rattle.tt_prices.specs.declared.day.PricedDay.{PricedDay}
 use Rattle.tt_prices_day.specs.Inner.Layers.{first_node, AreLetters, AreFollowed, AreReached, AreEnded, AreEndsOf, IsLetterWithin, IsNodeWithin}
-use Rattle.tt_prices_day.specs.Shapes.{no_weights, IsShape}
+use Rattle.tt_prices_day.specs.Shapes.{no_weights}
 use Rattle.tt_prices_day.specs.declared.letters.Letter.{Letter}
 use Rattle.tt_prices_day.specs.declared.node.Node.{Node}
 use Rattle.tt_prices_day.proofs.Growing.{all_pushed, length-filter_le}

@@ -1,10 +1,9 @@
-use Rattle.std.proofs.Common.{◌≡◌, ℕ, ◌+◌, ◌^◌, ◌++◌, ◌∷◌, [], List, take, get_or, refl, sym, ap, subst, ◌∙◌, arith, inl, inr}
+use Rattle.std.proofs.Common.{◌≡◌, ◌+◌, ◌^◌, ◌++◌, ◌∷◌, [], List, get_or, sym, subst, inl, inr}
 use Rattle.std.specs.Prelude.{All, Contains}
 use Rattle.std.proofs.lemmas.List.Elements.{Contains-get_or, Contains-append_left}
 use Rattle.tt_prices.specs.Limits.{IsWithin}
 use Rattle.tt_prices.specs.declared.day.PricedDay.{PricedDay}
 use Rattle.tt_prices_day.specs.Inner.Entries.{IsEntryOf}
-use Rattle.tt_prices_day.specs.Inner.Layers.{IsNodeWithin}
 use Rattle.tt_prices_day.specs.declared.node.Node.{Node}
 use Rattle.tt_prices_day.proofs.Growing.{pushed_cases, pushed_last, taken_cases, taken_all, all_pushed}
 use Rattle.tt_prices_day.proofs.Kept.{no_node}
@@ -24,8 +23,11 @@ loop-node-preserved c =
       all = λ x m. elim (taken_cases layer i no_node x there m) [
         | inl h ↦ let w = before.all x h in
             (w.0, subst (λ (l : List PricedDay). Contains l w.0) (sym items) (Contains-append_left old (entry ∷ []) w.0 w.1), w.2)
-        | inr e ↦ (entry, subst (λ (l : List PricedDay). Contains l entry) (sym items) (pushed_last old entry),
-          subst (λ (n : Node). IsEntryOf c.args.shape.now n entry) e c.entry_of.ensures.entry)
+        | inr e ↦ (
+          entry,
+          subst (λ (l : List PricedDay). Contains l entry) (sym items) (pushed_last old entry),
+          subst (λ (n : Node). IsEntryOf c.args.shape.now n entry) e c.entry_of.ensures.entry,
+        )
       ];
       found = λ y m. elim (pushed_cases old entry y (subst (λ (l : List PricedDay). Contains l y) items m)) [
         | inl h ↦ before.found y h

@@ -1,4 +1,4 @@
-use Rattle.std.proofs.Common.{◌≡◌, ℕ, ◌+◌, ◌^◌, take}
+use Rattle.std.proofs.Common.{ℕ, ◌+◌, ◌^◌, take}
 use Rattle.std.specs.Prelude.{All, Contains}
 use Rattle.tt_prices.specs.Limits.{IsWithin}
 use Rattle.tt_prices.specs.declared.day.PricedDay.{PricedDay}

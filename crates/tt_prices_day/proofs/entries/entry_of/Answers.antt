@@ -1,4 +1,4 @@
-use Rattle.std.proofs.Common.{◌≡◌, ℕ, ◌+◌, ◌*◌, ◌^◌, ◌≤◌, sym, subst, arith, w64, ℤ, pos, ◌+ℤ◌}
+use Rattle.std.proofs.Common.{◌+◌, ◌*◌, ◌^◌, ◌≤◌, sym, subst, arith}
 use Rattle.tt_prices.specs.Limits.{IsWithin}
 use Rattle.tt_prices_day.proofs.Within.{within-plus, within-pos, sum-of, scaled-le}
 use Rattle.tt_prices_day.proofs.entries.entry_of.Goals as goal

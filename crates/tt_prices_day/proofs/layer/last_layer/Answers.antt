@@ -1,6 +1,6 @@
-use Rattle.std.proofs.Common.{◌≡◌, ℕ, ◌+◌, ◌^◌, ◌++◌, ◌∷◌, [], List, take, get_or, refl, sym, ap, subst, ◌∙◌, arith, inl, inr}
+use Rattle.std.proofs.Common.{◌≡◌, ◌+◌, ◌^◌, ◌++◌, ◌∷◌, [], List, get_or, sym, subst, inl, inr}
 use Rattle.std.specs.Prelude.{All, Contains}
-use Rattle.std.proofs.lemmas.List.Elements.{Contains-get_or, Contains-append_left, All-contains}
+use Rattle.std.proofs.lemmas.List.Elements.{Contains-get_or, Contains-append_left}
 use Rattle.tt_prices_day.specs.Inner.Layers.{IsEndOf, IsNodeWithin}
 use Rattle.tt_prices_day.specs.declared.node.Node.{Node}
 use Rattle.tt_prices_day.proofs.Growing.{pushed_cases, pushed_last, taken_cases, taken_all, all_pushed}
@@ -21,8 +21,11 @@ loop-node-preserved c =
       ended = λ x m. elim (taken_cases layer i no_node x there m) [
         | inl h ↦ let w = before.ended x h in
             (w.0, subst (λ (l : List Node). Contains l w.0) (sym items) (Contains-append_left old (end ∷ []) w.0 w.1), w.2)
-        | inr e ↦ (end, subst (λ (l : List Node). Contains l end) (sym items) (pushed_last old end),
-          subst (λ (n : Node). IsEndOf c.args.scale n end) e c.ended.ensures.value)
+        | inr e ↦ (
+          end,
+          subst (λ (l : List Node). Contains l end) (sym items) (pushed_last old end),
+          subst (λ (n : Node). IsEndOf c.args.scale n end) e c.ended.ensures.value,
+        )
       ];
       reached = λ y m. elim (pushed_cases old end y (subst (λ (l : List Node). Contains l y) items m)) [
         | inl h ↦ before.reached y h

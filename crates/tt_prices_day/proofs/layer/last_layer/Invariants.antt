@@ -1,4 +1,4 @@
-use Rattle.std.proofs.Common.{◌≡◌, ℕ, ◌+◌, ◌^◌, take}
+use Rattle.std.proofs.Common.{ℕ, ◌+◌, ◌^◌, take}
 use Rattle.std.specs.Prelude.{All, Contains}
 use Rattle.tt_prices_day.specs.Inner.Layers.{IsEndOf, IsNodeWithin}
 use Rattle.tt_prices_day.specs.declared.node.Node.{Node}

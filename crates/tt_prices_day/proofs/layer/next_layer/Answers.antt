@@ -1,5 +1,5 @@
-use Rattle.std.proofs.Common.{◌≡◌, ℕ, ◌+◌, ◌^◌, ◌++◌, List, [], take, get_or, refl, sym, ap, subst, ◌∙◌, arith, inl, inr}
-use Rattle.std.specs.Prelude.{◌⊎◌, All, Contains, pos}
+use Rattle.std.proofs.Common.{◌+◌, ◌^◌, ◌++◌, List, get_or, sym, subst, inl, inr}
+use Rattle.std.specs.Prelude.{◌⊎◌, Contains, pos}
 use Rattle.std.proofs.lemmas.List.Elements.{Contains-get_or}
 use Rattle.tt_groups_day.proofs.Searching.{no_set}
 use Rattle.tt_prices_day.specs.Inner.Layers.{IsNext, IsOver, IsNodeWithin}

@@ -1,9 +1,9 @@
-use Rattle.std.proofs.Common.{◌≡◌, ℕ, ◌+◌, ◌^◌, ◌<◌, true, false, ◌++◌, ◌∷◌, [], List, take, take_all, get_or, length, refl, sym, ap, subst, ◌∙◌, arith, inl, inr, w64, to_z, of_z}
+use Rattle.std.proofs.Common.{◌≡◌, ◌+◌, ◌^◌, ◌++◌, ◌∷◌, [], List, take, take_all, get_or, sym, ap, subst, ◌∙◌, arith, inl, inr, w64, to_z, of_z}
 use Rattle.std.proofs.lemmas.List.{take_more}
 use Rattle.std.specs.Prelude.{◌⊎◌, All, Contains, Vec, slice_index}
 use Rattle.std.specs.Global.{Global}
 use Rattle.std.proofs.lemmas.Bool.{both_ways}
-use Rattle.std.proofs.lemmas.List.Elements.{Contains-get_or, Contains-append_left, Contains-append_right}
+use Rattle.std.proofs.lemmas.List.Elements.{Contains-append_left}
 use Rattle.tt_instance.specs.Courses.{unavailable}
 use Rattle.tt_groups_day.specs.Sets.{has_course}
 use Rattle.tt_groups_day.specs.declared.morning.CourseSet.{CourseSet}
@@ -12,7 +12,7 @@ use Rattle.tt_prices.specs.Limits.{IsWithin}
 use Rattle.tt_prices.specs.Rows.{group_of}
 use Rattle.tt_prices_day.specs.Inner.Layers.{AreLetters, set_price}
 use Rattle.tt_prices_day.specs.declared.letters.Letter.{Letter}
-use Rattle.tt_prices_day.proofs.Growing.{pushed_cases, pushed_last, taken_cases, taken_all, all_pushed}
+use Rattle.tt_prices_day.proofs.Growing.{pushed_cases, pushed_last, taken_cases, all_pushed}
 use Rattle.tt_prices_day.proofs.Within.{word-of}
 use Rattle.tt_prices_day.proofs.letters.letters_of.Goals as goal
 use Rattle.tt_prices_day.proofs.letters.letters_of.Goals.{then-is_open+in_ok-push, else-is_open}

@@ -1,5 +1,5 @@
-use Rattle.std.proofs.Common.{◌≡◌, ℕ, ◌+◌, ◌*◌, ◌^◌, ◌<◌, ◌≤◌, true, false, List, [], ◌∷◌, ◌++◌, sym, ap, subst, ◌∙◌, arith, eq-eqb, w64, ℤ, pos, ◌+ℤ◌, to_z, of_z}
-use Rattle.std.specs.Prelude.{filter, slice_index, ◌==◌}
+use Rattle.std.proofs.Common.{◌≡◌, ℕ, ◌+◌, ◌*◌, ◌<◌, true, false, [], ◌∷◌, sym, ap, subst, ◌∙◌, arith, eq-eqb, w64, ℤ, pos, ◌+ℤ◌, to_z, of_z}
+use Rattle.std.specs.Prelude.{filter, slice_index}
 use Rattle.std.proofs.lemmas.Bool.{ne_eqb}
 use Rattle.std.proofs.lemmas.Int.{ints}
 use Rattle.tt_list_laws.specs.Words.{range_below}

@@ -1,4 +1,4 @@
-use Rattle.std.proofs.Common.{◌≡◌, ℕ, ◌-◌, ◌*◌, ◌≤◌, ap, ◌∙◌, arith}
+use Rattle.std.proofs.Common.{◌≡◌, ◌-◌, ◌*◌, ◌≤◌, ap, ◌∙◌, arith}
 use Rattle.std.specs.Prelude.{slice_index}
 use Rattle.std.proofs.Math.Nat.{mul-le-mul_right}
 use Rattle.tt_list_laws.proofs.Numbers.{sum_more}
@@ -15,7 +15,11 @@ loop-i-preserved c =
     let one : c.from.result ≤ 1 = omega (arith, c.from.ensures, c.requires i) in
     let few : c.from.result * c.from-in-loop-i.result ≤ 1 * c.from-in-loop-i.result = mul-le-mul_right c.from-in-loop-i.result one in
     record {
-      value = omega (arith, product, c.loop-i.invariant.value,
-        sum_more (λ j. slice_index r.paying j * (slice_index k j - slice_index r.caps j)) i);
+      value = omega (
+        arith,
+        product,
+        c.loop-i.invariant.value,
+        sum_more (λ j. slice_index r.paying j * (slice_index k j - slice_index r.caps j)) i,
+      );
       small = omega (arith, few, c.loop-i.invariant.small, c.from-in-loop-i.ensures);
     }

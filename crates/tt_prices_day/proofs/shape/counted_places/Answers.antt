@@ -1,4 +1,4 @@
-use Rattle.std.proofs.Common.{◌≡◌, ℕ, ◌+◌, Bool, not, List, [], ◌∷◌, ◌++◌, take, sym, ap, subst, ◌∙◌}
+use Rattle.std.proofs.Common.{ℕ, ◌+◌, Bool, not, List, take, sym, ap, subst, ◌∙◌}
 use Rattle.std.specs.Prelude.{filter, Vec}
 use Rattle.std.specs.Global.{Global}
 use Rattle.tt_list_laws.specs.Words.{has_number}
