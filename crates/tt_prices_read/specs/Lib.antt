@@ -1,0 +1,9 @@
+pub mod Answers
+pub mod Faults
+pub mod Inner
+pub mod Parts
+pub mod Readers
+pub mod Reading
+pub mod Reads
+pub mod Spelling
+pub mod Words

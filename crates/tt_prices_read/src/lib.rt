@@ -1,0 +1,21 @@
+//! Groups with prices, and rents of rooms, as text.
+#![tactic(auto)]
+
+mod amounts;
+mod fault;
+mod fields;
+mod format;
+mod header;
+mod item;
+mod items;
+mod laws;
+mod lists;
+mod reader;
+mod rents;
+mod rows;
+
+pub use fault::{HeaderWord, PricesTextFault};
+pub use format::{MAX_AMOUNT, MAX_SCALE};
+pub use item::{Item, Rent};
+pub use laws::read_prices_are_spelled;
+pub use reader::PricesReader;
