@@ -17,7 +17,7 @@ use Rattle.tt_prices_rooms.specs.Terms.{open_slots}
 use Rattle.tt_proof_check.specs.Streams.{sizes_of}
 use Rattle.tt_prices_file.specs.Files.{priced, groups_of, curricula_in, courses_in, rented, HasTotal}
 use Rattle.tt_prices_file.specs.declared.fault.PricesFault.{PricesFault}
-use Rattle.tt_prices_file.specs.declared.fault.PricesFault.TheVariants.{Text, ClaimedTwice, RentedTwice, Group as Refused, NoTimetable, TooFewPeriods, TooCheap}
+use Rattle.tt_prices_file.specs.declared.fault.PricesFault.TheVariants.{Text, ClaimedTwice, RentedTwice, Group as Refused, NoTimetable, TooFewPlaces, TooCheap}
 
 -- ---- parts that have been read
 
@@ -62,6 +62,10 @@ pub record IsUnclaimed (parts : List Part) (g : PricedGroup) : Type 0 where
   pub curricula : All (λ q. has_number (curricula_in parts) q ≡ false) g.curricula
   pub courses : All (λ c. has_number (courses_in parts) c ≡ false) g.courses
 
+-- A course has too few places if it has more lectures than periods in which it is available, or if there are no rooms.
+abbrev pub HasTooFewPlaces : Problem → ℕ → Type 0
+HasTooFewPlaces p c = (c < length p.courses) × ((length (open_slots p c) < lectures p c) ⊎ (length p.rooms ≡ 0))
+
 -- The file's total is too low for its bound.
 abbrev pub IsTooCheap : Problem → Header → List Part → Type 0
 IsTooCheap p h parts = (total : ℤ) × HasTotal p h parts total × ((total +ℤ pos h.scale) ≤ℤ pos (h.scale * h.bound))
@@ -78,8 +82,7 @@ ExplainsPrices p s (RentedTwice r) =
     × (item_at (sizes_of p) h.has_rooms rest ≡ Ok (Some (RentPart x), after)) × (x.room ≡ r) × (has_number (rented parts) r ≡ true))
 ExplainsPrices p s (Refused i f) = AtGroup p s i (λ h parts g. IsUnclaimed parts g × IsRefusal p g f)
 ExplainsPrices p s (NoTimetable i) = AtGroup p s i (λ h parts g. IsUnclaimed parts g × IsLeast p h.scale g None)
-ExplainsPrices p s (TooFewPeriods c) =
-    AtEnd p s (λ h parts. (c < length p.courses) × (length (open_slots p c) < lectures p c))
+ExplainsPrices p s (TooFewPlaces c) = AtEnd p s (λ h parts. HasTooFewPlaces p c)
 ExplainsPrices p s TooCheap = AtEnd p s (λ h parts. IsTooCheap p h parts)
 
 -- ---- memory, and reads that failed

@@ -1,5 +1,5 @@
 -- A file of groups with prices: the groups and the rents that it lists for an instance, and when it is right.
-use Rattle.std.specs.Prelude.{◌≡◌, ℕ, ◌+◌, ◌*◌, ◌<◌, ◌==◌, ℤ, pos, ◌+ℤ◌, ◌<ℤ◌, true, List, [], ◌∷◌, map, flat_map, length, sum_by, slice_index, All, Some, if◌then◌else◌}
+use Rattle.std.specs.Prelude.{◌≡◌, ℕ, ◌+◌, ◌*◌, ◌<◌, ◌≤◌, ◌==◌, ℤ, pos, ◌+ℤ◌, ◌<ℤ◌, true, List, [], ◌∷◌, map, flat_map, length, sum_by, slice_index, All, Some, if◌then◌else◌}
 use Rattle.tt_list_laws.specs.Words.{are_distinct}
 use Rattle.tt_instance.specs.Problem.{Problem}
 use Rattle.tt_instance.specs.Cells.{all_courses, all_rooms, all_slots}
@@ -84,11 +84,12 @@ pub record HasTotal (p : Problem) (h : Header) (parts : List Part) (total : ℤ)
 abbrev pub Reaches : Header → ℤ → Type 0
 Reaches h total = pos (h.scale * h.bound) <ℤ (total +ℤ pos h.scale)
 
--- A file is right if no curriculum and no course whose working days count is in two groups, no room has rents twice, and its total reaches
+-- A file is right if its scale is positive, no curriculum and no course whose working days count is in two groups, no room has rents twice, and its total reaches
 -- its bound.
 pub record IsRight (p : Problem) (h : Header) (parts : List Part) : Type 0 where
   pub apart : AreApart p (groups_of p parts)
   pub once : are_distinct (rented parts) ≡ true
+  pub scale : 1 ≤ h.scale
   pub total : ℤ
   pub is : HasTotal p h parts total
   pub enough : Reaches h total
