@@ -44,6 +44,7 @@ impl PriceTable {
 
     /// Adds the prices of the courses that a group concerns.
     pub fn add_group(&mut self, instance: &Instance<'_>, group: &PricedGroup)
+        requires periods { group.now.periods ≡ instance.now.periods }
         requires rows { AreRowsOf instance.now self.old.slots group.now.rows.items }
         requires table { (groups : List PricedGroup) × IsPriceTable instance.now groups self.old × (length groups < 2 ^ 32) }
         ensures { (groups : List PricedGroup) → IsPriceTable instance.now groups self.old →

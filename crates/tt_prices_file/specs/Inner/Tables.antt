@@ -4,8 +4,8 @@ use Rattle.tt_list_laws.specs.Words.{are_distinct}
 use Rattle.tt_instance.specs.Problem.{Problem}
 use Rattle.tt_instance.specs.Cells.{slot}
 use Rattle.tt_prices.specs.Limits.{IsWithin}
-use Rattle.tt_prices.specs.Prices.{PricedGroup, prices_of}
-use Rattle.tt_prices.specs.Rows.{Row}
+use Rattle.tt_prices.specs.Prices.{PricedGroup, concerns, prices_of}
+use Rattle.tt_prices.specs.Rows.{Row, row_of}
 use Rattle.tt_prices.specs.declared.group.PriceRow.{PriceRow}
 use Rattle.tt_prices_file.specs.declared.prices.PriceTable.{PriceTable}
 
@@ -41,3 +41,11 @@ pub record IsPriceTable (p : Problem) (groups : List PricedGroup) (t : PriceTabl
   pub within : All (IsWithin (length groups * 1_000_000)) t.sums.items
   pub sums : (c d s : ℕ) → c < length p.courses → d < p.days → s < p.periods
       → number_at t.sums.items (c * t.slots + (d * p.periods + s)) ≡ prices_of p groups c (slot d s)
+
+-- The new table has besides the numbers of the old one the prices of these rows, for the courses that the group concerns.
+pub record IsGrownBy (p : Problem) (g : PricedGroup) (rows : List PriceRow) (old new : PriceTable) : Type 0 where
+  pub slots : new.slots ≡ old.slots
+  pub whole : length new.sums.items ≡ length old.sums.items
+  pub within : (n : ℕ) → All (IsWithin n) old.sums.items → All (IsWithin (n + 1_000_000)) new.sums.items
+  pub sums : (c j : ℕ) → c < length p.courses → j < old.slots → number_at new.sums.items (c * old.slots + j)
+      ≡ number_at old.sums.items (c * old.slots + j) +ℤ (if concerns p g c then listed (map row_of rows) c j else pos 0)
