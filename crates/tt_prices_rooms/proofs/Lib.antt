@@ -1,3 +1,8 @@
 pub mod Bounds
 pub mod Choices
+pub mod Listing
+pub mod Rooms
+pub mod Rows
 pub mod Sums
+pub mod Tables
+pub mod Within

@@ -1,17 +1,18 @@
--- The least sum of some elements is that of the first ones of the sorted list.
-use Rattle.std.proofs.Common.{◌≡◌, ℕ, zero, suc, ◌+◌, ◌-◌, ◌*◌, ◌^◌, ◌≤◌, ◌<◌, Bool, true, false, not, ◌&&◌, List, [], ◌∷◌, length, take, get_or, refl, ap, subst, ◌∙◌, arith, inl, inr, w64}
+-- The least sum of some elements is that of the elements before a selected one.
+use Rattle.std.proofs.Common.{◌≡◌, ℕ, zero, suc, ◌+◌, ◌-◌, ◌*◌, ◌^◌, ◌≤◌, ◌<◌, Bool, true, false, not, ◌&&◌, List, [], ◌∷◌, ◌++◌, length, length-append, take, get_or, refl, sym, ap, subst, ◌∙◌, arith, inl, inr, w64}
 use Rattle.std.specs.Prelude.{ℤ, pos, negsuc, neg_ℤ, ◌+ℤ◌, ◌-ℤ◌, ◌≤ℤ◌, int_lt, sum_by, count_by, FitsSigned}
-use Rattle.std.specs.List.Sorted.{IsPermutation, IsSorted}
+use Rattle.std.specs.List.Sorted.{IsPermutation, IsSplitAround}
 use Rattle.std.specs.Ordering.{int_cmp, is_lt}
-use Rattle.std.proofs.lemmas.Cmp.{int_cmp_total}
 use Rattle.std.proofs.lemmas.Int.{ints}
-use Rattle.std.proofs.lemmas.List.Sorted.{sorted_far, ranks_by, sum_by-IsPermutation}
-use Rattle.std.proofs.lemmas.List.{take_more}
+use Rattle.std.proofs.lemmas.List.Sorted.{sum_by-IsPermutation}
+use Rattle.std.proofs.lemmas.List.{take_at, take_more, get_or_append_left, get_or-append_right}
 use Rattle.std.proofs.lemmas.List.Sums.{sum_by-cons}
 use Rattle.tt_list_laws.proofs.Sums.{one_if, one_if-le, count_by-cons}
 use Rattle.tt_prices.specs.Signed.{signed_sum}
+use Rattle.tt_prices.specs.Limits.{IsWithin}
 use Rattle.tt_prices.proofs.Signed.{signed_sum-append}
-use Rattle.tt_prices_rooms.specs.Least.{IsSumOf, IsLeastSum, IsSmall}
+use Rattle.tt_prices_rooms.specs.Least.{IsSumOf, IsLeastSum}
+use Rattle.tt_prices_rooms.proofs.Within.{within_fits}
 
 -- ---- what an element lacks to a threshold
 
@@ -58,7 +59,7 @@ sum_low t (suc n) (x ∷ xs) c (inl s) =
     omega (arith, ints, e, s.2, short_up t x, sum_by-cons (short t) x xs)
 sum_low t (suc n) (x ∷ xs) c (inr s) = let e = sum_low t (suc n) xs c s in omega (arith, ints, e, sum_by-cons (short t) x xs)
 
--- ---- the first elements of a sorted list
+-- ---- the first elements of a list
 
 none_short : (t : ℤ) (xs : List ℤ) → ((i : ℕ) → i < length xs → t ≤ℤ get_or xs i (pos 0)) → sum_by (short t) xs ≡ 0
 none_short t [] f = refl
@@ -102,10 +103,10 @@ below t x = int_lt x t
 abbrev at : ℤ → ℤ → Bool
 at t x = not (int_lt x t) && not (int_lt t x)
 
-lower : (a b : ℤ) → int_lt a b ≡ true → a ≤ℤ b
+pub lower : (a b : ℤ) → int_lt a b ≡ true → a ≤ℤ b
 lower a b e = grind (arith, ints)
 
-upper : (a b : ℤ) → int_lt a b ≡ false → b ≤ℤ a
+pub upper : (a b : ℤ) → int_lt a b ≡ false → b ≤ℤ a
 upper a b e = grind (arith, ints)
 
 -- a sum of n elements that lacks to n times the threshold what all elements lack
@@ -156,7 +157,7 @@ some_tight t [] zero le = (pos 0, refl, refl)
 some_tight t [] (suc m) le = absurd (omega (arith, le))
 some_tight t (x ∷ xs) m le = grown t x xs (some_tight t xs) (int_lt x t) (int_lt t x) refl refl m le
 
--- ---- after a sort
+-- ---- after a selection
 
 count_same : (p : ℤ → Bool) (xs ys : List ℤ) → IsPermutation xs ys → count_by p ys ≡ count_by p xs
 count_same p xs ys moved = sum_by-IsPermutation (λ z. one_if (p z)) xs ys moved
@@ -173,49 +174,80 @@ up_to t (x ∷ xs) =
     parts false true less other = refl
     parts false false less other = refl
 
-pub sorted_least : (n : ℕ) (xs ys : List ℤ) → n ≤ length ys → IsPermutation xs ys → IsSorted int_cmp ys
+-- the first n elements of a list, none of which is above the threshold and no later one below it
+bounded_least : (n : ℕ) (t : ℤ) (xs ys : List ℤ) → n ≤ length ys → IsPermutation xs ys
+    → ((i : ℕ) → i < n → get_or ys i (pos 0) ≤ℤ t) → ((i : ℕ) → n ≤ i → i < length ys → t ≤ℤ get_or ys i (pos 0))
     → IsLeastSum n xs (signed_sum (λ z. z) (take n ys))
-sorted_least zero xs ys le moved up = record { is_sum = refl; least = λ c is. omega (arith, ints, is) }
-sorted_least (suc m) xs ys le moved up =
-    let t : ℤ = get_or ys m (pos 0) in
-    let rises : (i j : ℕ) → i ≤ j → j < length ys → get_or ys i (pos 0) ≤ℤ get_or ys j (pos 0) = λ i j h k.
-    not_less (get_or ys j (pos 0)) (get_or ys i (pos 0)) (sorted_far (λ a b. is_lt (int_cmp a b)) (ranks_by int_cmp_total (λ z. z)) ys up i j (pos 0) h k) in
-    let low : (i : ℕ) → i < suc m → get_or ys i (pos 0) ≤ℤ t = λ i h. rises i m (omega (arith, h)) (omega (arith, le)) in
-    let high : (i : ℕ) → suc m ≤ i → i < length ys → t ≤ℤ get_or ys i (pos 0) = λ i h k. rises m i (omega (arith, h)) k in
-    let first = first_is t (suc m) ys le low high in
+bounded_least n t xs ys le moved low high =
+    let first = first_is t n ys le low high in
     let lacks = sum_by-IsPermutation (short t) xs ys moved in
-    let few = few_pass (below t) (suc m) ys (λ i h k. not_below (get_or ys i (pos 0)) t (high i h k)) in
-    let many = many_pass (λ z. not (int_lt t z)) (suc m) ys le (λ i h. ap not (not_below t (get_or ys i (pos 0)) (low i h))) in
+    let few = few_pass (below t) n ys (λ i h k. not_below (get_or ys i (pos 0)) t (high i h k)) in
+    let many = many_pass (λ z. not (int_lt t z)) n ys le (λ i h. ap not (not_below t (get_or ys i (pos 0)) (low i h))) in
     let below_same = count_same (below t) xs ys moved in
     let some_same = count_same (λ z. not (int_lt t z)) xs ys moved in
     let parts = up_to t xs in
-    let rest : ℕ = suc m - count_by (below t) xs in
-    let all : count_by (below t) xs + rest ≡ suc m = omega (arith, few, below_same) in
-    let tight = subst (λ n. IsTight t n xs) all (some_tight t xs rest (omega (arith, many, some_same, parts))) in
-    let value : tight.0 ≡ signed_sum (λ z. z) (take (suc m) ys) = omega (arith, ints, tight.2, first, lacks) in
+    let rest : ℕ = n - count_by (below t) xs in
+    let all : count_by (below t) xs + rest ≡ n = omega (arith, few, below_same) in
+    let tight = subst (λ m. IsTight t m xs) all (some_tight t xs rest (omega (arith, many, some_same, parts))) in
+    let value : tight.0 ≡ signed_sum (λ z. z) (take n ys) = omega (arith, ints, tight.2, first, lacks) in
     record {
-      is_sum = subst (IsSumOf (suc m) xs) value tight.1;
-      least = λ c is. omega (arith, ints, sum_low t (suc m) xs c is, first, lacks);
+      is_sum = subst (IsSumOf n xs) value tight.1;
+      least = λ c is. omega (arith, ints, sum_low t n xs c is, first, lacks);
     }
+  where
+    not_below : (a b : ℤ) → b ≤ℤ a → int_lt a b ≡ false
+    not_below a b le = grind (arith, ints)
+
+-- the elements before the one that a selection puts at its place
+pub split_least : (xs front : List ℤ) (x : ℤ) (back : List ℤ) → IsPermutation xs (front ++ x ∷ back) → IsSplitAround int_cmp front x back
+    → IsLeastSum (length front) xs (signed_sum (λ z. z) front)
+split_least xs front x back moved split =
+    let len = length-append front (x ∷ back) in
+    subst (λ (l : List ℤ). IsLeastSum (length front) xs (signed_sum (λ z. z) l)) (take_at front (x ∷ back) (length front) refl)
+    (bounded_least (length front) x xs (front ++ x ∷ back) (omega (arith, len)) moved low high)
   where
     not_less : (a b : ℤ) → is_lt (int_cmp a b) ≡ false → b ≤ℤ a
     not_less a b e = grind (arith, ints)
 
-    not_below : (a b : ℤ) → b ≤ℤ a → int_lt a b ≡ false
-    not_below a b le = grind (arith, ints)
+    low : (i : ℕ) → i < length front → get_or (front ++ x ∷ back) i (pos 0) ≤ℤ x
+    low i h =
+        subst (λ z. z ≤ℤ x) (sym (get_or_append_left front (x ∷ back) (pos 0) i h))
+        (not_less x (get_or front i (pos 0)) (split.0 i (pos 0) h))
+
+    later : (j : ℕ) → j < suc (length back) → x ≤ℤ get_or (x ∷ back) j (pos 0)
+    later zero h = omega (arith, ints)
+    later (suc j) h = not_less (get_or back j (pos 0)) x (split.1 j (pos 0) (omega (arith, h)))
+
+    high : (i : ℕ) → length front ≤ i → i < length (front ++ x ∷ back) → x ≤ℤ get_or (front ++ x ∷ back) i (pos 0)
+    high i h k =
+        subst (λ z. x ≤ℤ z) (sym (get_or-append_right front (x ∷ back) (length front) i (pos 0) refl h))
+        (later (i - length front) (omega (arith, h, k, length-append front (x ∷ back))))
+
+-- ---- all elements
+
+too_many : (n : ℕ) (xs : List ℤ) (c : ℤ) → length xs < n → IsSumOf n xs c → ⊥
+too_many zero xs c lt is = omega (arith, lt)
+too_many (suc n) [] c lt is = is
+too_many (suc n) (x ∷ xs) c lt (inl s) = too_many n xs s.0 (omega (arith, lt)) s.1
+too_many (suc n) (x ∷ xs) c lt (inr s) = too_many (suc n) xs c (omega (arith, lt)) s
+
+all_sum : (xs : List ℤ) → IsSumOf (length xs) xs (signed_sum (λ z. z) xs)
+all_sum [] = refl
+all_sum (x ∷ xs) = inl (signed_sum (λ z. z) xs, all_sum xs, refl)
+
+only_sum : (xs : List ℤ) (c : ℤ) → IsSumOf (length xs) xs c → c ≡ signed_sum (λ z. z) xs
+only_sum [] c is = is
+only_sum (x ∷ xs) c (inl s) = s.2 ∙ ap (λ z. x +ℤ z) (only_sum xs s.0 s.1)
+only_sum (x ∷ xs) c (inr s) = absurd (too_many (suc (length xs)) xs c (omega arith) s)
+
+pub all_least : (xs : List ℤ) → IsLeastSum (length xs) xs (signed_sum (λ z. z) xs)
+all_least xs = record { is_sum = all_sum xs; least = λ c is. omega (arith, ints, only_sum xs c is) }
 
 -- ---- the loop
 
-pub small_fits : (z : ℤ) → IsSmall z → FitsSigned w64 z
-small_fits (pos n) small = record { sfits = omega (arith, ints, small.1) }
-small_fits (negsuc n) small = record { sfits = omega (arith, ints, small.0) }
-
-pub sum_fits : (s x : ℤ) (i : ℕ) → i < 4096 → neg_ℤ (pos (i * 2 ^ 40)) ≤ℤ s → s ≤ℤ pos (i * 2 ^ 40) → IsSmall x → FitsSigned w64 (s +ℤ x)
-sum_fits s x i few low high small = fits (s +ℤ x) (omega (arith, ints, few, low, small.0)) (omega (arith, ints, few, high, small.1))
-  where
-    fits : (z : ℤ) → neg_ℤ (pos (2 ^ 53)) ≤ℤ z → z ≤ℤ pos (2 ^ 53) → FitsSigned w64 z
-    fits (pos n) low high = record { sfits = omega (arith, ints, high) }
-    fits (negsuc n) low high = record { sfits = omega (arith, ints, low) }
+pub sum_fits : (s x : ℤ) (i : ℕ) → i < 512 → neg_ℤ (pos (i * 2 ^ 53)) ≤ℤ s → s ≤ℤ pos (i * 2 ^ 53) → IsWithin (2 ^ 53) x → FitsSigned w64 (s +ℤ x)
+sum_fits s x i few low high small =
+    within_fits (s +ℤ x) (omega (arith, ints, few, low, small.0), omega (arith, ints, few, high, small.1))
 
 pub sum_more : (ys : List ℤ) (i : ℕ) (s : ℤ) → i < length ys → s ≡ signed_sum (λ z. z) (take i ys)
     → (s +ℤ get_or ys i (pos 0)) ≡ signed_sum (λ z. z) (take (i + 1) ys)

@@ -1,5 +1,5 @@
 -- The least sum of a number of elements of a list.
-use Rattle.std.specs.Prelude.{◌≡◌, ◌⊎◌, ℕ, ◌^◌, zero, suc, ℤ, pos, neg_ℤ, ◌+ℤ◌, ◌≤ℤ◌, List, [], ◌∷◌}
+use Rattle.std.specs.Prelude.{◌≡◌, ◌⊎◌, ℕ, zero, suc, ℤ, pos, ◌+ℤ◌, ◌≤ℤ◌, List, [], ◌∷◌}
 
 -- The sum of n elements of a list, each of which is there or not.
 abbrev pub IsSumOf : ℕ → List ℤ → ℤ → Type 0
@@ -11,7 +11,3 @@ IsSumOf (suc n) (x ∷ xs) b = ((c : ℤ) × IsSumOf n xs c × (b ≡ x +ℤ c))
 pub record IsLeastSum (n : ℕ) (xs : List ℤ) (b : ℤ) : Type 0 where
   pub is_sum : IsSumOf n xs b
   pub least : (c : ℤ) → IsSumOf n xs c → b ≤ℤ c
-
--- The number is far from the limits of a machine word.
-abbrev pub IsSmall : ℤ → Type 0
-IsSmall z = (neg_ℤ (pos (2 ^ 40)) ≤ℤ z) × (z ≤ℤ pos (2 ^ 40))

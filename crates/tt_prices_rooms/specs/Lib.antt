@@ -1,2 +1,4 @@
+pub mod Inner
 pub mod Least
+pub mod Tables
 pub mod Terms
