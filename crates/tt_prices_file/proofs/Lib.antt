@@ -1,3 +1,3 @@
 pub mod Holding
+pub mod Once
 pub mod Parts
-pub mod Prices

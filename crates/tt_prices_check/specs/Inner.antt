@@ -1,7 +1,3 @@
 -- Definitions that only clauses of private functions name: not part of the trusted statement.
-pub mod Accounts
-pub mod Groups
-pub mod Rents
-pub mod Tables
-pub mod Terms
-pub mod Underway
+pub mod Days
+pub mod Faults
