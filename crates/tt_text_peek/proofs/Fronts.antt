@@ -73,8 +73,9 @@ kind_of-proof bytes t ts e proof =
     let w = word_at bytes t ts e in
     let parts : take 4096 bytes ++ drop 4096 bytes ≡ bytes = take-append-drop 4096 bytes in
     let f = word_front (take 4096 bytes) (drop 4096 bytes) in
-    let no : has_groups_word (take 4096 bytes) ≡ false =
-    ap (is_text (codes "CTTG")) (f.1 ∙ ap (λ (l : List ℕ). take f.0 (first_word l)) parts ∙ ap (take f.0) (w.text ∙ proof)) ∙ no_front f.0 in
+    let word : first_word (take 4096 bytes) ≡ take f.0 (codes "CTTP") =
+    f.1 ∙ ap (λ (l : List ℕ). take f.0 (first_word l)) parts ∙ ap (take f.0) (w.text ∙ proof) in
+    let no : has_groups_word (take 4096 bytes) ≡ false = ap (is_text (codes "CTTG")) word ∙ no_front f.0 in
     ap (λ (b : Bool). kind_by b (has_prices_version (take 4096 bytes))) no
 
 -- a text with the first token `CTTG` has one of the other kinds
@@ -127,7 +128,8 @@ open_word : (at : ℕ) (bytes : List ℕ) → is_word_settled bytes ≡ false �
     → cut_short (stream_from MAX_BYTES at bytes) ≡ stopped (Err Read)
 open_word at bytes unsettled below =
     let parts = or_parts (not (length (after_word bytes) == 0)) (nat_lt 32 (length (first_word bytes))) unsettled in
-    let none : length (after_word bytes) ≡ 0 = eqb-true (length (after_word bytes)) 0 (not-false (length (after_word bytes) == 0) parts.0) in
+    let none : length (after_word bytes) ≡ 0 =
+    eqb-true (length (after_word bytes)) 0 (not-false (length (after_word bytes) == 0) parts.0) in
     let short : word_len bytes ≤ 32 = omega (arith, ltb-false 32 (length (first_word bytes)) parts.1, length-first_word bytes) in
     let over : length bytes ≤ prefix_len is_separator bytes + word_len bytes =
     omega (arith, none, length-after_word bytes, length-begun bytes) in

@@ -9,13 +9,13 @@ use crate::kind::FileKind;
 use thiserror::Error;
 use tt_text::Source;
 
-/// The tokens that tell the kind of a file are searched for in this many bytes.
+/// The tokens that give the kind of a file are searched for in this many bytes.
 pub const PEEKED_BYTES: usize = 4_096;
 
 /// Why the kind of a file is not known.
 #[derive(Clone, Copy, Debug, PartialEq, Eq, Error)]
 pub enum PeekFault {
-    /// A read failed before the tokens that tell the kind were complete.
+    /// A read failed before the tokens that give the kind were complete.
     #[error("a read failed")]
     Read,
     #[error("out of memory")]

@@ -11,23 +11,23 @@ split_at-requires c =
 
 pub split_at-requires-in-Some : goal.split_at-requires-in-Some
 split_at-requires-in-Some c =
-    let bytes = c.args.bytes.now in
-    let w = word_at bytes (place c.in-Some.word) c.next.new.self (sym c.new.ensures ∙ c.in-Some.ensures.gives) in
-    (split_at_word bytes c.split_at.result.1.now (place c.in-Some.word) (length c.in-Some.word.bytes.now) w c.split_at.ensures.back refl).within
+    let t = place c.in-Some.word in
+    let w = word_at c.args.bytes.now t c.next.new.self (sym c.new.ensures ∙ c.in-Some.ensures.gives) in
+    (split_at_word c.args.bytes.now c.split_at.result.1.now t (length t.text) w c.split_at.ensures.back refl).within
 
 pub returns-in-Some-clause-word : goal.returns-in-Some-clause-word
 returns-in-Some-clause-word c =
-    let bytes = c.args.bytes.now in
-    let w = word_at bytes (place c.in-Some.word) c.next.new.self (sym c.new.ensures ∙ c.in-Some.ensures.gives) in
+    let t = place c.in-Some.word in
+    let w = word_at c.args.bytes.now t c.next.new.self (sym c.new.ensures ∙ c.in-Some.ensures.gives) in
     c.split_at-in-Some.ensures.front
-    ∙ (split_at_word bytes c.split_at.result.1.now (place c.in-Some.word) (length c.in-Some.word.bytes.now) w c.split_at.ensures.back refl).word
+    ∙ (split_at_word c.args.bytes.now c.split_at.result.1.now t (length t.text) w c.split_at.ensures.back refl).word
 
 pub returns-in-Some-clause-rest : goal.returns-in-Some-clause-rest
 returns-in-Some-clause-rest c =
-    let bytes = c.args.bytes.now in
-    let w = word_at bytes (place c.in-Some.word) c.next.new.self (sym c.new.ensures ∙ c.in-Some.ensures.gives) in
+    let t = place c.in-Some.word in
+    let w = word_at c.args.bytes.now t c.next.new.self (sym c.new.ensures ∙ c.in-Some.ensures.gives) in
     c.split_at-in-Some.ensures.back
-    ∙ (split_at_word bytes c.split_at.result.1.now (place c.in-Some.word) (length c.in-Some.word.bytes.now) w c.split_at.ensures.back refl).rest
+    ∙ (split_at_word c.args.bytes.now c.split_at.result.1.now t (length t.text) w c.split_at.ensures.back refl).rest
 
 pub returns-in-None-clause-word : goal.returns-in-None-clause-word
 returns-in-None-clause-word c =
