@@ -4,7 +4,6 @@
 mod courses;
 mod fault;
 mod group;
-mod week;
 mod width;
 mod work;
 
