@@ -1,5 +1,5 @@
 -- The bound of a file that is right holds for each feasible timetable, and a file has at most one total.
-use Rattle.std.proofs.Common.{◌≡◌, ℕ, ◌+◌, ◌*◌, ◌≤◌, ◌<◌, zero, suc, Bool, true, false, cond, List, [], ◌∷◌, length, map, Some, refl, sym, ap, subst, ◌∙◌, arith, inl, inr}
+use Rattle.std.proofs.Common.{◌≡◌, ℕ, ◌+◌, ◌-◌, ◌*◌, ◌≤◌, ◌<◌, zero, suc, Bool, true, false, cond, List, [], ◌∷◌, length, map, Some, refl, sym, ap, subst, ◌∙◌, arith, inl, inr}
 use Rattle.std.specs.Prelude.{◌⊎◌, ℤ, pos, ◌+ℤ◌, ◌<ℤ◌, ◌≤ℤ◌, int_lt, All, flat_map, sum_by}
 use Rattle.std.proofs.lemmas.Bool.{cases_lt, cases_Bool}
 use Rattle.std.proofs.lemmas.Int.{ints}
@@ -63,14 +63,13 @@ module _ (p : Problem) (scale : ℕ) (groups : List PricedGroup) (rent : ℕ →
 
   -- if there is a room, there is a cheapest one in each period
   lowest_with : (n : ℕ) → length p.rooms ≡ n + 1 → (lowest : Slot → ℤ) × Lowest lowest
-  lowest_with n rooms =
-      (
-        λ s. cost s (cheapest (cost s) n).0,
-        record {
-          least = λ r l s. (cheapest (cost s) n).2 r (omega (arith, l, rooms));
-          paid = λ s. let w = cheapest (cost s) n in (w.0, omega (arith, w.1, rooms), refl);
-        },
-      )
+  lowest_with n rooms = (
+    λ s. cost s (cheapest (cost s) n).0,
+    record {
+      least = λ r l s. (cheapest (cost s) n).2 r (omega (arith, l, rooms));
+      paid = λ s. let w = cheapest (cost s) n in (w.0, omega (arith, w.1, rooms), refl);
+    },
+  )
 
   lowest_of : (b : ℤ) → IsTerm p scale groups rent c b → (lowest : Slot → ℤ) × Lowest lowest
   lowest_of b term = elim term.paid [
@@ -125,7 +124,7 @@ one_total p h parts m n first second =
     (λ c there.
     let inside = below_member (length p.courses) c there in
     term_same p (room_scale h) (groups_of p parts) (rent_of p parts) c (first.terms c) (second.terms c) (first.courses c inside) (second.courses c inside)) in
-    omega (arith, ints, first.total, second.total, groups, terms)
+    omega (arith, ints, first.adds_up, second.adds_up, groups, terms)
 
 -- ---- what a feasible timetable pays
 
@@ -176,10 +175,10 @@ module _ (p : Problem) (h : Header) (parts : List Part) (right : IsRight p h par
             let one = mul-add h.scale (own + cond b rooms 0) 1 in
             let two = mul-add h.scale own (cond b rooms 0) in
             let scaled = times b e in
-            absurd (omega (arith, ints, pays, right.is.total, right.enough, more, one, two, scaled))
+            absurd (omega (arith, ints, pays, right.is.adds_up, right.enough, more, one, two, scaled))
         | inr enough ↦ enough
       ]
         where
           times : (b : Bool) → h.has_rooms ≡ b → h.scale * cond b rooms 0 ≡ room_scale h * rooms
           times true e = sym (ap (λ z. cond z h.scale 0 * rooms) e)
-          times false e = sym (ap (λ z. cond z h.scale 0 * rooms) e)
+          times false e = let none : h.scale * 0 ≡ 0 * rooms = omega arith in none ∙ sym (ap (λ z. cond z h.scale 0 * rooms) e)

@@ -14,9 +14,10 @@ use Rattle.tt_list_laws.proofs.Twos.{each_two-append}
 use Rattle.tt_text.specs.Feeds.{Stream}
 use Rattle.tt_instance.specs.Problem.{Problem}
 use Rattle.tt_instance.specs.Limits.{IsInstance}
-use Rattle.tt_instance.specs.Cells.{slot}
+use Rattle.tt_instance.specs.Cells.{slot, cell}
 use Rattle.tt_instance.specs.Courses.{lectures}
-use Rattle.tt_prices.specs.Prices.{PricedGroup}
+use Rattle.tt_instance.specs.declared.cell.Slot.{Slot}
+use Rattle.tt_prices.specs.Prices.{PricedGroup, cell_cost}
 use Rattle.tt_prices_check.specs.Groups.{IsLeast}
 use Rattle.tt_prices_read.specs.Reading.{Group, RoomRents, Part, GroupPart, RentPart, header_at, item_at}
 use Rattle.tt_prices_read.specs.Reads.{ReadsParts, ReadsFile}
@@ -150,7 +151,7 @@ not_twice ns ms rest n apart earlier here =
     let w = member_from_any (λ m. m == n) ns earlier in
     let row = at_member (λ x. list_all (test x) ms ≡ true) ns w.0 (each_from_list_all (λ x. list_all (test x) ms) ns cross) w.1 in
     let cell = at_member (λ y. test w.0 y ≡ true) ms n (each_from_list_all (test w.0) ms row) here in
-    both_ways (w.0 == n) w.2 (not-true (w.0 == n) cell)
+    both_ways (w.0 == n) (not-true (w.0 == n) cell) w.2
 
 -- ---- faults of a file that is right
 
@@ -261,11 +262,16 @@ module _ (p : Problem) (is : IsInstance p) (bytes : List ℕ) (h : Header) (part
       has_least reported.parts g n.0 n.1 none
   left_open (fault.TooFewPlaces c) reported = has_term reported.is.2.0 (right.is.courses c reported.is.2.0) reported.is.2.1
     where
+      enough : (f : Slot → ℤ) (b : ℤ) → IsSumOf (lectures p c) (map f (open_slots p c)) b → lectures p c ≤ length (open_slots p c)
+      enough f b paid = let n = enough_numbers (lectures p c) (map f (open_slots p c)) b paid in omega (arith, n, length-map (open_slots p c) f)
+
       has_term : c < length p.courses → IsTerm p (room_scale h) (groups_of p parts) (rent_of p parts) c (right.is.terms c)
           → (length (open_slots p c) < lectures p c) ⊎ (length p.rooms ≡ 0) → ⊥
       has_term inside term (inl few) = elim term.paid [
-        | inl one ↦ let n = enough_numbers (lectures p c) _ _ one.2 in omega (arith, n, few, length-map (open_slots p c) _)
-        | inr more ↦ let n = enough_numbers (lectures p c) _ _ more.4 in omega (arith, n, few, length-map (open_slots p c) more.1)
+        | inl one ↦
+            let n = enough (λ s. cell_cost p (room_scale h) (groups_of p parts) (rent_of p parts) (cell c one.0 s)) (right.is.terms c) one.2 in
+            omega (arith, n, few)
+        | inr more ↦ let n = enough more.1 more.3 more.4 in omega (arith, n, few)
       ]
       has_term inside term (inr none) = elim term.paid [
         | inl one ↦ let l = one.1 in omega (arith, l, none)

@@ -78,7 +78,7 @@ pub record HasTotal (p : Problem) (h : Header) (parts : List Part) (total : ℤ)
   pub each : All (λ g. IsLeast p h.scale g.0 (Some g.1)) least
   pub terms : ℕ → ℤ
   pub courses : (c : ℕ) → c < length p.courses → IsTerm p (room_scale h) (groups_of p parts) (rent_of p parts) c (terms c)
-  pub total : (total +ℤ pos (all_rents p parts)) ≡ (signed_sum (λ g. g.1) least +ℤ signed_sum terms (all_courses p))
+  pub adds_up : (total +ℤ pos (all_rents p parts)) ≡ (signed_sum (λ g. g.1) least +ℤ signed_sum terms (all_courses p))
 
 -- A total reaches a bound if the bound is at most the total, divided by the scale and rounded up.
 abbrev pub Reaches : Header → ℤ → Type 0

@@ -9,4 +9,4 @@ mod laws;
 pub use check::check_prices;
 pub use claim::PricesClaim;
 pub use fault::PricesFault;
-pub use laws::{files_hold, files_have_one_total};
+pub use laws::{files_have_one_total, files_hold};
