@@ -1,18 +1,15 @@
 //! Tree proofs and claims about groups whose bounds add up.
 #![tactic(auto)]
 
-mod claimed;
 mod fault;
 mod groups;
 mod groups_fault;
 mod laws;
 mod one_more;
-mod prices;
 mod several;
 mod summed;
 mod table;
 
-pub use claimed::ClaimedTarget;
 pub use fault::{FileFault, SumStop};
 pub use groups_fault::GroupsFault;
 pub use laws::{

@@ -3,8 +3,7 @@
 ghost use Rattle.std.specs.Prelude.{◌≡◌, [], ℕ, List};
 ghost use Rattle.std.specs.Io.KnownBytes.{prepend_known};
 
-use crate::front::{kind_of_front, read_front, remove_front};
-use crate::kind::FileKind;
+use crate::front::{has_groups_word, read_front, remove_front};
 use crate::peek::{PEEKED_BYTES, Peek, PeekFault};
 use std::alloc::Global;
 use tt_text::{ReadFailed, Source};
@@ -50,12 +49,12 @@ impl<R: Source> Source for Peeked<R> {
 }
 
 impl<R: Source> Peek for Peeked<R> {
-    fn peek_kind(&mut self) -> Result<FileKind, PeekFault> {
+    fn peek_groups(&mut self) -> Result<bool, PeekFault> {
         if let Err(fault) = read_front(&mut self.front, &mut self.source) {
             self.front.clear();
             return Err(fault);
         }
         let end = self.front.len().min(PEEKED_BYTES);
-        Ok(kind_of_front(&self.front[..end]))
+        Ok(has_groups_word(&self.front[..end]))
     }
 }

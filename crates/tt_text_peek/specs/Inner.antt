@@ -1,2 +1,0 @@
--- Definitions that only clauses of private functions name: not part of the trusted statement.
-pub mod Settled
