@@ -1,5 +1,5 @@
 -- What a choice of periods pays is a sum over the open periods, each of which is there or not.
-use Rattle.std.proofs.Common.{◌≡◌, ℕ, suc, ◌+◌, ◌≤◌, ◌<◌, Bool, true, false, not, ◌&&◌, ◌||◌, cond, List, [], ◌∷◌, length, map, refl, sym, ap, subst, ◌∙◌, arith, inl, inr, eq-eqb}
+use Rattle.std.proofs.Common.{◌≡◌, ℕ, suc, ◌≤◌, ◌<◌, Bool, true, false, not, ◌&&◌, ◌||◌, cond, List, [], ◌∷◌, length, map, refl, sym, ap, subst, ◌∙◌, arith, inl, inr, eq-eqb}
 use Rattle.std.specs.Prelude.{Contains, ◌==◌, ℤ, pos, ◌+ℤ◌, count_by}
 use Rattle.std.specs.List.{list_any}
 use Rattle.std.proofs.lemmas.Bool.{and_from, cases_Bool}
@@ -10,7 +10,7 @@ use Rattle.tt_list_laws.proofs.Counting.{sum_by-ones}
 use Rattle.tt_list_laws.proofs.Sums.{one_if, count_by-cons, sum_by-le, each}
 use Rattle.tt_instance.specs.Problem.{Problem}
 use Rattle.tt_instance.specs.Cells.{all_slots, cell}
-use Rattle.tt_instance.specs.Courses.{lectures, unavailable}
+use Rattle.tt_instance.specs.Courses.{unavailable}
 use Rattle.tt_instance.specs.declared.cell.Slot.{Slot}
 use Rattle.tt_instance.proofs.Cells.{is_at-slot}
 use Rattle.tt_instance.proofs.Places.{any_slot, count_slots}
