@@ -1,5 +1,5 @@
 -- What a choice of periods pays is a sum over the open periods, each of which is there or not.
-use Rattle.std.proofs.Common.{◌≡◌, ℕ, suc, ◌+◌, ◌≤◌, ◌<◌, Bool, true, false, not, ◌&&◌, ◌||◌, cond, List, [], ◌∷◌, length, map, refl, sym, ap, subst, ◌∙◌, arith, inl, inr, eq-eqb}
+use Rattle.std.proofs.Common.{◌≡◌, ℕ, suc, ◌≤◌, ◌<◌, Bool, true, false, not, ◌&&◌, ◌||◌, cond, List, [], ◌∷◌, length, map, refl, sym, ap, subst, ◌∙◌, arith, inl, inr, eq-eqb}
 use Rattle.std.specs.Prelude.{Contains, ◌==◌, ℤ, pos, ◌+ℤ◌, count_by}
 use Rattle.std.specs.List.{list_any}
 use Rattle.std.proofs.lemmas.Bool.{and_from, cases_Bool}
@@ -10,7 +10,7 @@ use Rattle.tt_list_laws.proofs.Counting.{sum_by-ones}
 use Rattle.tt_list_laws.proofs.Sums.{one_if, count_by-cons, sum_by-le, each}
 use Rattle.tt_instance.specs.Problem.{Problem}
 use Rattle.tt_instance.specs.Cells.{all_slots, cell}
-use Rattle.tt_instance.specs.Courses.{lectures, unavailable}
+use Rattle.tt_instance.specs.Courses.{unavailable}
 use Rattle.tt_instance.specs.declared.cell.Slot.{Slot}
 use Rattle.tt_instance.proofs.Cells.{is_at-slot}
 use Rattle.tt_instance.proofs.Places.{any_slot, count_slots}
@@ -28,7 +28,8 @@ same x u = (x.day == u.day) && (x.period == u.period)
 -- ---- elements that pass a test, which one passes or none
 
 -- the elements that pass, as a sum of so many elements
-passing : {X : Type 0} (f : X → ℤ) (q : X → Bool) (xs : List X) → IsSumOf (count_by q xs) (map f xs) (signed_sum (λ u. cond (q u) (f u) (pos 0)) xs)
+passing : {X : Type 0} (f : X → ℤ) (q : X → Bool) (xs : List X)
+    → IsSumOf (count_by q xs) (map f xs) (signed_sum (λ u. cond (q u) (f u) (pos 0)) xs)
 passing f q [] = refl
 passing f q (x ∷ xs) = by_test (q x) refl (passing f q xs)
   where
@@ -47,7 +48,8 @@ passing f q (x ∷ xs) = by_test (q x) refl (passing f q xs)
         subst (λ n. IsSumOf n (f x ∷ map f xs) (cond (q x) (f x) (pos 0) +ℤ rest)) next
         (subst (IsSumOf (count_by q xs) (f x ∷ map f xs)) value (skip (count_by q xs) (f x) (map f xs) rest is))
 
-none_passing : {X : Type 0} (f : X → ℤ) (q : X → Bool) (xs : List X) → count_by q xs ≤ 0 → signed_sum (λ x. cond (q x) (f x) (pos 0)) xs ≡ pos 0
+none_passing : {X : Type 0} (f : X → ℤ) (q : X → Bool) (xs : List X) → count_by q xs ≤ 0
+    → signed_sum (λ x. cond (q x) (f x) (pos 0)) xs ≡ pos 0
 none_passing f q [] le = refl
 none_passing {X} f q (x ∷ xs) le =
     let count = count_by-cons q x xs in
@@ -105,7 +107,8 @@ module _ (p : Problem) (c : ℕ) (ss : List Slot) (choice : IsChoice p c ss) whe
       let free = All-contains (λ s. unavailable p c s.day s.period ≡ false) ss x choice.available m in
       list_any-of_filter (same x) is_open (all_slots p)
       ∙ any_slot p (λ s. is_open s && same x s) x.day x.period week.0 week.1
-      (and_from (is_open x) (same x x) (ap not free) (and_from (x.day == x.day) (x.period == x.period) (eq-eqb x.day x.day refl) (eq-eqb x.period x.period refl)))
+      (and_from (is_open x) (same x x) (ap not free)
+      (and_from (x.day == x.day) (x.period == x.period) (eq-eqb x.day x.day refl) (eq-eqb x.period x.period refl)))
 
   module _ (f : Slot → ℤ) where
     own_term : (x : Slot) → Contains ss x → f x ≡ signed_sum (λ u. cond (same x u) (f u) (pos 0)) (open_slots p c)
@@ -117,13 +120,14 @@ module _ (p : Problem) (c : ℕ) (ss : List Slot) (choice : IsChoice p c ss) whe
     whole =
         signed_sum-same_member f (λ x. signed_sum (λ u. cond (same x u) (f u) (pos 0)) (open_slots p c)) ss own_term
         ∙ signed_sum-swap (λ x u. cond (same x u) (f u) (pos 0)) ss (open_slots p c)
-        ∙ signed_sum-same_member (λ u. signed_sum (λ x. cond (same x u) (f u) (pos 0)) ss) (λ u. cond (chosen u) (f u) (pos 0)) (open_slots p c)
-        (λ u m. passing_once (λ x. f u) (f u) (λ x. same x u) ss (once u (member_before is_open (all_slots p) u m)) (λ x e. refl))
+        ∙ signed_sum-same_member (λ u. signed_sum (λ x. cond (same x u) (f u) (pos 0)) ss) (λ u. cond (chosen u) (f u) (pos 0))
+        (open_slots p c) (λ u m. passing_once (λ x. f u) (f u) (λ x. same x u) ss (once u (member_before is_open (all_slots p) u m)) (λ x e. refl))
 
   number : length ss ≡ count_by chosen (open_slots p c)
   number =
       let ones = signed_sum-pos (λ (s : Slot). 1) ss ∙ ap pos (sum_by-ones ss) in
-      let counts = signed_sum-same (λ u. cond (chosen u) (pos 1) (pos 0)) (λ u. pos (one_if (chosen u))) (open_slots p c) (λ u. one (chosen u))
+      let counts = signed_sum-same (λ u. cond (chosen u) (pos 1) (pos 0)) (λ u. pos (one_if (chosen u))) (open_slots p c)
+      (λ u. one (chosen u))
       ∙ signed_sum-pos (λ u. one_if (chosen u)) (open_slots p c) in
       let all = whole (λ s. pos 1) in
       omega (arith, ints, ones, counts, all)

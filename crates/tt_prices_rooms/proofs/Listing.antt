@@ -24,7 +24,8 @@ module _ (p : Problem) (c : ℕ) where
   abbrev pub opened : List Slot → List ℕ
   opened ss = map (place_of p) (filter (is_open p c) ss)
 
-  pub opened_one_more : (d i : ℕ) → opened (map (slot d) (range_below (i + 1))) ≡ opened (map (slot d) (range_below i)) ++ opened (slot d i ∷ [])
+  pub opened_one_more : (d i : ℕ)
+      → opened (map (slot d) (range_below (i + 1))) ≡ opened (map (slot d) (range_below i)) ++ opened (slot d i ∷ [])
   opened_one_more d i =
       ap (map (place_of p)) (kept_one_more (is_open p c) (slot d) i)
       ∙ map-append (place_of p) (filter (is_open p c) (map (slot d) (range_below i))) (filter (is_open p c) (slot d i ∷ []))

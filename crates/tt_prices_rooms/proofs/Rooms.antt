@@ -1,5 +1,5 @@
 -- The least of what is paid in the first rooms, one room further.
-use Rattle.std.proofs.Common.{◌≡◌, ℕ, ◌+◌, ◌^◌, ◌≤◌, ◌<◌, Bool, true, false, cond, List, length, map, get_or, replicate, refl, sym, ap, subst, ◌∙◌, arith, inl, inr}
+use Rattle.std.proofs.Common.{◌≡◌, ℕ, ◌+◌, ◌^◌, ◌<◌, Bool, true, false, cond, List, length, map, get_or, replicate, refl, sym, ap, subst, ◌∙◌, arith, inl, inr}
 use Rattle.std.specs.Prelude.{◌⊎◌, ℤ, pos, neg_ℤ, ◌≤ℤ◌, ◌<ℤ◌, int_lt, All}
 use Rattle.std.specs.Int.{int_min}
 use Rattle.std.proofs.lemmas.Bool.{cases_lt}
@@ -43,7 +43,8 @@ module _ (cost : ℕ → ℕ → ℤ) (places : List ℕ) where
   pub lowest_first : (zs : List ℤ) (z : ℤ) → zs ≡ replicate (length places) z → pos (2 ^ 53) <ℤ z → AreLowest cost places 0 zs
   lowest_first zs z is above i lt =
       no_rooms (λ r v. v ≡ cost r (get_or places i 0)) MAX_COST (get_or zs i (pos 0))
-      (subst (λ v. pos MAX_COST <ℤ v) (sym (ap (λ (l : List ℤ). get_or l i (pos 0)) is ∙ get_or-replicate (length places) i z (pos 0) lt)) above)
+      (let same = ap (λ (l : List ℤ). get_or l i (pos 0)) is ∙ get_or-replicate (length places) i z (pos 0) lt in
+      subst (λ v. pos MAX_COST <ℤ v) (sym same) above)
 
   pub lowest_more : (n : ℕ) (old new : List ℤ) → AreLowest cost places n old → ((k : ℕ) → IsWithin MAX_COST (cost n k))
       → ((i : ℕ) → i < length places → get_or new i (pos 0) ≡ int_min (get_or old i (pos 0)) (cost n (get_or places i 0)))

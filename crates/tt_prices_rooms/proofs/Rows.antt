@@ -20,7 +20,8 @@ pub cost_at-room : (p : Problem) (c r scale points : ℕ) (rents tail : List ℕ
     → tail ≡ drop (r * length prices) rents → cost_at points tail prices k ≡ room_cost p c scale rents prices r k
 cost_at-room p c r scale points rents tail prices k same own =
     ap (λ n. pos (n + get_or tail k 0) -ℤ get_or prices k (pos 0)) same
-    ∙ ap (λ n. pos (scale * excess p c r + n) -ℤ get_or prices k (pos 0)) (ap (λ (l : List ℕ). get_or l k 0) own ∙ get_or-drop (r * length prices) rents k 0)
+    ∙ ap (λ n. pos (scale * excess p c r + n) -ℤ get_or prices k (pos 0))
+    (ap (λ (l : List ℕ). get_or l k 0) own ∙ get_or-drop (r * length prices) rents k 0)
 
 pub front_small : (P : ℤ → Type 0) (xs ys : List ℤ) → All P (xs ++ ys) → All P xs
 front_small P xs ys all k d h = subst P (get_or_append_left xs ys d k h) (all k d (omega (arith, h, length-append xs ys)))

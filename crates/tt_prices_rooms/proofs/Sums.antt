@@ -72,7 +72,8 @@ first_is : (t : ℤ) (n : ℕ) (xs : List ℤ) → n ≤ length xs → ((i : ℕ
 first_is t zero xs le low high = let e = none_short t xs (λ i h. high i (omega arith) h) in omega (arith, ints, e)
 first_is t (suc n) [] le low high = absurd (omega (arith, le))
 first_is t (suc n) (x ∷ xs) le low high =
-    let e = first_is t n xs (omega (arith, le)) (λ i h. low (suc i) (omega (arith, h))) (λ i h k. high (suc i) (omega (arith, h)) (omega (arith, k))) in
+    let e = first_is t n xs (omega (arith, le)) (λ i h. low (suc i) (omega (arith, h)))
+    (λ i h k. high (suc i) (omega (arith, h)) (omega (arith, k))) in
     omega (arith, ints, e, sum_by-cons (short t) x xs, short_is t x (low 0 (omega arith)))
 
 few_pass : (p : ℤ → Bool) (n : ℕ) (xs : List ℤ) → ((i : ℕ) → n ≤ i → i < length xs → p (get_or xs i (pos 0)) ≡ false) → count_by p xs ≤ n
@@ -166,13 +167,24 @@ count_same p xs ys moved = sum_by-IsPermutation (λ z. one_if (p z)) xs ys moved
 up_to : (t : ℤ) (xs : List ℤ) → count_by (λ z. not (int_lt t z)) xs ≡ count_by (below t) xs + count_by (at t) xs
 up_to t [] = refl
 up_to t (x ∷ xs) =
-    omega (arith, count_by-cons (λ z. not (int_lt t z)) x xs, count_by-cons (below t) x xs, count_by-cons (at t) x xs, up_to t xs, parts (int_lt x t) (int_lt t x) refl refl)
+    let none = count_by-cons (λ z. not (int_lt t z)) x xs in
+    let less = count_by-cons (below t) x xs in
+    omega (arith, none, less, count_by-cons (at t) x xs, up_to t xs, parts (int_lt x t) (int_lt t x) refl refl)
   where
     parts : (a b : Bool) → int_lt x t ≡ a → int_lt t x ≡ b → one_if (not b) ≡ one_if a + one_if (not a && not b)
     parts true true less other = absurd (grind (arith, ints))
     parts true false less other = refl
     parts false true less other = refl
     parts false false less other = refl
+
+-- what a tight sum comes to is the least
+tight_least : (t : ℤ) (n : ℕ) (xs : List ℤ) (total : ℤ) → times n t ≡ (total +ℤ pos (sum_by (short t) xs)) → IsTight t n xs → IsLeastSum n xs total
+tight_least t n xs total is tight =
+    let value : tight.0 ≡ total = omega (arith, ints, tight.2, is) in
+    record {
+      is_sum = subst (IsSumOf n xs) value tight.1;
+      least = λ c sum. omega (arith, ints, sum_low t n xs c sum, is);
+    }
 
 -- the first n elements of a list, none of which is above the threshold and no later one below it
 bounded_least : (n : ℕ) (t : ℤ) (xs ys : List ℤ) → n ≤ length ys → IsPermutation xs ys
@@ -185,15 +197,10 @@ bounded_least n t xs ys le moved low high =
     let many = many_pass (λ z. not (int_lt t z)) n ys le (λ i h. ap not (not_below t (get_or ys i (pos 0)) (low i h))) in
     let below_same = count_same (below t) xs ys moved in
     let some_same = count_same (λ z. not (int_lt t z)) xs ys moved in
-    let parts = up_to t xs in
     let rest : ℕ = n - count_by (below t) xs in
     let all : count_by (below t) xs + rest ≡ n = omega (arith, few, below_same) in
-    let tight = subst (λ m. IsTight t m xs) all (some_tight t xs rest (omega (arith, many, some_same, parts))) in
-    let value : tight.0 ≡ signed_sum (λ z. z) (take n ys) = omega (arith, ints, tight.2, first, lacks) in
-    record {
-      is_sum = subst (IsSumOf n xs) value tight.1;
-      least = λ c is. omega (arith, ints, sum_low t n xs c is, first, lacks);
-    }
+    tight_least t n xs (signed_sum (λ z. z) (take n ys)) (omega (arith, ints, first, lacks))
+    (subst (λ m. IsTight t m xs) all (some_tight t xs rest (omega (arith, many, some_same, up_to t xs))))
   where
     not_below : (a b : ℤ) → b ≤ℤ a → int_lt a b ≡ false
     not_below a b le = grind (arith, ints)
@@ -245,12 +252,14 @@ all_least xs = record { is_sum = all_sum xs; least = λ c is. omega (arith, ints
 
 -- ---- the loop
 
-pub sum_fits : (s x : ℤ) (i : ℕ) → i < 512 → neg_ℤ (pos (i * 2 ^ 53)) ≤ℤ s → s ≤ℤ pos (i * 2 ^ 53) → IsWithin (2 ^ 53) x → FitsSigned w64 (s +ℤ x)
+pub sum_fits : (s x : ℤ) (i : ℕ) → i < 512 → neg_ℤ (pos (i * 2 ^ 53)) ≤ℤ s → s ≤ℤ pos (i * 2 ^ 53) → IsWithin (2 ^ 53) x
+    → FitsSigned w64 (s +ℤ x)
 sum_fits s x i few low high small =
     within_fits (s +ℤ x) (omega (arith, ints, few, low, small.0), omega (arith, ints, few, high, small.1))
 
 pub sum_more : (ys : List ℤ) (i : ℕ) (s : ℤ) → i < length ys → s ≡ signed_sum (λ z. z) (take i ys)
     → (s +ℤ get_or ys i (pos 0)) ≡ signed_sum (λ z. z) (take (i + 1) ys)
 sum_more ys i s there is =
-    let more = ap (signed_sum (λ z. z)) (take_more ys i (pos 0) there) ∙ signed_sum-append (λ z. z) (take i ys) (get_or ys i (pos 0) ∷ []) in
+    let more = ap (signed_sum (λ z. z)) (take_more ys i (pos 0) there)
+    ∙ signed_sum-append (λ z. z) (take i ys) (get_or ys i (pos 0) ∷ []) in
     omega (arith, ints, is, more)

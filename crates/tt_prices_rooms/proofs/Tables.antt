@@ -77,14 +77,16 @@ module _ (p : Problem) (scale : ℕ) (groups : List PricedGroup) (rent : ℕ →
         ∙ map_same (λ s. cost r (place_of p s)) (paid_in r) (IsSlot p) own_slots (open_in_week p c) (λ s is. same_cost r s lt is)
 
     module _ (lowest : Slot → ℤ) (low : IsLowest p scale groups rent c lowest) where
-      same_lowest : (s : Slot) (z : ℤ) → IsSlot p s → IsLeastPaid (λ r v. v ≡ cost r (place_of p s)) MAX_COST (length p.rooms) z → z ≡ lowest s
+      same_lowest : (s : Slot) (z : ℤ) → IsSlot p s → IsLeastPaid (λ r v. v ≡ cost r (place_of p s)) MAX_COST (length p.rooms) z
+          → z ≡ lowest s
       same_lowest s z is at =
           let w = low.paid s in
           let up = at.least w.0 w.1 (lowest s) (w.2 ∙ sym (same_cost w.0 s w.1 is)) in
           let down = by_case at.paid in
           omega (arith, ints, up, down)
         where
-          by_case : ((length p.rooms ≡ 0) × (pos MAX_COST <ℤ z)) ⊎ ((r : ℕ) × (r < length p.rooms) × (z ≡ cost r (place_of p s))) → lowest s ≤ℤ z
+          by_case : ((length p.rooms ≡ 0) × (pos MAX_COST <ℤ z)) ⊎ ((r : ℕ) × (r < length p.rooms) × (z ≡ cost r (place_of p s)))
+              → lowest s ≤ℤ z
           by_case (inl none) = absurd (omega (arith, some, none.0))
           by_case (inr w) = subst (λ v. lowest s ≤ℤ v) (sym (w.2 ∙ same_cost w.0 s w.1 is)) (low.least w.0 w.1 s)
 

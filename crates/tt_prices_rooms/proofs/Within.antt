@@ -1,5 +1,5 @@
 -- Signed words within limits.
-use Rattle.std.proofs.Common.{◌≡◌, ℕ, ◌+◌, ◌*◌, ◌^◌, ◌≤◌, ◌<◌, List, length, get_or, sym, ap, subst, ◌∙◌, arith, inl, inr, w64, to_z, of_z}
+use Rattle.std.proofs.Common.{◌≡◌, ℕ, ◌+◌, ◌*◌, ◌^◌, ◌≤◌, List, length, get_or, sym, ap, subst, ◌∙◌, arith, inl, inr, w64, to_z, of_z}
 use Rattle.std.specs.Prelude.{ℤ, pos, negsuc, neg_ℤ, ◌+ℤ◌, ◌-ℤ◌, ◌≤ℤ◌, All, FitsSigned}
 use Rattle.std.specs.Int.{int_min}
 use Rattle.std.proofs.Math.Nat.{mul-le-mul_left, mul-le-mul_right}
@@ -51,8 +51,8 @@ points_few p c r scale few seats =
     let less : excess p c r ≤ 1_000_000 = omega (arith, seats) in
     omega (arith, mul-le-mul_right (excess p c r) few, mul-le-mul_left 1_000 less)
 
-pub room_cost-within : (p : Problem) (c scale : ℕ) (rents : List ℕ) (prices : List ℤ) (places : List ℕ) → AreTables p c scale rents prices places
-    → (r k : ℕ) → IsWithin MAX_COST (room_cost p c scale rents prices r k)
+pub room_cost-within : (p : Problem) (c scale : ℕ) (rents : List ℕ) (prices : List ℤ) (places : List ℕ)
+    → AreTables p c scale rents prices places → (r k : ℕ) → IsWithin MAX_COST (room_cost p c scale rents prices r k)
 room_cost-within p c scale rents prices places tables r k =
     cost_within (scale * excess p c r) (get_or rents (r * length prices + k) 0) (get_or prices k (pos 0))
     (points_few p c r scale tables.small_scale tables.seats)
@@ -61,11 +61,13 @@ room_cost-within p c scale rents prices places tables r k =
 
 -- the lesser of what is paid in one room, and a point and what is paid in the cheapest rooms
 pub shared_word : (one each from : ℤ) (scale : ℕ) → IsWithin (2 ^ 62) one → IsWithin (2 ^ 62) each → scale ≤ 1_000 → from ≡ pos scale
-    → int_min (to_z w64 (of_z w64 one)) (to_z w64 (of_z w64 (to_z w64 (of_z w64 from) +ℤ to_z w64 (of_z w64 each)))) ≡ int_min one (pos scale +ℤ each)
+    → int_min (to_z w64 (of_z w64 one)) (to_z w64 (of_z w64 (to_z w64 (of_z w64 from) +ℤ to_z w64 (of_z w64 each))))
+    ≡ int_min one (pos scale +ℤ each)
 shared_word one each from scale first last few is =
     let a = to_z-of_z w64 one (within_fits one first) in
     let b = to_z-of_z w64 each (within_fits each last) in
-    let n : to_z w64 (of_z w64 from) ≡ pos scale = to_z-of_z w64 from (subst (FitsSigned w64) (sym is) (record { sfits = omega (arith, few) })) ∙ is in
+    let small : FitsSigned w64 from = subst (FitsSigned w64) (sym is) (record { sfits = omega (arith, few) }) in
+    let n : to_z w64 (of_z w64 from) ≡ pos scale = to_z-of_z w64 from small ∙ is in
     let sum = to_z-of_z w64 (pos scale +ℤ each) (fits (pos scale +ℤ each)
     (omega (arith, ints, few, last.0)) (omega (arith, ints, few, last.1))) in
     ap (λ z. int_min z (to_z w64 (of_z w64 (to_z w64 (of_z w64 from) +ℤ to_z w64 (of_z w64 each))))) a
@@ -76,6 +78,7 @@ shared_word one each from scale first last few is =
     fits (pos n) low high = record { sfits = omega (arith, ints, high) }
     fits (negsuc n) low high = record { sfits = omega (arith, ints, low) }
 
-pub shared_within : (one each : ℤ) (scale : ℕ) → IsWithin (2 ^ 62) one → IsWithin (2 ^ 62) each → IsWithin (2 ^ 62) (int_min one (pos scale +ℤ each))
+pub shared_within : (one each : ℤ) (scale : ℕ) → IsWithin (2 ^ 62) one → IsWithin (2 ^ 62) each
+    → IsWithin (2 ^ 62) (int_min one (pos scale +ℤ each))
 shared_within one each scale first last =
     (omega (arith, ints, clamps, first.0, last.0), omega (arith, ints, clamps, first.1, last.1))

@@ -17,7 +17,8 @@ fn push_if_open(
     period: u32,
     places: &mut Vec<usize>,
 ) -> Result<(), AllocError>
-    ensures { OnOk result (places.new.items ≡ places.old.items ++ map (place_of instance.now) (filter (is_open instance.now course) (slot day period ∷ []))) }
+    ensures { OnOk result (places.new.items
+        ≡ places.old.items ++ map (place_of instance.now) (filter (is_open instance.now course) (slot day period ∷ []))) }
 {
     if !instance.unavailable(course, day, period) {
         places.push(day as usize * instance.periods() as usize + period as usize)?;
@@ -32,7 +33,8 @@ fn push_open_on(
     day: u32,
     places: &mut Vec<usize>,
 ) -> Result<(), AllocError>
-    ensures { OnOk result (places.new.items ≡ places.old.items ++ map (place_of instance.now) (filter (is_open instance.now course) (map (slot day) (range_below instance.now.periods)))) }
+    ensures { OnOk result (places.new.items ≡ places.old.items
+        ++ map (place_of instance.now) (filter (is_open instance.now course) (map (slot day) (range_below instance.now.periods)))) }
 {
     for period in 0..instance.periods() {
         push_if_open(instance, course, day, period, places)?;

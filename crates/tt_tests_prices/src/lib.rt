@@ -1,7 +1,9 @@
-//! Tests of what groups with prices pay at least, on tiny groups.
+//! Tests of what groups with prices and courses pay at least, on tiny groups and instances.
 #![tactic(auto)]
 
 #[cfg(test)]
 mod drawn;
+#[cfg(test)]
+mod terms;
 #[cfg(test)]
 mod weeks;

@@ -22,7 +22,8 @@ cost_at points rents prices k = pos (points + slice_index rents k) -ℤ slice_in
 
 -- What a lecture of the course pays in a room at a place; the rents of the rooms are one after the other.
 abbrev pub room_cost : Problem → ℕ → ℕ → List ℕ → List ℤ → ℕ → ℕ → ℤ
-room_cost p c scale rents prices r k = pos (scale * excess p c r + slice_index rents (r * length prices + k)) -ℤ slice_index_or prices k (pos 0)
+room_cost p c scale rents prices r k =
+    pos (scale * excess p c r + slice_index rents (r * length prices + k)) -ℤ slice_index_or prices k (pos 0)
 
 -- Of the numbers that are paid in the first n rooms it is one, and none is less; without rooms it is above the limit.
 pub record IsLeastPaid (Paid : ℕ → ℤ → Type 0) (limit n : ℕ) (z : ℤ) : Type 0 where

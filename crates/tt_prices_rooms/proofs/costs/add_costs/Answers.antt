@@ -30,13 +30,14 @@ loop-index-preserved c =
     let least : c.min.result ≡ int_min (get_or old i (pos 0)) (cost k) =
     c.min.ensures.value ∙ ap (λ v. int_min v (to_z w64 (of_z w64 z))) low ∙ ap (int_min (get_or old i (pos 0))) (word ∙ value) in
     let min_fits : FitsSigned w64 c.min.result = search rules in
+    let lowest : ℤ = to_z w64 (of_z w64 c.min.result) in
     let here_costs : i < length c.loop-index.costs = omega (arith, c.loop-index-test.true, c.loop-index.auto.costs, c.requires.costs) in
     let here_lowest : i < length c.loop-index.lowest = omega (arith, c.loop-index-test.true, c.loop-index.auto.lowest, c.requires.lowest) in
     record {
       costs = set_more (λ j. cost (get_or places j 0)) c.loop-index.costs i (to_z w64 (of_z w64 z)) here_costs (word ∙ value) before.costs;
-      lowered = set_more (λ j. int_min (get_or old j (pos 0)) (cost (get_or places j 0))) c.loop-index.lowest i (to_z w64 (of_z w64 c.min.result))
-          here_lowest (to_z-of_z w64 c.min.result min_fits ∙ least) before.lowered;
-      rest = set_rest (λ j. get_or old j (pos 0)) c.loop-index.lowest i (to_z w64 (of_z w64 c.min.result)) before.rest;
+      lowered = set_more (λ j. int_min (get_or old j (pos 0)) (cost (get_or places j 0))) c.loop-index.lowest i lowest here_lowest
+          (to_z-of_z w64 c.min.result min_fits ∙ least) before.lowered;
+      rest = set_rest (λ j. get_or old j (pos 0)) c.loop-index.lowest i lowest before.rest;
     }
 
 pub returns-clause-costs : goal.returns-clause-costs
@@ -45,7 +46,8 @@ returns-clause-costs c =
     let f = cost_at c.args.points c.args.rents.now c.args.prices.now in
     let long : length c.loop-index.costs ≡ length places = c.loop-index.auto.costs ∙ c.requires.costs in
     ext_get_or (pos 0) c.loop-index.costs (map f places) (long ∙ sym (length-map places f)) (λ j lt.
-    c.loop-index.invariant.costs j (omega (arith, lt, long, c.loop-index-test.false)) ∙ sym (get_or-map f places j 0 (pos 0) (omega (arith, lt, long))))
+    let h : j < length places = omega (arith, lt, long) in
+    c.loop-index.invariant.costs j (omega (arith, h, c.loop-index-test.false)) ∙ sym (get_or-map f places j 0 (pos 0) h))
 
 pub returns-clause-within : goal.returns-clause-within
 returns-clause-within c =
@@ -53,4 +55,5 @@ returns-clause-within c =
     let long : length c.loop-index.costs ≡ length places = c.loop-index.auto.costs ∙ c.requires.costs in
     All-from_get_or (IsWithin MAX_COST) c.loop-index.costs (pos 0) (λ j lt.
     subst (IsWithin MAX_COST) (sym (c.loop-index.invariant.costs j (omega (arith, lt, long, c.loop-index-test.false))))
-    (cost_at-within c.args.points c.args.rents.now c.args.prices.now (get_or places j 0) c.requires.points c.requires.rents c.requires.prices))
+    (cost_at-within c.args.points c.args.rents.now c.args.prices.now (get_or places j 0) c.requires.points c.requires.rents
+    c.requires.prices))

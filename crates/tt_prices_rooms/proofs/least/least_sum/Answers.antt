@@ -22,7 +22,8 @@ pub sum_of-requires-2-clause-small : goal.sum_of-requires-2-clause-small
 sum_of-requires-2-clause-small c =
     let r = c.select_nth_unstable-least.result in
     front_small (IsWithin MAX_COST) r.0.now (r.1.now ∷ r.2.now)
-    (All-permutation (IsWithin MAX_COST) c.args.costs.now (r.0.now ++ r.1.now ∷ r.2.now) c.select_nth_unstable-least.ensures.permutation c.requires.small)
+    (All-permutation (IsWithin MAX_COST) c.args.costs.now (r.0.now ++ r.1.now ∷ r.2.now) c.select_nth_unstable-least.ensures.permutation
+    c.requires.small)
 
 pub returns-clause-least : goal.returns-clause-least
 returns-clause-least c =
@@ -31,4 +32,5 @@ returns-clause-least c =
     let word = to_z-of_z w64 c.sum_of-2.result (within_fits c.sum_of-2.result c.sum_of-2.ensures.within) in
     subst (IsLeastSum c.args.count ys) (sym (word ∙ c.sum_of-2.ensures.sum))
     (subst (λ n. IsLeastSum n ys (signed_sum (λ z. z) r.0.now)) c.select_nth_unstable-least.ensures.front_len
-    (split_least ys r.0.now r.1.now r.2.now c.select_nth_unstable-least.ensures.permutation c.select_nth_unstable-least.ensures.partitioned))
+    (split_least ys r.0.now r.1.now r.2.now c.select_nth_unstable-least.ensures.permutation
+    c.select_nth_unstable-least.ensures.partitioned))

@@ -14,7 +14,8 @@ loop-cost-preserved c =
     let s : ℤ = to_z w64 c.loop-cost.sum-bits in
     let same : to_z w64 (of_z w64 x) ≡ x = to_z-of_z w64 x (cost_fits x small) in
     let fits = sum_fits s x i (omega (arith, there, c.requires.few)) c.loop-cost.invariant.low c.loop-cost.invariant.high small in
-    let next : to_z w64 (of_z w64 (s +ℤ to_z w64 (of_z w64 x))) ≡ s +ℤ x = ap (λ z. to_z w64 (of_z w64 (s +ℤ z))) same ∙ to_z-of_z w64 (s +ℤ x) fits in
+    let next : to_z w64 (of_z w64 (s +ℤ to_z w64 (of_z w64 x))) ≡ s +ℤ x =
+    ap (λ z. to_z w64 (of_z w64 (s +ℤ z))) same ∙ to_z-of_z w64 (s +ℤ x) fits in
     record {
       sum = next ∙ sum_more ys i s there c.loop-cost.invariant.sum;
       low = omega (arith, ints, next, c.loop-cost.invariant.low, small.0);

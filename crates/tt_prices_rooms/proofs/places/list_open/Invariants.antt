@@ -6,4 +6,5 @@ use Rattle.tt_prices_rooms.proofs.Listing.{opened}
 use Rattle.tt_prices_rooms.proofs.places.list_open.Given as goal
 
 abbrev pub invariant-loop-day : goal.invariant-loop-day
-invariant-loop-day l = l.places.items ≡ opened l.instance l.course (flat_map (λ d. map (slot d) (range_below l.instance.periods)) (range_below l.day))
+invariant-loop-day l =
+    l.places.items ≡ opened l.instance l.course (flat_map (λ d. map (slot d) (range_below l.instance.periods)) (range_below l.day))

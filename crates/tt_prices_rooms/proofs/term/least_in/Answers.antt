@@ -59,9 +59,11 @@ returns-clause-lowered c =
     let k = get_or places i 0 in
     let own : get_or c.deref-2.result.now i 0 ≡ k = ap (λ (l : List _). get_or l i 0) c.deref-2.ensures.value in
     let there : i < length c.deref-2.result.now = subst (λ (l : List _). i < length l) (sym c.deref-2.ensures.value) lt in
-    ap (λ (l : List ℤ). get_or l i (pos 0)) (take_at new (drop (length new) lowest.items) lowest.len (c.add_costs.auto.lowest ∙ c.deref_mut-2.ensures.len))
+    ap (λ (l : List ℤ). get_or l i (pos 0))
+    (take_at new (drop (length new) lowest.items) lowest.len (c.add_costs.auto.lowest ∙ c.deref_mut-2.ensures.len))
     ∙ c.add_costs.ensures.lowered i there
     ∙ ap (λ (l : List ℤ). int_min (get_or l i (pos 0)) (row (get_or c.deref-2.result.now i 0))) c.deref_mut-2.ensures.value
     ∙ ap (λ j. int_min (get_or lowest.items i (pos 0)) (row j)) own
-    ∙ ap (int_min (get_or lowest.items i (pos 0))) (cost_at-room p c.args.course c.args.room scale (scale * missing) rents tail prices k (ap (λ n. scale * n) is)
+    ∙ ap (int_min (get_or lowest.items i (pos 0)))
+    (cost_at-room p c.args.course c.args.room scale (scale * missing) rents tail prices k (ap (λ n. scale * n) is)
     (take_rest all first ∙ ap (drop first) c.deref.ensures.value))

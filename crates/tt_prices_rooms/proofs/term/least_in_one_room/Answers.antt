@@ -28,7 +28,8 @@ loop-room-preserved c =
     let sum = subst (λ (l : List ℕ). IsLeastSum (lectures p k) (map (cost n) l) v) before.places c.least_in.ensures.least in
     let fits : FitsSigned w64 c.min-least.result = search rules in
     let next : to_z w64 (of_z w64 c.min-least.result) ≡ int_min z v =
-    to_z-of_z w64 c.min-least.result fits ∙ c.min-least.ensures.value ∙ ap (int_min z) (to_z-of_z w64 v (within_fits v c.least_in.ensures.within)) in
+    to_z-of_z w64 c.min-least.result fits ∙ c.min-least.ensures.value
+    ∙ ap (int_min z) (to_z-of_z w64 v (within_fits v c.least_in.ensures.within)) in
     let within = min_within MAX_TERM z v before.low c.least_in.ensures.within in
     record {
       least = subst (IsLeastInRoom p k cost places (n + 1)) (sym next)

@@ -16,8 +16,8 @@ use Rattle.tt_prices_rooms.proofs.term.term_of.Goals as goal
 pub least_in_one_room-one-requires-clause-tables : goal.least_in_one_room-one-requires-clause-tables
 least_in_one_room-one-requires-clause-tables c =
     tables_of c.args.instance.now c.args.course c.args.rooms.now.scale c.args.rooms.now.rents.items c.args.prices.now
-    c.begin.new.self.places.items c.days.ensures.instance c.requires.course c.requires.scale c.requires.rents c.requires.rooms c.requires.prices
-    c.requires.periods c.in_ok-begin.ensures.places (omega (arith, c.if-len-count.false, c.lectures-count.ensures.value, c.len.ensures))
+    c.begin.new.self.places.items c.days.ensures.instance c.requires.course c.requires.scale c.requires.rents c.requires.rooms
+    c.requires.prices c.requires.periods c.in_ok-begin.ensures.places (omega (arith, c.if-len-count.false, c.lectures-count.ensures.value, c.len.ensures))
 
 pub returns-then-count-lt2-clause-some : goal.returns-then-count-lt2-clause-some
 returns-then-count-lt2-clause-some c = λ groups rent priced rented.
@@ -43,13 +43,13 @@ least_sum-each-requires-clause-small c =
     let rents = c.args.rooms.now.rents.items in
     let prices = c.args.prices.now in
     let places = c.begin.new.self.places.items in
-    let tables = tables_of p c.args.course scale rents prices places c.days.ensures.instance c.requires.course c.requires.scale c.requires.rents
-    c.requires.rooms c.requires.prices c.requires.periods c.in_ok-begin.ensures.places
+    let tables = tables_of p c.args.course scale rents prices places c.days.ensures.instance c.requires.course c.requires.scale
+    c.requires.rents c.requires.rooms c.requires.prices c.requires.periods c.in_ok-begin.ensures.places
     (omega (arith, c.if-len-count.false, c.lectures-count.ensures.value, c.len.ensures)) in
     subst (All (IsWithin MAX_COST)) (sym c.deref_mut.ensures.value)
     (lowest_within (room_cost p c.args.course scale rents prices) places (length p.rooms) c.least_in_one_room-one.new.buffers.lowest.items
-    c.least_in_one_room-one.ensures.lowest (omega (arith, c.if-rooms-eq0.false, c.rooms.ensures.value)) c.least_in_one_room-one.ensures.length
-    (room_cost-within p c.args.course scale rents prices places tables))
+    c.least_in_one_room-one.ensures.lowest (omega (arith, c.if-rooms-eq0.false, c.rooms.ensures.value))
+    c.least_in_one_room-one.ensures.length (room_cost-within p c.args.course scale rents prices places tables))
 
 pub returns-clause-some : goal.returns-clause-some
 returns-clause-some c = λ groups rent priced rented.
@@ -63,12 +63,13 @@ returns-clause-some c = λ groups rent priced rented.
     let fits : FitsSigned w64 c.min.result = search rules in
     let word : to_z w64 (of_z w64 c.min.result) ≡ int_min one (pos scale +ℤ each) =
     to_z-of_z w64 c.min.result fits ∙ c.min.ensures.value
-    ∙ shared_word one each c.from.result scale (c.least_in_one_room-one.ensures.within some) c.least_sum-each.ensures.within c.requires.scale c.from.ensures in
+    ∙ shared_word one each c.from.result scale (c.least_in_one_room-one.ensures.within some) c.least_sum-each.ensures.within c.requires.scale
+    c.from.ensures in
     let sum = subst (λ n. IsLeastSum n lowest each) c.lectures-count.ensures.value
     (subst (λ (l : List ℤ). IsLeastSum c.lectures-count.result l each) c.deref_mut.ensures.value c.least_sum-each.ensures.least) in
     subst (IsTerm p scale groups rent k) (sym word)
-    (term_shared p scale groups rent k c.args.rooms.now.rents.items c.args.prices.now c.begin.new.self.places.items priced rented c.requires.periods
-    c.in_ok-begin.ensures.places some one c.least_in_one_room-one.ensures.least lowest each
+    (term_shared p scale groups rent k c.args.rooms.now.rents.items c.args.prices.now c.begin.new.self.places.items priced rented
+    c.requires.periods c.in_ok-begin.ensures.places some one c.least_in_one_room-one.ensures.least lowest each
     (omega (arith, c.if-count-lt2.false, c.lectures-count.ensures.value)) c.least_in_one_room-one.ensures.length
     c.least_in_one_room-one.ensures.lowest sum)
 
