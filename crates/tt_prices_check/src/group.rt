@@ -8,7 +8,7 @@ ghost use Rattle.tt_prices.specs.Rows.{group_of};
 ghost use Rattle.tt_prices_check.specs.Groups.{IsGroupOf, IsLeast, HasDays, is_too_wide, states_of, sets_of};
 ghost use Rattle.tt_prices_check.specs.declared.fault.PricedFault.TheVariants as fault;
 ghost use Rattle.tt_prices_day.specs.Shapes.{IsShape};
-ghost use Rattle.tt_prices_day.specs.declared.node.TheConstants.{MAX_SCALE};
+ghost use Rattle.tt_prices.specs.declared.price.TheConstants.{MAX_SCALE};
 ghost use Rattle.tt_prices_week.specs.Moves.{AreReady};
 ghost use Rattle.tt_prices_week.specs.Week.{base_paid};
 

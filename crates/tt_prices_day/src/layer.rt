@@ -4,12 +4,13 @@ ghost use Rattle.std.specs.Prelude.{◌≡◌, ◌⊎◌, ℕ, ◌+◌, ◌*◌,
 ghost use Rattle.tt_groups_day.specs.declared.fault.DaysFault.TheVariants as fault;
 ghost use Rattle.tt_prices_day.specs.Inner.Layers.{IsNext, IsOver, IsNodeWithin, IsLetterWithin, AreFollowed, AreReached, IsEndOf, AreEnded, AreEndsOf};
 ghost use Rattle.tt_prices.specs.Limits.{IsWithin};
+ghost use Rattle.tt_prices.specs.declared.price.TheConstants.{MAX_SCALE};
 ghost use Rattle.tt_prices_day.specs.declared.letters.Letter.{Letter};
 ghost use Rattle.tt_prices_day.specs.declared.node.Node.{Node};
 
 use crate::cheapest::keep_cheapest;
 use crate::letters::Letter;
-use crate::node::{Key, MAX_SCALE, Node, next_node};
+use crate::node::{Key, Node, next_node};
 use crate::rules::Rules;
 use std::alloc::{AllocError, Global};
 use tt_groups_day::DaysFault;
