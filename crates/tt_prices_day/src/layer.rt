@@ -63,6 +63,7 @@ pub fn next_layer(
     ensures followed { IfOk result (λ v. AreFollowed rules.now scale letters.now layer.now v.items) }
     ensures reached { IfOk result (λ v. AreReached rules.now scale letters.now layer.now v.items) }
     ensures within { IfOk result (λ v. (n : ℕ) → All (IsNodeWithin n) layer.now → All (IsNodeWithin (n + 2 ^ 31)) v.items) }
+    ensures fewer { steps.new ≤ steps.old }
     ensures used_up { result ≡ Err fault.TooMuchWork → steps.new ≡ 0 }
 {
     use_up(steps, layer.len() as u64, letters.len() as u64)?;
@@ -77,6 +78,7 @@ pub fn next_layer(
 
 /// Subtracts a step for each pair of a node and a letter.
 fn use_up(steps: &mut u64, nodes: u64, letters: u64) -> Result<(), DaysFault>
+    ensures fewer { steps.new ≤ steps.old }
     ensures used_up { result ≡ Err fault.TooMuchWork → steps.new ≡ 0 }
 {
     match steps.checked_sub(nodes.saturating_mul(letters)) {

@@ -2,7 +2,7 @@ use Rattle.std.proofs.Common.{◌≡◌, ℕ, ◌<◌, ◌≤◌, ◌^◌, List,
 use Rattle.std.specs.Prelude.{slice_index, IfSome}
 use Rattle.tt_prices.specs.Limits.{IsWithin}
 use Rattle.tt_prices.specs.Rows.{group_of}
-use Rattle.tt_prices_check.specs.Groups.{HasDays}
+use Rattle.tt_prices_check.specs.Inner.Days.{HasDays}
 use Rattle.tt_prices_week.specs.Week.{IsLeastPlan}
 use Rattle.tt_prices_week.proofs.Timetables.{least_timetable}
 use Rattle.tt_prices_check.proofs.Narrow.{concerned-below, is_narrow, few_counted, few_sizes, counted_within, size_range}
@@ -54,36 +54,36 @@ new-requires-2-clause-narrow c =
 pub least_week-requires-clause-few : goal.least_week-requires-clause-few
 least_week-requires-clause-few c = omega (arith, c.deref-3.ensures.value, ap length c.deref-3.ensures.value, c.in_ok-week.ensures.all, c.days.ensures.value, c.days.ensures.within)
 
-pub returns-in-Some-2-clause-least : goal.returns-in-Some-2-clause-least
-returns-in-Some-2-clause-least c =
+pub returns-in-Ok-Some-clause-least : goal.returns-in-Ok-Some-clause-least
+returns-in-Ok-Some-clause-least c =
     let p = c.args.instance.now in
     let g = group_of c.args.group.now in
     let scale = c.args.scale in
     let sized = subst (λ o. IfSome o (λ d. (d.sizes.items ≡ c.in_ok-sizes.field-0.sizes.items) × (d.courses ≡ c.in_ok-sizes.field-0.counted)))
     c.in-Some.is c.in_ok-digits.ensures.made in
-    let days = subst (λ s. HasDays p s g c.in_ok-week.week.items) c.in_ok-shape.ensures.scale c.in_ok-week.ensures.each_day in
+    let days = subst (λ s. HasDays p s g c.in_ok-week.week.items) c.in-Ok.ensures.scale c.in_ok-week.ensures.each_day in
     let suits = suits_of p scale g (sized.0 ∙ c.in_ok-sizes.ensures.sizes) (sized.1 ∙ c.in_ok-sizes.ensures.counted)
     c.in_ok-week.ensures.all days c.deref-3.ensures.value in
-    let least = subst (IsLeastPlan p scale g) c.in-Some-2.is (c.in_ok-least.ensures.least p g suits) in
-    let small = subst (λ o. IfSome o (IsWithin (2 ^ 57))) c.in-Some-2.is c.in_ok-least.ensures.small in
-    least_total p scale g c.in-Some-2.least c.base_paid.result
-    (least_timetable p scale g (concerned-below p g c.days.ensures.instance c.requires.in_range) (Some c.in-Some-2.least) least)
+    let least = subst (IsLeastPlan p scale g) c.in-Ok-Some.field-0-is (c.in-Ok-Some.ensures.least p g suits) in
+    let small = subst (λ o. IfSome o (IsWithin (2 ^ 57))) c.in-Ok-Some.field-0-is c.in-Ok-Some.ensures.small in
+    least_total p scale g c.in-Ok-Some.least c.base_paid.result
+    (least_timetable p scale g (concerned-below p g c.days.ensures.instance c.requires.in_range) (Some c.in-Ok-Some.least) least)
     c.base_paid.ensures.value small c.base_paid.ensures.small
 
-pub returns-in-Some-2-clause-small : goal.returns-in-Some-2-clause-small
-returns-in-Some-2-clause-small c =
-    let small = subst (λ o. IfSome o (IsWithin (2 ^ 57))) c.in-Some-2.is c.in_ok-least.ensures.small in
-    small_total c.in-Some-2.least c.base_paid.result small c.base_paid.ensures.small
+pub returns-in-Ok-Some-clause-small : goal.returns-in-Ok-Some-clause-small
+returns-in-Ok-Some-clause-small c =
+    let small = subst (λ o. IfSome o (IsWithin (2 ^ 57))) c.in-Ok-Some.field-0-is c.in-Ok-Some.ensures.small in
+    small_total c.in-Ok-Some.least c.base_paid.result small c.base_paid.ensures.small
 
-pub returns-clause-least : goal.returns-clause-least
-returns-clause-least c =
+pub returns-in-Ok-None-clause-least : goal.returns-in-Ok-None-clause-least
+returns-in-Ok-None-clause-least c =
     let p = c.args.instance.now in
     let g = group_of c.args.group.now in
     let scale = c.args.scale in
     let sized = subst (λ o. IfSome o (λ d. (d.sizes.items ≡ c.in_ok-sizes.field-0.sizes.items) × (d.courses ≡ c.in_ok-sizes.field-0.counted)))
     c.in-Some.is c.in_ok-digits.ensures.made in
-    let days = subst (λ s. HasDays p s g c.in_ok-week.week.items) c.in_ok-shape.ensures.scale c.in_ok-week.ensures.each_day in
+    let days = subst (λ s. HasDays p s g c.in_ok-week.week.items) c.in-Ok.ensures.scale c.in_ok-week.ensures.each_day in
     let suits = suits_of p scale g (sized.0 ∙ c.in_ok-sizes.ensures.sizes) (sized.1 ∙ c.in_ok-sizes.ensures.counted)
     c.in_ok-week.ensures.all days c.deref-3.ensures.value in
-    let least = subst (IsLeastPlan p scale g) c.in-None.is (c.in_ok-least.ensures.least p g suits) in
+    let least = subst (IsLeastPlan p scale g) c.in-Ok-None.field-0-is (c.in-Ok-None.ensures.least p g suits) in
     least_timetable p scale g (concerned-below p g c.days.ensures.instance c.requires.in_range) None least

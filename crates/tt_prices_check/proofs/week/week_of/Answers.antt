@@ -9,11 +9,11 @@ use Rattle.tt_prices.specs.Days.{IsDayList}
 use Rattle.tt_prices.specs.Prices.{PricedGroup}
 use Rattle.tt_prices.specs.Rows.{group_of}
 use Rattle.tt_prices.specs.declared.day.PricedDay.{PricedDay}
-use Rattle.tt_prices_check.specs.Groups.{HasDays}
+use Rattle.tt_prices_check.specs.Inner.Days.{HasDays}
 use Rattle.tt_prices_day.proofs.Growing.{all_pushed}
 use Rattle.tt_prices_week.specs.Moves.{AreReady, AreMovesOf}
 use Rattle.tt_prices_week.specs.declared.moves.PricedMove.{PricedMove}
-use Rattle.tt_prices_check.proofs.group.week_of.Goals as goal
+use Rattle.tt_prices_check.proofs.week.week_of.Goals as goal
 
 -- another day, at the end
 days_more : (p : Problem) (scale : ℕ) (g : PricedGroup) (old : List (Vec PricedMove Global)) (moves : Vec PricedMove Global) (days : List PricedDay)
@@ -45,7 +45,8 @@ loop-day-preserved c =
       ready = subst (All (λ (m : Vec PricedMove Global). AreReady digits.sizes.items digits.weights.items digits.courses m.items)) (sym items)
           (all_pushed (λ (m : Vec PricedMove Global). AreReady digits.sizes.items digits.weights.items digits.courses m.items) old moves before.ready
           c.in_ok-moves.ensures.ready);
-      each_day = subst (HasDays p scale g) (sym items) (days_more p scale g old moves c.in_ok-days.days.items before.each_day
-          (subst (λ n. IsDayList p scale g n c.in_ok-days.days.items) (sym before.all) c.in_ok-days.ensures.list)
+      each_day = subst (HasDays p scale g) (sym items) (days_more p scale g old moves c.in-Ok.days.items before.each_day
+          (subst (λ n. IsDayList p scale g n c.in-Ok.days.items) (sym before.all) c.in-Ok.ensures.list)
           (subst (λ (l : List PricedDay). AreMovesOf l moves.items) c.deref.ensures.value c.in_ok-moves.ensures.moves));
+      fewer = omega (arith, before.fewer, c.in-Ok.ensures.fewer);
     }
