@@ -1,21 +1,20 @@
 -- The bound of a file that is right holds for each feasible timetable, and a file has at most one total.
 use Rattle.std.proofs.Common.{◌≡◌, ℕ, ◌+◌, ◌-◌, ◌*◌, ◌≤◌, ◌<◌, zero, suc, Bool, true, false, cond, List, [], ◌∷◌, length, map, Some, refl, sym, ap, subst, ◌∙◌, arith, inl, inr}
-use Rattle.std.specs.Prelude.{◌⊎◌, ℤ, pos, ◌+ℤ◌, ◌<ℤ◌, ◌≤ℤ◌, int_lt, All, flat_map, sum_by}
+use Rattle.std.specs.Prelude.{ℤ, pos, ◌+ℤ◌, ◌≤ℤ◌, int_lt, All, flat_map, sum_by}
 use Rattle.std.proofs.lemmas.Bool.{cases_lt, cases_Bool}
 use Rattle.std.proofs.lemmas.Int.{ints}
 use Rattle.std.proofs.lemmas.List.Elements.{All-weaker, recursion_from_All}
 use Rattle.std.proofs.Math.Nat.{mul-add, mul-le-mul_left}
 use Rattle.std.specs.List.{AllByRecursion}
-use Rattle.tt_list_laws.specs.Words.{range_below}
 use Rattle.tt_list_laws.proofs.Range.{below_member}
 use Rattle.tt_list_laws.proofs.Sums.{sum_by-plus, sum_by-same, sum_by-of_map, sum_by-of_flat_map}
 use Rattle.tt_instance.specs.Problem.{Problem}
-use Rattle.tt_instance.specs.Cells.{all_courses, all_rooms, all_slots, cell}
+use Rattle.tt_instance.specs.Cells.{all_courses, cell}
 use Rattle.tt_instance.specs.declared.cell.Cell.{Cell}
 use Rattle.tt_instance.specs.declared.cell.Slot.{Slot}
 use Rattle.tt_rules.specs.Score.{IsFeasible}
 use Rattle.tt_rules.specs.Soft.{capacity_count, compactness_cost, days_cost, stability_count}
-use Rattle.tt_prices.specs.Prices.{PricedGroup, points, paid, working_days_cost, cell_cost, IsRelaxedTimetable, IsGroupBound, IsCourseBound}
+use Rattle.tt_prices.specs.Prices.{PricedGroup, points, working_days_cost, cell_cost, IsGroupBound, IsCourseBound}
 use Rattle.tt_prices.specs.Signed.{signed_sum}
 use Rattle.tt_prices.proofs.Groups.{days_paid}
 use Rattle.tt_prices.proofs.Signed.{signed_sum-same_member}
@@ -23,7 +22,7 @@ use Rattle.tt_prices.proofs.Whole.{all_pay}
 use Rattle.tt_prices_check.specs.Groups.{IsLeast}
 use Rattle.tt_prices_read.specs.Reading.{Part}
 use Rattle.tt_prices_read.specs.declared.header.Header.{Header}
-use Rattle.tt_prices_rooms.specs.Terms.{IsPaid, IsLowest, IsTerm}
+use Rattle.tt_prices_rooms.specs.Terms.{IsLowest, IsTerm}
 use Rattle.tt_prices_rooms.proofs.Bounds.{term_bounds}
 use Rattle.tt_prices_rooms.proofs.Sums.{lower, upper}
 use Rattle.tt_prices_file.specs.Files.{groups_of, curricula_in, courses_in, rent_of, all_rents, room_scale, HasTotal, IsRight}

@@ -1,4 +1,1 @@
-pub mod Claims
-pub mod Faults
 pub mod Files
-pub mod UpToFailedRead

@@ -1,12 +1,6 @@
-//! Files of groups with prices, whose groups, terms of courses and rents bound the cost together.
+//! What files of groups with prices mean: their groups, the terms of all courses and the rents bound the cost together.
 #![tactic(auto)]
 
-mod check;
-mod claim;
-mod fault;
 mod laws;
 
-pub use check::check_prices;
-pub use claim::PricesClaim;
-pub use fault::PricesFault;
 pub use laws::{files_have_one_total, files_hold};
