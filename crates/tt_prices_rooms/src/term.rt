@@ -46,7 +46,7 @@ impl TermBuffers {
         }
     }
 
-    /// Lists the places of a course, and makes room for a number at each of them.
+    /// Lists the places of a course, and gives the other buffers a number for each of them.
     fn begin(&mut self, instance: &Instance<'_>, course: u32) -> Result<(), AllocError>
         ensures places { OnOk result (self.new.places.items ≡ map (place_of instance.now) (open_slots instance.now course)) }
         ensures costs { OnOk result (length self.new.costs.items ≡ length self.new.places.items) }
