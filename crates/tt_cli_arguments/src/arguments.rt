@@ -38,7 +38,7 @@ pub enum Request<'a> {
 }
 
 /// The version, and the toolchain with which the program was proved, as `rt version` names it.
-const VERSION: &str = "0.1 (rattle-kit-13b logic dac8208d650f15bf)";
+const VERSION: &str = "0.1 (rattle-kit-13f logic dac8208d650f15bf)";
 
 /// The commands, in the order of the help.
 const COMMANDS: [Description<'static>; 12] = [

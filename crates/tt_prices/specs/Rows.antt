@@ -1,18 +1,27 @@
 -- Prices as rows: a row for each course that has prices, with a number for each period of the week.
-use Rattle.std.specs.Prelude.{ℕ, ◌+◌, ◌*◌, ◌==◌, ℤ, pos, neg_ℤ, ◌≤ℤ◌, List, [], ◌∷◌, unwrap_or, slice_get, if◌then◌else◌}
+use Rattle.std.specs.Prelude.{ℕ, ◌+◌, ◌*◌, ◌==◌, ℤ, pos, List, [], ◌∷◌, map, unwrap_or, slice_get, if◌then◌else◌}
 use Rattle.tt_instance.specs.declared.cell.Slot.{Slot}
 use Rattle.tt_prices.specs.Prices as spec
 use Rattle.tt_prices.specs.declared.group.PriceRow.{PriceRow}
 use Rattle.tt_prices.specs.declared.group.PricedGroup.{PricedGroup}
+
+-- A course and its prices.
+pub record Row : Type 0 where
+  pub course : ℕ
+  pub prices : List ℤ
+
+-- The row that a value of the program stands for.
+abbrev pub row_of : PriceRow → Row
+row_of row = record { course = row.course; prices = row.prices.items }
 
 -- The price in a row is the number of the period, counted over days of so many periods each; 0 if the row is too short.
 abbrev pub price_at : ℕ → List ℤ → Slot → ℤ
 price_at periods prices s = unwrap_or (slice_get prices (s.day * periods + s.period)) (pos 0)
 
 -- The price of a course in a period is that of the course's first row; 0 if it has none.
-abbrev pub price_in : ℕ → List PriceRow → ℕ → Slot → ℤ
+abbrev pub price_in : ℕ → List Row → ℕ → Slot → ℤ
 price_in periods [] c s = pos 0
-price_in periods (row ∷ rows) c s = if row.course == c then price_at periods row.prices.items s else price_in periods rows c s
+price_in periods (row ∷ rows) c s = if row.course == c then price_at periods row.prices s else price_in periods rows c s
 
 -- The group that a value of the program stands for.
 abbrev pub group_of : PricedGroup → spec.PricedGroup
@@ -21,5 +30,5 @@ group_of g = record {
   courses = g.courses.items;
   further = g.further.items;
   uncounted = g.uncounted.items;
-  price = price_in g.periods g.rows.items;
+  price = price_in g.periods (map row_of g.rows.items);
 }

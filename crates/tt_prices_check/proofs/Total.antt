@@ -5,7 +5,8 @@ use Rattle.tt_instance.specs.Problem.{Problem}
 use Rattle.tt_prices.specs.Days.{counted_of}
 use Rattle.tt_prices.specs.Limits.{IsWithin}
 use Rattle.tt_prices.specs.Prices.{PricedGroup}
-use Rattle.tt_prices_check.specs.Groups.{IsLeast, HasDays}
+use Rattle.tt_prices_check.specs.Groups.{IsLeast}
+use Rattle.tt_prices_check.specs.Inner.Days.{HasDays}
 use Rattle.tt_prices_day.proofs.Within.{within-more, within-plus, sum-of}
 use Rattle.tt_prices_week.specs.Week.{Suits, week_sizes, base_paid, IsLeastTimetable}
 use Rattle.tt_prices_week.specs.declared.moves.PricedMove.{PricedMove}

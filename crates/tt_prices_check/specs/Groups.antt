@@ -1,6 +1,5 @@
--- Groups with prices of an instance, and what they pay at least.
-use Rattle.std.specs.Prelude.{◌≡◌, ℕ, ◌<◌, nat_lt, ℤ, true, ◌||◌, Bool, List, length, All, Option, MatchOption, Vec, slice_index_or}
-use Rattle.std.specs.Global.{Global}
+-- Groups with prices of an instance, what they pay at least, and why that isn't found.
+use Rattle.std.specs.Prelude.{◌≡◌, ℕ, ◌<◌, ◌≤◌, nat_lt, ℤ, true, false, ◌||◌, Bool, List, length, All, Option, MatchOption}
 use Rattle.std.specs.List.{list_any}
 use Rattle.tt_list_laws.specs.Words.{are_distinct}
 use Rattle.tt_instance.specs.Problem.{Problem}
@@ -8,12 +7,13 @@ use Rattle.tt_instance.specs.Courses.{lectures}
 use Rattle.tt_instance.specs.declared.cell.Cell.{Cell}
 use Rattle.tt_groups.specs.Places.{places}
 use Rattle.tt_groups_day.specs.Counting.{sets_count}
-use Rattle.tt_prices.specs.Days.{courses_of, IsDayList}
+use Rattle.tt_groups_day.specs.declared.sets.TheConstants.{MAX_SETS}
+use Rattle.tt_groups_week.specs.declared.digits.TheConstants.{MAX_PLACES}
+use Rattle.tt_prices.specs.Days.{courses_of}
 use Rattle.tt_prices.specs.Prices.{PricedGroup, IsRelaxedTimetable, IsGroupBound, paid}
-use Rattle.tt_prices.specs.declared.day.PricedDay.{PricedDay}
-use Rattle.tt_prices_week.specs.Moves.{AreMovesOf}
 use Rattle.tt_prices_week.specs.Week.{week_sizes}
-use Rattle.tt_prices_week.specs.declared.moves.PricedMove.{PricedMove}
+use Rattle.tt_prices_check.specs.declared.fault.PricedFault.{PricedFault}
+use Rattle.tt_prices_check.specs.declared.fault.PricedFault.TheVariants.{TooWide, TooManyStates, TooManySets, TooMuchWork}
 use Rattle.tt_prices_check.specs.declared.width.TheConstants.{MAX_GROUP_CURRICULA, MAX_GROUP_COURSES}
 use Rattle.tt_prices_day.specs.declared.rules.TheConstants.{MAX_LECTURES}
 
@@ -38,12 +38,20 @@ states_of p g = places (week_sizes p g)
 abbrev pub sets_of : Problem → PricedGroup → ℕ
 sets_of p g = sets_count p (courses_of p g)
 
+-- A group is within the limits if it isn't too wide and has few enough states and sets.
+pub record IsWithinLimits (p : Problem) (g : PricedGroup) : Type 0 where
+  pub narrow : is_too_wide p g ≡ false
+  pub states : states_of p g ≤ MAX_PLACES
+  pub sets : sets_of p g ≤ MAX_SETS
+
+-- A refusal names the first limit that the group exceeds, of its width, its states and its sets, or the limits on work, if it exceeds none.
+abbrev pub IsRefusal : Problem → PricedGroup → PricedFault → Type 0
+IsRefusal p g TooWide = is_too_wide p g ≡ true
+IsRefusal p g TooManyStates = (is_too_wide p g ≡ false) × (MAX_PLACES < states_of p g)
+IsRefusal p g TooManySets = (is_too_wide p g ≡ false) × (states_of p g ≤ MAX_PLACES) × (MAX_SETS < sets_of p g)
+IsRefusal p g TooMuchWork = IsWithinLimits p g
+
 -- The number is the least that the group pays in a relaxed timetable; there is no number if there is no relaxed timetable.
 abbrev pub IsLeast : Problem → ℕ → PricedGroup → Option ℤ → Type 0
 IsLeast p scale g least = MatchOption least ((t : List Cell) → IsRelaxedTimetable p g t → ⊥)
     (λ v. IsGroupBound p scale g v × ((t : List Cell) × IsRelaxedTimetable p g t × (paid p scale g t ≡ v)))
-
--- Whether each day has the moves of its list.
-abbrev pub HasDays : Problem → ℕ → PricedGroup → List (Vec PricedMove Global) → Type 0
-HasDays p scale g week = (d : ℕ) (v : Vec PricedMove Global) → d < length week
-    → (days : List PricedDay) × IsDayList p scale g d days × AreMovesOf days (slice_index_or week d v).items

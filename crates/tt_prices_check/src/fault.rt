@@ -1,64 +1,56 @@
 //! Why it isn't found what a group pays at least.
 
 ghost use Rattle.std.specs.Prelude.{◌≡◌};
-ghost use Rattle.tt_prices_check.specs.Faults.{fault_from_sets, fault_from_days, fault_from_week};
-ghost use Rattle.tt_prices_check.specs.declared.fault.PricedFault.TheVariants as fault;
+ghost use Rattle.tt_prices_check.specs.Inner.Faults.{stop_from_sets, stop_from_days, stop_from_week};
 
-use std::alloc::AllocError;
+use thiserror::Error;
 use tt_groups_day::{DaysFault, SetsFault};
 use tt_groups_week::WeekFault;
+use tt_stop::Stop;
 
 /// Why it isn't found what a group pays at least. None of them says anything about the group's prices.
-#[derive(Clone, Copy, Debug, PartialEq, Eq)]
+#[derive(Clone, Copy, Debug, PartialEq, Eq, Error)]
 pub enum PricedFault {
     /// The group has too many curricula, courses or lectures of a course.
+    #[error("TooWide")]
     TooWide,
     /// The table of the week has too many places.
+    #[error("TooManyStates")]
     TooManyStates,
     /// The courses have too many sets in which no two conflict.
+    #[error("TooManySets")]
     TooManySets,
     /// The limits on work were reached.
+    #[error("TooMuchWork")]
     TooMuchWork,
-    OutOfMemory,
 }
 
-impl From<AllocError> for PricedFault {
-    ghost from_gives = { λ _ e. e ≡ fault.OutOfMemory };
-
-    fn from(_: AllocError) -> Self {
-        PricedFault::OutOfMemory
+/// Returns why a group is stopped by a fault of its sets.
+pub fn stop_from_sets(fault: SetsFault) -> Stop<PricedFault>
+    ensures { result ≡ stop_from_sets fault }
+{
+    match fault {
+        SetsFault::TooManySets => Stop::Fault(PricedFault::TooManySets),
+        SetsFault::OutOfMemory => Stop::OutOfMemory,
     }
 }
 
-impl From<SetsFault> for PricedFault {
-    ghost from_gives = { λ f e. e ≡ fault_from_sets f };
-
-    fn from(refusal: SetsFault) -> Self {
-        match refusal {
-            SetsFault::TooManySets => PricedFault::TooManySets,
-            SetsFault::OutOfMemory => PricedFault::OutOfMemory,
-        }
+/// Returns why a group is stopped by a fault of one of its days.
+pub fn stop_from_days(fault: DaysFault) -> Stop<PricedFault>
+    ensures { result ≡ stop_from_days fault }
+{
+    match fault {
+        DaysFault::TooMuchWork => Stop::Fault(PricedFault::TooMuchWork),
+        DaysFault::OutOfMemory => Stop::OutOfMemory,
     }
 }
 
-impl From<DaysFault> for PricedFault {
-    ghost from_gives = { λ f e. e ≡ fault_from_days f };
-
-    fn from(refusal: DaysFault) -> Self {
-        match refusal {
-            DaysFault::TooMuchWork => PricedFault::TooMuchWork,
-            DaysFault::OutOfMemory => PricedFault::OutOfMemory,
-        }
-    }
-}
-
-impl From<WeekFault> for PricedFault {
-    ghost from_gives = { λ f e. e ≡ fault_from_week f };
-
-    fn from(refusal: WeekFault) -> Self {
-        match refusal {
-            WeekFault::TooMuchWork => PricedFault::TooMuchWork,
-            WeekFault::OutOfMemory => PricedFault::OutOfMemory,
-        }
+/// Returns why a group is stopped by a fault of its week.
+pub fn stop_from_week(fault: WeekFault) -> Stop<PricedFault>
+    ensures { result ≡ stop_from_week fault }
+{
+    match fault {
+        WeekFault::TooMuchWork => Stop::Fault(PricedFault::TooMuchWork),
+        WeekFault::OutOfMemory => Stop::OutOfMemory,
     }
 }

@@ -4,10 +4,12 @@
 mod courses;
 mod fault;
 mod group;
+mod week;
 mod width;
 mod work;
 
+pub use courses::is_concerned;
 pub use fault::PricedFault;
 pub use group::least_of_group;
 pub use width::{MAX_GROUP_COURSES, MAX_GROUP_CURRICULA};
-pub use work::{MAX_RELAXATIONS, MAX_STEPS, PricedWork};
+pub use work::{MAX_GROUP_STEPS, MAX_RELAXATIONS, MAX_STEPS, PricedWork};

@@ -2,18 +2,22 @@
 
 ghost use Rattle.std.specs.Prelude.{◌≡◌};
 
-/// The maximum number of steps of the days of one group.
-pub const MAX_STEPS: u64 = 16_777_216;
+/// The maximum number of steps of the days of all groups of a file.
+pub const MAX_STEPS: u64 = 134_217_728;
+
+/// The maximum number of steps of the days of one group. A step makes at most one node of 40 bytes, so that a layer of a day takes at most
+/// 640 MiB.
+pub const MAX_GROUP_STEPS: u64 = 16_777_216;
 
 /// The maximum number of relaxations of all groups of a file.
 pub const MAX_RELAXATIONS: u64 = 1_073_741_824;
 
-/// The work that is left.
+/// The work that is left for the groups of a file.
 #[derive(Clone, Copy, Debug, PartialEq, Eq)]
 pub struct PricedWork {
-    /// The steps of the days of the last group: each tries a set after some first periods.
+    /// Each step of a day tries a set after some first periods.
     pub steps: u64,
-    /// The relaxations of all groups of a file: each tries a day after some first days.
+    /// Each relaxation tries a day after some first days.
     pub relaxations: u64,
 }
 

@@ -9,6 +9,7 @@ use Rattle.tt_groups_day.specs.Choosing.{IsApart}
 use Rattle.tt_groups_day.specs.Sets.{IsComplete, IsCourseSet}
 use Rattle.tt_prices.specs.Prices.{PricedGroup}
 use Rattle.tt_prices.specs.Days.{unpriced, courses_of, counted_of}
+use Rattle.tt_prices.specs.declared.price.TheConstants.{MAX_SCALE}
 use Rattle.tt_prices_day.specs.Inner.Following.{AreRules}
 use Rattle.tt_prices_day.specs.declared.shape.Own.{Own}
 use Rattle.tt_prices_day.specs.declared.shape.Shape.{Shape}
@@ -42,7 +43,7 @@ pub record AreOwn (p : Problem) (g : PricedGroup) (cs : List ℕ) (own : List Ow
 -- Whether the shape is that of the group.
 pub record IsShape (p : Problem) (g : PricedGroup) (shape : Shape) : Type 0 where
   pub narrow : IsNarrow p g
-  pub scale : shape.scale ≤ 1000
+  pub scale : shape.scale ≤ MAX_SCALE
   pub courses : shape.courses.items ≡ courses_of p g
   pub sets : All (IsCourseSet p (unpriced g) shape.courses.items no_weights) shape.sets.items
   pub complete : IsComplete p (unpriced g) shape.courses.items shape.sets.items

@@ -1,6 +1,6 @@
 //! The list of a day.
 
-ghost use Rattle.std.specs.Prelude.{◌≡◌, ◌^◌, ◌∷◌, [], All, IfOk, Err};
+ghost use Rattle.std.specs.Prelude.{◌≡◌, ◌^◌, ◌≤◌, ◌∷◌, [], All, IfOk, Err};
 ghost use Rattle.tt_groups_day.specs.declared.fault.DaysFault.TheVariants as fault;
 ghost use Rattle.tt_prices.specs.Days.{IsDayList};
 ghost use Rattle.tt_prices.specs.Limits.{IsWithin};
@@ -45,6 +45,7 @@ pub fn list_days(
     requires { IsShape instance.now (group_of group.now) shape.now }
     ensures list { IfOk result (λ v. IsDayList instance.now shape.now.scale (group_of group.now) day v.items) }
     ensures small { IfOk result (λ v. All (λ x. IsWithin (2 ^ 40) x.paid) v.items) }
+    ensures fewer { steps.new ≤ steps.old }
     ensures used_up { result ≡ Err fault.TooMuchWork → steps.new ≡ 0 }
 {
     let mut layer = first_layer(alloc)?;

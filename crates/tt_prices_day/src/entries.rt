@@ -6,10 +6,11 @@ ghost use Rattle.tt_prices.specs.declared.day.PricedDay.{PricedDay};
 ghost use Rattle.tt_prices_day.specs.Inner.Entries.{IsEntryOf};
 ghost use Rattle.tt_prices_day.specs.Inner.Layers.{IsNodeWithin};
 ghost use Rattle.tt_prices.specs.Limits.{IsWithin};
+ghost use Rattle.tt_prices.specs.declared.price.TheConstants.{MAX_SCALE};
 ghost use Rattle.tt_prices_day.specs.declared.node.Node.{Node};
 ghost use Rattle.tt_prices_day.specs.declared.shape.Own.{Own};
 
-use crate::node::{MAX_SCALE, Node};
+use crate::node::Node;
 use crate::shape::Shape;
 use std::alloc::{AllocError, Global};
 use tt_groups::DIGITS;

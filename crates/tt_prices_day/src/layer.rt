@@ -4,12 +4,13 @@ ghost use Rattle.std.specs.Prelude.{◌≡◌, ◌⊎◌, ℕ, ◌+◌, ◌*◌,
 ghost use Rattle.tt_groups_day.specs.declared.fault.DaysFault.TheVariants as fault;
 ghost use Rattle.tt_prices_day.specs.Inner.Layers.{IsNext, IsOver, IsNodeWithin, IsLetterWithin, AreFollowed, AreReached, IsEndOf, AreEnded, AreEndsOf};
 ghost use Rattle.tt_prices.specs.Limits.{IsWithin};
+ghost use Rattle.tt_prices.specs.declared.price.TheConstants.{MAX_SCALE};
 ghost use Rattle.tt_prices_day.specs.declared.letters.Letter.{Letter};
 ghost use Rattle.tt_prices_day.specs.declared.node.Node.{Node};
 
 use crate::cheapest::keep_cheapest;
 use crate::letters::Letter;
-use crate::node::{Key, MAX_SCALE, Node, next_node};
+use crate::node::{Key, Node, next_node};
 use crate::rules::Rules;
 use std::alloc::{AllocError, Global};
 use tt_groups_day::DaysFault;
@@ -62,6 +63,7 @@ pub fn next_layer(
     ensures followed { IfOk result (λ v. AreFollowed rules.now scale letters.now layer.now v.items) }
     ensures reached { IfOk result (λ v. AreReached rules.now scale letters.now layer.now v.items) }
     ensures within { IfOk result (λ v. (n : ℕ) → All (IsNodeWithin n) layer.now → All (IsNodeWithin (n + 2 ^ 31)) v.items) }
+    ensures fewer { steps.new ≤ steps.old }
     ensures used_up { result ≡ Err fault.TooMuchWork → steps.new ≡ 0 }
 {
     use_up(steps, layer.len() as u64, letters.len() as u64)?;
@@ -76,6 +78,7 @@ pub fn next_layer(
 
 /// Subtracts a step for each pair of a node and a letter.
 fn use_up(steps: &mut u64, nodes: u64, letters: u64) -> Result<(), DaysFault>
+    ensures fewer { steps.new ≤ steps.old }
     ensures used_up { result ≡ Err fault.TooMuchWork → steps.new ≡ 0 }
 {
     match steps.checked_sub(nodes.saturating_mul(letters)) {

@@ -11,6 +11,5 @@ mod rules;
 mod shape;
 
 pub use days::list_days;
-pub use node::MAX_SCALE;
 pub use rules::MAX_LECTURES;
 pub use shape::Shape;

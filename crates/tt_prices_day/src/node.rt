@@ -4,14 +4,12 @@ ghost use Rattle.std.specs.Prelude.{◌≡◌, ℕ, ◌+◌, ◌*◌, ◌^◌, �
 ghost use Rattle.tt_prices_day.specs.Inner.Following.{beyond};
 ghost use Rattle.tt_prices_day.specs.Inner.Layers.{IsNext, IsOver};
 ghost use Rattle.tt_prices.specs.Limits.{IsWithin};
+ghost use Rattle.tt_prices.specs.declared.price.TheConstants.{MAX_SCALE};
 
 use crate::letters::Letter;
 use crate::rules::Rules;
 use tt_groups_day::{COURSES, fits};
 use tt_instance::{ISOLATED_COST, MISSING_DAY_COST};
-
-/// The scale of prices is at most this.
-pub const MAX_SCALE: u32 = 1000;
 
 /// The lectures of each course that are counted, and the curricula of the last period: all of them, and those that were not in the period
 /// before it.

@@ -6,10 +6,10 @@ ghost use Rattle.tt_instance.specs.Courses.{lectures};
 ghost use Rattle.tt_groups_day.specs.Counting.{sets_count};
 ghost use Rattle.tt_groups_day.specs.declared.sets.SetsFault.TheVariants as fault;
 ghost use Rattle.tt_prices.specs.Days.{unpriced, courses_of};
+ghost use Rattle.tt_prices.specs.declared.price.TheConstants.{MAX_SCALE};
 ghost use Rattle.tt_prices_day.specs.Shapes.{ArePlaces, AreOwn, IsNarrow, IsShape};
 ghost use Rattle.tt_prices.specs.Rows.{group_of};
 
-use crate::node::MAX_SCALE;
 use crate::rules::{MAX_LECTURES, Rules, rules_of};
 use std::alloc::{AllocError, Global};
 use tt_groups::Group;

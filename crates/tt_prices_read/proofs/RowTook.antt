@@ -14,7 +14,8 @@ use Rattle.tt_proof_read.specs.declared.format.TheConstants.{COURSE_LETTER}
 use Rattle.tt_proof_read.proofs.Taking.{Took}
 use Rattle.tt_prices_read.specs.Inner.Priced.{IsWordIn}
 use Rattle.tt_prices_read.specs.Parts.{AreRows}
-use Rattle.tt_prices_read.specs.Reading.{Row, Rows, no_rows, with_row, all_rows, has_row, with_word, index_of, amount_of, times_of, next_price, repeated, new_course, row_word_in, row_word_of, row_word_at, words_at, rows_at}
+use Rattle.tt_prices.specs.Rows.{Row}
+use Rattle.tt_prices_read.specs.Reading.{Rows, no_rows, with_row, all_rows, has_row, with_word, index_of, amount_of, times_of, next_price, repeated, new_course, row_word_in, row_word_of, row_word_at, words_at, rows_at}
 use Rattle.tt_prices_read.specs.Spelling.{SpellsPrice, IsMore, SpellsMore, SpellsRows}
 use Rattle.tt_prices_read.specs.declared.fault.PricesTextFault.{PricesTextFault}
 use Rattle.tt_prices_read.specs.declared.format.TheConstants.{MAX_AMOUNT, PLUS, MINUS, TIMES}

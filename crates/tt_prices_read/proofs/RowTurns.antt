@@ -15,7 +15,8 @@ use Rattle.tt_proof_read.specs.Inner.Contract.{State}
 use Rattle.tt_proof_read.proofs.Distinct.{each_two_push}
 use Rattle.tt_prices_read.specs.Inner.Priced.{rows_of, IsWordIn}
 use Rattle.tt_prices_read.specs.Parts.{row_list, IsRow, AreRows}
-use Rattle.tt_prices_read.specs.Reading.{Row, Rows, no_rows, with_row, all_rows, has_row, with_word, row_word_at, words_at}
+use Rattle.tt_prices.specs.Rows.{Row}
+use Rattle.tt_prices_read.specs.Reading.{Rows, no_rows, with_row, all_rows, has_row, with_word, row_word_at, words_at}
 use Rattle.tt_prices_read.specs.declared.rows.RowBuilder.{RowBuilder}
 use Rattle.tt_prices_read.specs.declared.rows.RowForm.{RowForm}
 use Rattle.tt_prices_read.specs.declared.rows.RowWord.{RowWord}

@@ -3,6 +3,7 @@ use Rattle.std.specs.Prelude.{◌≡◌, ℕ, ◌<◌, ◌≤◌, true, List, Al
 use Rattle.tt_list_laws.specs.Words.{are_distinct}
 use Rattle.tt_leaf.specs.Ranges.{AreBelow}
 use Rattle.tt_prices.specs.Limits.{IsPrice}
+use Rattle.tt_prices.specs.Rows.{Row, row_of}
 use Rattle.tt_prices.specs.declared.group.PriceRow.{PriceRow}
 use Rattle.tt_prices.specs.declared.group.PricedGroup.{PricedGroup}
 use Rattle.tt_proof_read.specs.declared.sizes.Sizes.{Sizes}
@@ -13,12 +14,8 @@ use Rattle.tt_prices_read.specs.declared.item.Item.TheVariants.{Group, Rent}
 use Rattle.tt_prices_read.specs.declared.item.Rent as rent
 use Rattle.tt_prices_read.specs.declared.rows.RowForm.{RowForm}
 
--- A row: its course and its prices.
-abbrev pub row_of : PriceRow → text.Row
-row_of row = record { course = row.course; prices = row.prices.items }
-
 -- The rows of a list.
-abbrev pub row_list : List PriceRow → List text.Row
+abbrev pub row_list : List PriceRow → List Row
 row_list rows = map row_of rows
 
 -- A group: its lists and its rows.
@@ -45,13 +42,13 @@ abbrev pub AreNumbers : ℕ → List ℕ → Type 0
 AreNumbers count ns = AreBelow count ns × (are_distinct ns ≡ true)
 
 -- Whether a row has a course and at most one price for each period of the week, all within their limit.
-pub record IsRow (form : RowForm) (row : text.Row) : Type 0 where
+pub record IsRow (form : RowForm) (row : Row) : Type 0 where
   pub course : row.course < form.courses
   pub prices : All IsPrice row.prices
   pub few : length row.prices ≤ form.slots
 
 -- Whether all are rows, and no course has two.
-pub record AreRows (form : RowForm) (rows : List text.Row) : Type 0 where
+pub record AreRows (form : RowForm) (rows : List Row) : Type 0 where
   pub each : All (IsRow form) rows
   pub once : are_distinct (map (λ row. row.course) rows) ≡ true
 

@@ -9,6 +9,7 @@ use Rattle.tt_text.specs.Feeds.{Stream}
 use Rattle.tt_text.specs.Reading.{◌>>=◌}
 use Rattle.tt_text.specs.declared.numbers.NumberFault.{NumberFault}
 use Rattle.tt_text.specs.declared.numbers.NumberFault.TheVariants as number
+use Rattle.tt_prices.specs.Rows.{Row}
 use Rattle.tt_proof_read.specs.Reading as proof
 use Rattle.tt_proof_read.specs.declared.fault.TextFault.{TextFault}
 use Rattle.tt_proof_read.specs.declared.fault.TextFault.TheVariants as fault
@@ -171,11 +172,6 @@ abbrev pub fitting : {X : Type 0} → ℕ → ℕ → ℕ → ℕ → X → Resu
 fitting at slots n count x = if nat_le count (slots - n) then Ok x else Err (TooManyPrices at)
 
 -- ---- the rows of a group
-
--- The prices of a course.
-pub record Row : Type 0 where
-  pub course : ℕ
-  pub prices : List ℤ
 
 -- The rows that are complete, and the course and the prices of the row that isn't.
 pub record Rows : Type 0 where

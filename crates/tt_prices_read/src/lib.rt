@@ -16,6 +16,7 @@ mod rows;
 
 pub use fault::{HeaderWord, PricesTextFault};
 pub use format::{MAX_AMOUNT, MAX_SCALE};
+pub use header::Header;
 pub use item::{Item, Rent};
 pub use laws::read_prices_are_spelled;
 pub use reader::PricesReader;

@@ -74,25 +74,11 @@ impl PricesReader {
         }
     }
 
-    /// Returns the bound that the header names, in cost points.
-    pub fn bound(&self) -> u64
-        ensures { result ≡ self.now.header.bound }
+    /// Returns the beginning of the file.
+    pub fn header(&self) -> Header
+        ensures { result ≡ self.now.header }
     {
-        self.header.bound
-    }
-
-    /// Returns the number of units of price in a cost point.
-    pub fn scale(&self) -> u64
-        ensures { result ≡ self.now.header.scale }
-    {
-        self.header.scale
-    }
-
-    /// Checks whether the header says that the rooms are claimed too.
-    pub fn has_rooms(&self) -> bool
-        ensures { result ≡ self.now.header.has_rooms }
-    {
-        self.header.has_rooms
+        self.header
     }
 
     /// Returns the next group or the next rents of a room, or `None` once the file has ended. After an error, it returns the same error again.

@@ -4,6 +4,7 @@ pub mod Listing
 pub mod Lowest
 pub mod Reaching
 pub mod Relaxing
+pub mod Searching
 pub mod Spent
 pub mod Stepping
 pub mod Suiting

@@ -1,12 +1,9 @@
--- Another entry of a day, and the move of an entry that is alone.
-use Rattle.std.proofs.Common.{◌≡◌, ℕ, ◌<◌, List, [], ◌∷◌, ◌++◌, length, get_or, to_z, of_z, w64, refl, ap, ◌∙◌, subst, arith, inl, inr}
+-- Another entry of a day, and its move.
+use Rattle.std.proofs.Common.{◌≡◌, List, [], ◌∷◌, ◌++◌, to_z, of_z, w64, refl, ap, ◌∙◌, subst, arith, inl, inr}
 use Rattle.std.specs.Prelude.{Contains, ℤ, pos, negsuc, ◌+ℤ◌, ◌≤ℤ◌}
 use Rattle.std.proofs.lemmas.Int.{ints}
-use Rattle.std.proofs.lemmas.List.Elements.{Contains-append_left, Contains-append_right, Contains-append_cases, Contains-get_or}
+use Rattle.std.proofs.lemmas.List.Elements.{Contains-append_left, Contains-append_right, Contains-append_cases}
 use Rattle.tt_list_laws.proofs.Members.{member_cases}
-use Rattle.tt_groups.specs.declared.entry.DayEntry.{DayEntry}
-use Rattle.tt_groups_week.specs.Fold.{AreMovesOf as ArePlainMoves}
-use Rattle.tt_groups_week.specs.declared.moves.Move.{Move}
 use Rattle.tt_prices.specs.declared.day.PricedDay.{PricedDay}
 use Rattle.tt_prices_week.specs.Moves.{IsMoveOf, AreMovesOf}
 use Rattle.tt_prices_week.specs.declared.moves.PricedMove.{PricedMove}
@@ -45,15 +42,6 @@ moves_more days moves x m before here = record {
 
 pub no_moves : AreMovesOf [] []
 no_moves = record { all = λ y h. absurd (omega (arith, h.1)); own = λ n h. absurd (omega (arith, h.1)) }
-
-module _ (sizes weights : List ℕ) (courses : ℕ) (entry : DayEntry) (moves : List Move)
-    (are : ArePlainMoves sizes weights courses (entry ∷ []) moves) where
-  -- a list of one entry has a move, which is the entry's
-  pub one_there : 0 < length moves
-  one_there = let m = are.all entry (0, omega arith, refl) in omega (arith, m.1.1)
-
-  pub one_own : (d : Move) → entry ≡ (get_or moves 0 d).entry
-  one_own d = only entry (get_or moves 0 d).entry (are.own (get_or moves 0 d) (Contains-get_or moves 0 d one_there))
 
 -- ---- what a move pays
 

@@ -34,7 +34,8 @@ use Rattle.tt_groups_read.specs.declared.claim.GroupClaim.{GroupClaim}
 use Rattle.tt_groups_read.specs.declared.fault.GroupTextFault.{GroupTextFault}
 use Rattle.tt_groups_read.specs.declared.fault.GroupTextFault.TheVariants as group_text
 use Rattle.tt_groups_read.proofs.FileLaws.{reads_spelled}
-use Rattle.tt_text_peek.specs.Fronts.{is_groups}
+use Rattle.tt_text_peek.specs.Fronts.{kind_of}
+use Rattle.tt_text_peek.specs.declared.kind.FileKind.TheVariants as kind
 use Rattle.tt_stop.specs.Stops.{OnFault, IfFault}
 use Rattle.tt_stop.specs.declared.stop.Stop.{Stop}
 use Rattle.tt_stop.specs.declared.stop.Stop.TheVariants.{Fault, ReadFailed, OutOfMemory}
@@ -177,7 +178,7 @@ module _ (p : Problem) (is : IsInstance p) (before : Option (List ℕ)) (a : Sta
             rw (eq-eqb (first_claim 1 parts k) 0 none) refl
         by k l false e = first_is k l ∙ unclaimed_owner (first_claim 1 parts k == 0) a.proof (first_claim 1 parts k)
 
-    pub joins : (known : Option (List ℕ)) → Keeps known before → IsOfKind true known → (later : Option (List ℕ)) (after : Reader)
+    pub joins : (known : Option (List ℕ)) → Keeps known before → IsOfKind kind.Groups known → (later : Option (List ℕ)) (after : Reader)
         → (is_some before ≡ true → group_at (sizes_of p) (stream_at r.fed now) ≡ Ok (None, stream_at after.fed later)) → r.bound ≤ sum
         → Joins p known parts b (AtLeast r.bound)
     joins known kept kind later after finish enough = record {
@@ -257,7 +258,7 @@ module _ (p : Problem) (is : IsInstance p) (before : Option (List ℕ)) (a : Sta
           )
       tells_claim groups.TooCheap reported = absurd reported
 
-      pub claim_fault : (bytes : List ℕ) → before ≡ Some bytes → is_groups bytes ≡ true → (f : FileFault) → ExplainsClaim p b number k f
+      pub claim_fault : (bytes : List ℕ) → before ≡ Some bytes → kind_of bytes ≡ kind.Groups → (f : FileFault) → ExplainsClaim p b number k f
           → ExplainsAdded p parts bytes f
       claim_fault bytes e kind (fault.Groups f) reported =
           record {
@@ -269,7 +270,7 @@ module _ (p : Problem) (is : IsInstance p) (before : Option (List ℕ)) (a : Sta
       claim_fault bytes e kind (fault.ClaimedElsewhere i o) reported = absurd reported
       claim_fault bytes e kind fault.TooLarge reported = absurd reported
 
-    pub cheap_fault : (bytes : List ℕ) → before ≡ Some bytes → is_groups bytes ≡ true → (later : Option (List ℕ)) (after : Reader)
+    pub cheap_fault : (bytes : List ℕ) → before ≡ Some bytes → kind_of bytes ≡ kind.Groups → (later : Option (List ℕ)) (after : Reader)
         → (is_some before ≡ true → group_at (sizes_of p) (stream_at r.fed now) ≡ Ok (None, stream_at after.fed later))
         → sum < r.bound → r.bound < 2 ^ 64 → IsGroupsFault p parts bytes groups.TooCheap
     cheap_fault bytes e kind later after finish below small =
@@ -332,7 +333,7 @@ loud false P h e = h
 
 -- the header fails
 pub header_fault : (p : Problem) (parts : List Part) (bytes : List ℕ) (before now : Option (List ℕ)) → before ≡ Some bytes
-    → is_groups bytes ≡ true → (f : GroupTextFault)
+    → kind_of bytes ≡ kind.Groups → (f : GroupTextFault)
     → (is_some before ≡ true → IsHeaderReadingOf (stream_at fresh before) (Err f) now) → is_environmental f ≡ false
     → ExplainsAdded p parts bytes (fault.Groups (groups.Text f))
 header_fault p parts bytes before now e kind f says calm = record {
@@ -359,7 +360,7 @@ module _ (p : Problem) (is : IsInstance p) (before : Option (List ℕ)) (a : Sta
   pub text_fault : (parts : List Part) (old : State) → IsTableOf old parts → a ≡ begun old
       → (is_some now ≡ true → IsReadingOf r (stream_at r.fed now) (Err t) (stream_at after.fed later)) → (bytes : List ℕ)
       → before ≡ Some bytes
-      → is_groups bytes ≡ true → is_environmental (group_text.Text t) ≡ false
+      → kind_of bytes ≡ kind.Groups → is_environmental (group_text.Text t) ≡ false
       → ExplainsAdded p parts bytes (fault.Groups (groups.Text (group_text.Text t)))
   text_fault parts old of begins says bytes e kind calm =
       let k : is_some before ≡ true = ap is_some e in

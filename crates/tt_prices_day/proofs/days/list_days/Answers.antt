@@ -40,6 +40,7 @@ loop-period-init c =
       layer = subst (λ (l : List Node). IsLayer a.instance.now a.shape.now.scale g no_weights a.day a.shape.now.rules 0 l) (sym is)
           (layer-first a.instance.now a.shape.now.scale g no_weights a.day a.shape.now.rules first_node (zeros 16) refl refl refl);
       within = subst (All (IsNodeWithin 0)) (sym is) (all_pushed (IsNodeWithin 0) [] first_node (λ k d h. absurd (omega (arith, h))) first_within);
+      fewer = omega arith;
     }
 
 pub next_layer-requires-clause-letters : goal.next_layer-requires-clause-letters
@@ -91,6 +92,7 @@ loop-period-preserved c =
           c.requires.narrow.group c.requires.narrow.curricula c.requires.narrow.courses inside (shape_sets p g shape c.requires)
           (shape_complete p g shape c.requires) (shape_apart p g shape c.requires) of_period followed reached c.loop-period.invariant.layer;
       within = subst (λ n. All (IsNodeWithin n) next) more within;
+      fewer = omega (arith, c.loop-period.invariant.fewer, c.in_ok-layer-2.ensures.fewer);
     }
 
 pub entries_of-requires-clause-width : goal.entries_of-requires-clause-width

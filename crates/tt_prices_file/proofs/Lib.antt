@@ -1,0 +1,3 @@
+pub mod Holding
+pub mod Once
+pub mod Parts
