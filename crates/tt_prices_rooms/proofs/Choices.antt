@@ -121,7 +121,8 @@ module _ (p : Problem) (c : ℕ) (ss : List Slot) (choice : IsChoice p c ss) whe
         signed_sum-same_member f (λ x. signed_sum (λ u. cond (same x u) (f u) (pos 0)) (open_slots p c)) ss own_term
         ∙ signed_sum-swap (λ x u. cond (same x u) (f u) (pos 0)) ss (open_slots p c)
         ∙ signed_sum-same_member (λ u. signed_sum (λ x. cond (same x u) (f u) (pos 0)) ss) (λ u. cond (chosen u) (f u) (pos 0))
-        (open_slots p c) (λ u m. passing_once (λ x. f u) (f u) (λ x. same x u) ss (once u (member_before is_open (all_slots p) u m)) (λ x e. refl))
+        (open_slots p c)
+        (λ u m. passing_once (λ x. f u) (f u) (λ x. same x u) ss (once u (member_before is_open (all_slots p) u m)) (λ x e. refl))
 
   number : length ss ≡ count_by chosen (open_slots p c)
   number =

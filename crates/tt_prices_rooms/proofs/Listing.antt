@@ -15,8 +15,9 @@ use Rattle.tt_instance.proofs.Cells.{IsSlot}
 use Rattle.tt_instance.proofs.Slots.{length-all_slots}
 use Rattle.tt_prices_rooms.specs.Terms.{open_slots}
 use Rattle.tt_prices.specs.Limits.{IsWithin}
+use Rattle.tt_prices.specs.declared.price.TheConstants.{MAX_SCALE}
 use Rattle.tt_prices_rooms.specs.Inner.Places.{place_of, is_open, AreTables}
-use Rattle.tt_prices_rooms.specs.declared.limit.TheConstants.{MAX_SCALE, MAX_RENT, MAX_PRICES}
+use Rattle.tt_prices_rooms.specs.declared.limit.TheConstants.{MAX_RENT, MAX_PRICES}
 use Rattle.tt_prices_rooms.proofs.Tables.{open_in_week}
 
 module _ (p : Problem) (c : ℕ) where

@@ -178,7 +178,8 @@ up_to t (x ∷ xs) =
     parts false false less other = refl
 
 -- what a tight sum comes to is the least
-tight_least : (t : ℤ) (n : ℕ) (xs : List ℤ) (total : ℤ) → times n t ≡ (total +ℤ pos (sum_by (short t) xs)) → IsTight t n xs → IsLeastSum n xs total
+tight_least : (t : ℤ) (n : ℕ) (xs : List ℤ) (total : ℤ) → times n t ≡ (total +ℤ pos (sum_by (short t) xs)) → IsTight t n xs
+    → IsLeastSum n xs total
 tight_least t n xs total is tight =
     let value : tight.0 ≡ total = omega (arith, ints, tight.2, is) in
     record {

@@ -47,7 +47,8 @@ module _ (p : Problem) (scale : ℕ) (groups : List PricedGroup) (rent : ℕ →
   abbrev paid_in : ℕ → Slot → ℤ
   paid_in r s = cell_cost p scale groups rent (cell c r s)
 
-  lowest_exists : 0 < length p.rooms → (lowest : Slot → ℤ) × IsLowest p scale groups rent c lowest
+  -- the least of each period over all rooms, as the law of terms asks for
+  pub lowest_exists : 0 < length p.rooms → (lowest : Slot → ℤ) × IsLowest p scale groups rent c lowest
   lowest_exists some =
       let n : ℕ = length p.rooms - 1 in (
         λ s. (least_of (λ r. paid_in r s) n).0,

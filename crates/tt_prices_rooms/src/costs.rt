@@ -4,8 +4,9 @@ ghost use Rattle.std.specs.Prelude.{◌≡◌, ℕ, ◌+◌, ◌*◌, ◌<◌, �
 ghost use Rattle.std.specs.Int.{int_min};
 ghost use Rattle.tt_instance.specs.declared.limit.TheConstants.{MAX_SEATS};
 ghost use Rattle.tt_prices.specs.Limits.{IsWithin};
+ghost use Rattle.tt_prices.specs.declared.price.TheConstants.{MAX_SCALE};
 ghost use Rattle.tt_prices_rooms.specs.Inner.Places.{cost_at};
-ghost use Rattle.tt_prices_rooms.specs.declared.limit.TheConstants.{MAX_SCALE, MAX_RENT, MAX_PRICES, MAX_COST};
+ghost use Rattle.tt_prices_rooms.specs.declared.limit.TheConstants.{MAX_RENT, MAX_PRICES, MAX_COST};
 
 /// Returns the points and the rent, less the prices.
 fn cost_of(points: u32, rent: u32, prices: i64) -> i64

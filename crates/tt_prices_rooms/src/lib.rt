@@ -10,5 +10,5 @@ mod term;
 
 pub use laws::terms_are_bounds;
 pub use least::least_sum;
-pub use limit::{MAX_COST, MAX_PRICES, MAX_RENT, MAX_SCALE, MAX_TERM};
+pub use limit::{MAX_COST, MAX_PRICES, MAX_RENT, MAX_TERM};
 pub use term::{RoomPrices, TermBuffers, term_of};

@@ -1,8 +1,5 @@
 //! The limits of what a course pays.
 
-/// The maximum of the scale.
-pub const MAX_SCALE: u32 = 1_000;
-
 /// The maximum of a rent.
 pub const MAX_RENT: u32 = 1_000_000;
 

@@ -6,11 +6,12 @@ ghost use Rattle.tt_instance.specs.Courses.{lectures};
 ghost use Rattle.tt_instance.specs.declared.cell.Slot.{Slot};
 ghost use Rattle.tt_prices.specs.Limits.{IsWithin};
 ghost use Rattle.tt_prices.specs.Prices.{PricedGroup};
+ghost use Rattle.tt_prices.specs.declared.price.TheConstants.{MAX_SCALE};
 ghost use Rattle.tt_prices_rooms.specs.Least.{IsLeastSum};
 ghost use Rattle.tt_prices_rooms.specs.Tables.{ArePricesOf, AreRentsOf};
 ghost use Rattle.tt_prices_rooms.specs.Terms.{IsTerm, open_slots};
 ghost use Rattle.tt_prices_rooms.specs.Inner.Places.{place_of, room_cost, IsLeastInRoom, AreLowest, AreTables};
-ghost use Rattle.tt_prices_rooms.specs.declared.limit.TheConstants.{MAX_SCALE, MAX_RENT, MAX_PRICES, MAX_COST, MAX_TERM};
+ghost use Rattle.tt_prices_rooms.specs.declared.limit.TheConstants.{MAX_RENT, MAX_PRICES, MAX_COST, MAX_TERM};
 
 use crate::costs::add_costs;
 use crate::least::least_sum;
@@ -46,7 +47,7 @@ impl TermBuffers {
         }
     }
 
-    /// Lists the places of a course, and makes room for a number at each of them.
+    /// Lists the places of a course, and gives the other buffers a number for each of them.
     fn begin(&mut self, instance: &Instance<'_>, course: u32) -> Result<(), AllocError>
         ensures places { OnOk result (self.new.places.items ≡ map (place_of instance.now) (open_slots instance.now course)) }
         ensures costs { OnOk result (length self.new.costs.items ≡ length self.new.places.items) }

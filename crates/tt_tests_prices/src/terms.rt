@@ -2,7 +2,8 @@
 
 ghost use Rattle.std.specs.Prelude.{◌≤◌, All, IfOk};
 ghost use Rattle.tt_prices.specs.Limits.{IsWithin};
-ghost use Rattle.tt_prices_rooms.specs.declared.limit.TheConstants.{MAX_PRICES, MAX_RENT, MAX_SCALE};
+ghost use Rattle.tt_prices.specs.declared.price.TheConstants.{MAX_SCALE};
+ghost use Rattle.tt_prices_rooms.specs.declared.limit.TheConstants.{MAX_PRICES, MAX_RENT};
 
 use std::alloc::{AllocError, Global};
 use std::test::Fail;

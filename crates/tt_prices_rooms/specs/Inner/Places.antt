@@ -5,8 +5,9 @@ use Rattle.tt_instance.specs.Problem.{Problem}
 use Rattle.tt_instance.specs.Courses.{lectures, students, unavailable, excess}
 use Rattle.tt_instance.specs.declared.cell.Slot.{Slot}
 use Rattle.tt_prices.specs.Limits.{IsWithin}
+use Rattle.tt_prices.specs.declared.price.TheConstants.{MAX_SCALE}
 use Rattle.tt_prices_rooms.specs.Least.{IsSumOf}
-use Rattle.tt_prices_rooms.specs.declared.limit.TheConstants.{MAX_SCALE, MAX_RENT, MAX_PRICES, MAX_COST, MAX_TERM}
+use Rattle.tt_prices_rooms.specs.declared.limit.TheConstants.{MAX_RENT, MAX_PRICES, MAX_COST, MAX_TERM}
 
 -- The place of a period, counted day by day.
 abbrev pub place_of : Problem → Slot → ℕ

@@ -17,7 +17,8 @@ pub least_in_one_room-one-requires-clause-tables : goal.least_in_one_room-one-re
 least_in_one_room-one-requires-clause-tables c =
     tables_of c.args.instance.now c.args.course c.args.rooms.now.scale c.args.rooms.now.rents.items c.args.prices.now
     c.begin.new.self.places.items c.days.ensures.instance c.requires.course c.requires.scale c.requires.rents c.requires.rooms
-    c.requires.prices c.requires.periods c.in_ok-begin.ensures.places (omega (arith, c.if-len-count.false, c.lectures-count.ensures.value, c.len.ensures))
+    c.requires.prices c.requires.periods c.in_ok-begin.ensures.places
+    (omega (arith, c.if-len-count.false, c.lectures-count.ensures.value, c.len.ensures))
 
 pub returns-then-count-lt2-clause-some : goal.returns-then-count-lt2-clause-some
 returns-then-count-lt2-clause-some c = λ groups rent priced rented.
@@ -63,8 +64,8 @@ returns-clause-some c = λ groups rent priced rented.
     let fits : FitsSigned w64 c.min.result = search rules in
     let word : to_z w64 (of_z w64 c.min.result) ≡ int_min one (pos scale +ℤ each) =
     to_z-of_z w64 c.min.result fits ∙ c.min.ensures.value
-    ∙ shared_word one each c.from.result scale (c.least_in_one_room-one.ensures.within some) c.least_sum-each.ensures.within c.requires.scale
-    c.from.ensures in
+    ∙ shared_word one each c.from.result scale (c.least_in_one_room-one.ensures.within some) c.least_sum-each.ensures.within
+    c.requires.scale c.from.ensures in
     let sum = subst (λ n. IsLeastSum n lowest each) c.lectures-count.ensures.value
     (subst (λ (l : List ℤ). IsLeastSum c.lectures-count.result l each) c.deref_mut.ensures.value c.least_sum-each.ensures.least) in
     subst (IsTerm p scale groups rent k) (sym word)
