@@ -2,6 +2,12 @@
 #![tactic(auto)]
 
 #[cfg(test)]
+mod brute_force;
+#[cfg(test)]
 mod drawn;
+#[cfg(test)]
+mod groups;
+#[cfg(test)]
+mod groups_drawn;
 #[cfg(test)]
 mod weeks;
