@@ -6,7 +6,7 @@ ghost use Rattle.std.specs.Prelude.{◌≡◌};
 pub const MAX_STEPS: u64 = 134_217_728;
 
 /// The maximum number of steps of the days of one group. A step makes at most one node of 40 bytes, so that a layer of a day takes at most
-/// 640 MiB.
+/// 640 MiB, and the slots by which its nodes are found 128 MiB.
 pub const MAX_GROUP_STEPS: u64 = 16_777_216;
 
 /// The maximum number of relaxations of all groups of a file.

@@ -1,6 +1,6 @@
 -- The entries of a day, read off its last layer.
 use Rattle.std.proofs.Common.{◌^◌, ◌≡◌, ℕ, zero, suc, ◌+◌, ◌-◌, ◌*◌, ◌<◌, ◌≤◌, true, false, not, cond, List, [], ◌∷◌, ◌++◌, length, length-append, get_or, map, Some, refl, sym, ap, ◌∙◌, subst, arith, inl, inr, mul-add, eq-eqb}
-use Rattle.std.specs.Prelude.{ℤ, pos, ◌+ℤ◌, ◌==◌, All, Contains, min, count_ones, sum_by, slice_get, slice_index, slice_index_or}
+use Rattle.std.specs.Prelude.{ℤ, pos, ◌+ℤ◌, ◌==◌, ◌&&◌, Bool, All, Contains, min, max, count_ones, sum_by, slice_get, slice_index, slice_index_or}
 use Rattle.std.proofs.lemmas.Bool.{and_parts, both_ways, cases_Bool, cases_lt, not-true}
 use Rattle.std.proofs.lemmas.Int.{ints}
 use Rattle.std.proofs.lemmas.List.{length-map, get_or-map, get_or-append_right, get_or_default}
@@ -30,7 +30,7 @@ use Rattle.tt_prices.specs.Days.{unpriced, courses_of, counted_of, day_paid, fur
 use Rattle.tt_prices.specs.Prices.{PricedGroup, concerns}
 use Rattle.tt_prices.specs.declared.day.PricedDay.{PricedDay}
 use Rattle.tt_prices_day.specs.Inner.Entries.{further_at, IsEntryOf}
-use Rattle.tt_prices_day.specs.Inner.Following.{is_counted, cap, AreRules, beyond}
+use Rattle.tt_prices_day.specs.Inner.Following.{is_counted, is_paying, cap, AreRules, beyond}
 use Rattle.tt_prices_day.specs.Inner.Layers.{IsBegun, AreEnded, AreEndsOf}
 use Rattle.tt_prices_day.specs.Shapes.{no_weights, IsShape, ArePlaces, AreOwn}
 use Rattle.tt_prices_day.specs.declared.node.Key.{Key}
@@ -61,6 +61,11 @@ min-slack k s = elim (cases_lt k (s + 1)) [
       let r : min (k - 1) s ≡ s = min-eq_right (omega arith) in
       ap (λ n. min (n - 1) s) e ∙ l ∙ sym r
 ]
+
+-- a course whose lectures are counted isn't followed for its working days alone
+not_paying : (uncounted own : Bool) → not uncounted ≡ true → (uncounted && own) ≡ false
+not_paying true own e = cc
+not_paying false own e = refl
 
 -- ---- what a shape has, in terms of the courses of its group
 
@@ -119,16 +124,28 @@ module _ (p : Problem) (g : PricedGroup) (shape : Shape) (d : ℕ) (is : IsShape
   module _ (rules_are : AreRules p g cs shape.rules) (counted : ArePlaces cs (counted_of p g) shape.counted.items) (own : AreOwn p g cs shape.own.items)
       (day : Day) (before : List CourseSet) (key : Key) (paid : ℤ) (whole : length before ≡ p.periods)
       (begins : Begins p (unpriced g) cs day before) (begun : IsBegun p scale g cs no_weights d shape.rules before key paid)
-      (fits : (c : ℕ) → Contains (counted_of p g) c → lectures_on p day c ≤ lectures p c) (node : Node) (same : node.key.counts ≡ key.counts) where
+      (fits : (c : ℕ) → Contains (counted_of p g) c → lectures_on p day c ≤ lectures p c) (node : Node)
+      (same : (i : ℕ) → slice_index node.key.counts i ≡ max (slice_index key.counts i) (slice_index shape.rules.paying i)) where
     -- the lectures of a course, up to its cap
     abbrev taken : ℕ → ℕ
     taken c = min (lectures_on p day c) (cap p g c)
 
-    -- the counts at the end
-    at_end : (i : ℕ) → i < length cs → slice_index node.key.counts i ≡ taken (slice_index cs i)
-    at_end i l = ap (λ (k : List ℕ). slice_index k i) same
-        ∙ capped-of_day p scale g no_weights d shape.rules day before key paid whole begins begun i l
+    -- the counts after the last period
+    at_last : (i : ℕ) → i < length cs → slice_index key.counts i ≡ taken (slice_index cs i)
+    at_last i l = capped-of_day p scale g no_weights d shape.rules day before key paid whole begins begun i l
         ∙ ap (min (lectures_on p day (slice_index cs i))) (rules_are.caps i l)
+
+    -- those of a counted course are also those at the end
+    at_end : (i : ℕ) → i < length cs → is_counted g (slice_index cs i) ≡ true → slice_index node.key.counts i ≡ taken (slice_index cs i)
+    at_end i l counted_is =
+        let c = slice_index cs i in
+        let free : is_paying g c ≡ false = not_paying (has_number g.uncounted c) (has_number g.courses c) counted_is in
+        let none : slice_index shape.rules.paying i ≡ 0 = rules_are.paying i l ∙ ap (λ b. cond b 1 0) free in
+        omega (arith, same i, none, at_last i l)
+
+    -- and so are the further lectures of each course
+    further_at_end : (i : ℕ) → i < length cs → slice_index node.key.counts i - 1 ≡ taken (slice_index cs i) - 1
+    further_at_end i l = omega (arith, same i, rules_are.ones i, at_last i l)
 
     counted_cap : (c : ℕ) → is_counted g c ≡ true → cap p g c ≡ lectures p c
     counted_cap c k = ap (λ b. cond b (lectures p c) (cond (has_number g.courses c) (slack p c + 1) 0)) k
@@ -143,14 +160,15 @@ module _ (p : Problem) (g : PricedGroup) (shape : Shape) (d : ℕ) (is : IsShape
     lectures_at j l =
         let i = slice_index shape.counted.items j in
         let c = slice_index (counted_of p g) j in
-        at_end i (counted.inside j l) ∙ ap (taken) (counted.are j l)
-        ∙ followed_all c (Contains-get_or (counted_of p g) j 0 (omega (arith, l, counted.whole)))
+        let m : Contains (counted_of p g) c = Contains-get_or (counted_of p g) j 0 (omega (arith, l, counted.whole)) in
+        let counted_is = ap (is_counted g) (counted.are j l) ∙ member_passes (is_counted g) cs c m in
+        at_end i (counted.inside j l) counted_is ∙ ap (taken) (counted.are j l) ∙ followed_all c m
 
     -- the further lectures
     further_of_own : (j : ℕ) (x : Own) → j < length shape.own.items
         → further_at node (slice_index_or shape.own.items j x) ≡ taken (slice_index g.courses j) - 1
     further_of_own j x l =
-        ap (λ n. n - 1) (at_end (slice_index_or shape.own.items j x).place (own.inside j x l) ∙ ap (taken) (own.are j x l))
+        further_at_end (slice_index_or shape.own.items j x).place (own.inside j x l) ∙ ap (λ c. taken c - 1) (own.are j x l)
 
     kept_further : (c : ℕ) → Contains g.courses c → min (taken c - 1) (slack p c) ≡ min (further_on p day c) (slack p c)
     kept_further c m = elim (cases_Bool (is_counted g c)) [
@@ -211,7 +229,8 @@ module _ (p : Problem) (g : PricedGroup) (shape : Shape) (d : ℕ) (is : IsShape
 
 -- the list of a day
 pub day-listed : (p : Problem) (g : PricedGroup) (shape : Shape) (d : ℕ) (is : IsShape p g shape) (layer ends : List Node) (entries : List PricedDay)
-    → IsLayer p shape.scale g no_weights d shape.rules p.periods layer → AreEnded shape.scale layer ends → AreEndsOf shape.scale layer ends
+    → IsLayer p shape.scale g no_weights d shape.rules p.periods layer → AreEnded shape.rules shape.scale layer ends
+    → AreEndsOf shape.rules shape.scale layer ends
     → ((x : Node) → Contains ends x → (y : PricedDay) × Contains entries y × IsEntryOf shape x y)
     → ((y : PricedDay) → Contains entries y → (x : Node) × Contains ends x × IsEntryOf shape x y)
     → AreRules p g (courses_of p g) shape.rules → ArePlaces (courses_of p g) (counted_of p g) shape.counted.items
@@ -225,7 +244,9 @@ day-listed p g shape d is layer ends entries are_layer ended ends_of all found r
       let z = w.1 in
       let end = w.2 in
       let e = all z w.3 in
-      let counts : z.key.counts ≡ b.key.counts = ap (λ (k : Key). k.counts) w.4 ∙ end.counts ∙ ap (λ (k : Key). k.counts) b.same in
+      let counts : (i : ℕ) → slice_index z.key.counts i ≡ max (slice_index b.key.counts i) (slice_index shape.rules.paying i) = λ i.
+      ap (λ (k : Key). slice_index k.counts i) w.4 ∙ end.counts i
+      ∙ ap (λ (k : Key). max (slice_index k.counts i) (slice_index shape.rules.paying i)) b.same in
       let small : b.key.pending < 2 ^ 64 = subst (λ (k : Key). k.pending < 2 ^ 64) b.same end.pending_word in
       let ones : count_ones b.node.key.pending ≡ count_ones b.key.pending = ap (λ (k : Key). count_ones k.pending) b.same in
       let paid_is = paid-of_entry p g shape d is rules_are counted own day b.before b.key b.paid b.long b.begins b.begun valid.fits z counts small in

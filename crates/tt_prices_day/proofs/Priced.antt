@@ -1,20 +1,22 @@
 -- The prices of the sets of a day are the prices of the day.
-use Rattle.std.proofs.Common.{◌≡◌, ℕ, zero, suc, ◌+◌, ◌<◌, cond, List, [], ◌∷◌, ◌++◌, length, Some, refl, sym, ap, ◌∙◌, arith}
-use Rattle.std.specs.Prelude.{ℤ, pos, ◌+ℤ◌, filter, slice_get, slice_index}
+use Rattle.std.proofs.Common.{◌≡◌, ℕ, zero, suc, ◌+◌, ◌<◌, Bool, cond, map, List, [], ◌∷◌, ◌++◌, length, Some, refl, sym, ap, ◌∙◌, arith}
+use Rattle.std.specs.Prelude.{ℤ, pos, ◌+ℤ◌, filter, slice_get, slice_index, slice_index_or}
 use Rattle.std.proofs.lemmas.Int.{ints}
+use Rattle.std.proofs.lemmas.List.{length-map, get_or-map}
 use Rattle.tt_list_laws.proofs.Below.{range_below_more}
 use Rattle.tt_list_laws.specs.Words.{range_below}
 use Rattle.tt_list_laws.proofs.Range.{below_member}
 use Rattle.tt_instance.specs.Cells.{slot}
 use Rattle.tt_instance.specs.Problem.{Problem}
 use Rattle.tt_groups.specs.Plans.{Day}
+use Rattle.tt_groups.proofs.Lists.{member_before}
 use Rattle.tt_groups_day.specs.Sets.{has_course, Begins}
 use Rattle.tt_groups_day.specs.declared.morning.CourseSet.{CourseSet}
 use Rattle.tt_prices.specs.Days.{unpriced, courses_of, day_prices}
 use Rattle.tt_prices.specs.Prices.{PricedGroup}
 use Rattle.tt_prices.specs.Signed.{signed_sum}
 use Rattle.tt_prices.proofs.Signed.{signed_sum-same, signed_sum-same_member, signed_sum-of_filter, signed_sum-append}
-use Rattle.tt_prices_day.specs.Inner.Layers.{set_price, prices_from}
+use Rattle.tt_prices_day.specs.Inner.Layers.{set_price, sum_of, prices_from}
 
 -- one more term at the end
 signed_sum-more : (f : ℕ → ℤ) (n : ℕ) → signed_sum f (range_below (suc n)) ≡ signed_sum f (range_below n) +ℤ f n
@@ -36,6 +38,17 @@ signed_sum-head f (suc n) =
 signed_sum-indices : (f : ℕ → ℤ) (xs : List ℕ) → signed_sum (λ i. f (slice_index xs i)) (range_below (length xs)) ≡ signed_sum f xs
 signed_sum-indices f [] = refl
 signed_sum-indices f (x ∷ xs) = signed_sum-head (λ i. f (slice_index (x ∷ xs) i)) (length xs) ∙ ap (λ z. f x +ℤ z) (signed_sum-indices f xs)
+
+-- the sum of a list of prices is the price of the set
+pub sum-of_prices : (g : PricedGroup) (cs : List ℕ) (d s : ℕ) (x : CourseSet) (prices : List ℤ) → prices ≡ map (λ c. g.price c (slot d s)) cs
+    → sum_of prices x ≡ set_price g cs d s x
+sum-of_prices g cs d s x prices is =
+    let f : ℕ → ℤ = λ c. g.price c (slot d s) in
+    let q : ℕ → Bool = has_course x in
+    ap (λ l. sum_of l x) is
+    ∙ ap (λ n. signed_sum (λ i. slice_index_or (map f cs) i (pos 0)) (filter q (range_below n))) (length-map cs f)
+    ∙ signed_sum-same_member (λ i. slice_index_or (map f cs) i (pos 0)) (λ i. f (slice_index cs i)) (filter q (range_below (length cs)))
+    (λ i m. get_or-map f cs i 0 (pos 0) (below_member (length cs) i (member_before q (range_below (length cs)) i m)))
 
 -- the prices of one more set
 pub prices-more : (g : PricedGroup) (cs : List ℕ) (d s : ℕ) (xs : List CourseSet) (x : CourseSet)

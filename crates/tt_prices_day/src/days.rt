@@ -54,7 +54,7 @@ pub fn list_days(
         let letters = letters_of(alloc, instance, group, &shape.courses, &shape.sets, time)?;
         layer = next_layer(alloc, &shape.rules, shape.scale, &letters, &layer, steps)?;
     }
-    let ends = last_layer(alloc, shape.scale, &layer)?;
+    let ends = last_layer(alloc, &shape.rules, shape.scale, &layer)?;
     let entries = entries_of(alloc, shape, &ends)?;
     Ok(entries)
 }

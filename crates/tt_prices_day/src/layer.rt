@@ -2,15 +2,15 @@
 
 ghost use Rattle.std.specs.Prelude.{◌≡◌, ◌⊎◌, ℕ, ◌+◌, ◌*◌, ◌^◌, ◌<◌, ◌≤◌, ◌≤ℤ◌, length, slice_index, Contains, All, OnOk, IfOk, Err};
 ghost use Rattle.tt_groups_day.specs.declared.fault.DaysFault.TheVariants as fault;
-ghost use Rattle.tt_prices_day.specs.Inner.Layers.{IsNext, IsOver, IsNodeWithin, IsLetterWithin, AreFollowed, AreReached, IsEndOf, AreEnded, AreEndsOf};
+ghost use Rattle.tt_prices_day.specs.Inner.Layers.{IsNext, IsOver, IsNodeWithin, IsLetterWithin, HasCheaper, AreFollowed, AreReached, IsEndOf, AreEnded, AreEndsOf};
 ghost use Rattle.tt_prices.specs.Limits.{IsWithin};
 ghost use Rattle.tt_prices.specs.declared.price.TheConstants.{MAX_SCALE};
 ghost use Rattle.tt_prices_day.specs.declared.letters.Letter.{Letter};
 ghost use Rattle.tt_prices_day.specs.declared.node.Node.{Node};
 
-use crate::cheapest::keep_cheapest;
+use crate::cheapest::Cheapest;
 use crate::letters::Letter;
-use crate::node::{Key, Node, next_node};
+use crate::node::{Key, Node, next_node, raised};
 use crate::rules::Rules;
 use std::alloc::{AllocError, Global};
 use tt_groups_day::DaysFault;
@@ -22,24 +22,24 @@ fn follow(
     scale: u32,
     letter: &Letter,
     nodes: &[Node],
-    next: &mut Vec<Node>,
+    next: &mut Cheapest,
 ) -> Result<(), AllocError>
     requires scale { scale ≤ MAX_SCALE }
     requires letter { IsLetterWithin letter.now }
     requires caps { (i : ℕ) → slice_index rules.now.caps i ≤ 254 }
     requires paying { (i : ℕ) → slice_index rules.now.paying i ≤ 1 }
     requires nodes { All (IsNodeWithin (2 ^ 60)) nodes.now }
-    ensures kept { OnOk result ((y : Node) → Contains next.old.items y → Contains next.new.items y) }
+    ensures kept { OnOk result ((x : Node) → HasCheaper next.old.nodes.items x → HasCheaper next.new.nodes.items x) }
     ensures followed { OnOk result ((x : Node) → Contains nodes.now x → IsOver rules.now letter.now x ⊎
-        ((y : Node) × Contains next.new.items y × IsNext rules.now scale letter.now x y)) }
-    ensures reached { OnOk result ((y : Node) → Contains next.new.items y → Contains next.old.items y ⊎
+        ((y : Node) × IsNext rules.now scale letter.now x y × HasCheaper next.new.nodes.items y)) }
+    ensures reached { OnOk result ((y : Node) → Contains next.new.nodes.items y → Contains next.old.nodes.items y ⊎
         ((x : Node) × Contains nodes.now x × IsNext rules.now scale letter.now x y)) }
-    ensures within { OnOk result ((n : ℕ) → All (IsNodeWithin n) nodes.now → All (IsNodeWithin (n + 2 ^ 31)) next.old.items →
-        All (IsNodeWithin (n + 2 ^ 31)) next.new.items) }
+    ensures within { OnOk result ((n : ℕ) → All (IsNodeWithin n) nodes.now → All (IsNodeWithin (n + 2 ^ 31)) next.old.nodes.items →
+        All (IsNodeWithin (n + 2 ^ 31)) next.new.nodes.items) }
 {
     for node in nodes {
         if let Some(found) = next_node(rules, scale, letter, node) {
-            next.push(found)?;
+            next.add(found)?;
         }
     }
     Ok(())
@@ -67,13 +67,11 @@ pub fn next_layer(
     ensures used_up { result ≡ Err fault.TooMuchWork → steps.new ≡ 0 }
 {
     use_up(steps, layer.len() as u64, letters.len() as u64)?;
-    let mut next = Vec::new(alloc);
+    let mut next = Cheapest::new(alloc);
     for letter in letters {
         follow(rules, scale, letter, layer, &mut next)?;
     }
-    let mut kept = Vec::new(alloc);
-    keep_cheapest(next.as_mut_slice(), &mut kept)?;
-    Ok(kept)
+    Ok(next.into_nodes())
 }
 
 /// Subtracts a step for each pair of a node and a letter.
@@ -94,33 +92,38 @@ fn use_up(steps: &mut u64, nodes: u64, letters: u64) -> Result<(), DaysFault>
 }
 
 /// Returns the layer at the end of a day: the last period's curricula that are still pending are paid for.
-pub fn last_layer(alloc: Global, scale: u32, layer: &[Node]) -> Result<Vec<Node>, AllocError>
+pub fn last_layer(
+    alloc: Global,
+    rules: &Rules,
+    scale: u32,
+    layer: &[Node],
+) -> Result<Vec<Node>, AllocError>
     requires scale { scale ≤ MAX_SCALE }
+    requires paying { (i : ℕ) → slice_index rules.now.paying i ≤ 1 }
     requires layer { All (IsNodeWithin (2 ^ 60)) layer.now }
-    ensures followed { IfOk result (λ v. AreEnded scale layer.now v.items) }
-    ensures reached { IfOk result (λ v. AreEndsOf scale layer.now v.items) }
+    ensures followed { IfOk result (λ v. AreEnded rules.now scale layer.now v.items) }
+    ensures reached { IfOk result (λ v. AreEndsOf rules.now scale layer.now v.items) }
     ensures within { IfOk result (λ v. (n : ℕ) → All (IsNodeWithin n) layer.now → All (IsNodeWithin (n + 2 ^ 31)) v.items) }
 {
-    let mut next = Vec::new(alloc);
+    let mut ends = Cheapest::new(alloc);
     for node in layer {
-        next.push(ended(scale, node))?;
+        ends.add(ended(rules, scale, node))?;
     }
-    let mut kept = Vec::new(alloc);
-    keep_cheapest(next.as_mut_slice(), &mut kept)?;
-    Ok(kept)
+    Ok(ends.into_nodes())
 }
 
-/// Returns the node at the end of the day.
-fn ended(scale: u32, node: &Node) -> Node
+/// Returns the node at the end of the day. A course whose lectures aren't counted has one at least, since the first lecture of a day is free.
+fn ended(rules: &Rules, scale: u32, node: &Node) -> Node
     requires scale { scale ≤ MAX_SCALE }
+    requires paying { (i : ℕ) → slice_index rules.now.paying i ≤ 1 }
     requires node { IsNodeWithin (2 ^ 60) node.now }
-    ensures value { IsEndOf scale node.now result }
+    ensures value { IsEndOf rules.now scale node.now result }
     ensures within { (n : ℕ) → IsNodeWithin n node.now → IsNodeWithin (n + 2 ^ 31) result }
 {
     let points = ISOLATED_COST * node.key.pending.count_ones();
     Node {
         key: Key {
-            counts: node.key.counts,
+            counts: raised(&node.key.counts, &rules.paying),
             occupied: 0,
             pending: 0,
         },

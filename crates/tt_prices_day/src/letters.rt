@@ -1,12 +1,12 @@
 //! The sets that a period can have.
 
-ghost use Rattle.std.specs.Prelude.{◌≡◌, ℕ, ◌*◌, ◌^◌, ◌<◌, ◌≤◌, pos, length, Contains, IfOk, Some, slice_get, slice_index, All, true, false};
+ghost use Rattle.std.specs.Prelude.{◌≡◌, ℕ, ◌*◌, ◌^◌, ◌<◌, ◌≤◌, pos, length, map, Contains, IfOk, Some, slice_get, slice_index, All, true, false};
 ghost use Rattle.tt_instance.specs.Cells.{slot};
 ghost use Rattle.tt_instance.specs.Courses.{unavailable};
 ghost use Rattle.tt_groups_day.specs.Sets.{has_course};
 ghost use Rattle.tt_groups_day.specs.declared.morning.CourseSet.{CourseSet};
-ghost use Rattle.tt_prices_day.specs.Inner.Layers.{AreLetters, set_price};
-ghost use Rattle.tt_prices.specs.Limits.{IsWithin};
+ghost use Rattle.tt_prices_day.specs.Inner.Layers.{AreLetters, sum_of};
+ghost use Rattle.tt_prices.specs.Limits.{IsPrice, IsWithin};
 ghost use Rattle.tt_prices.specs.Rows.{group_of};
 
 use std::alloc::{AllocError, Global};
@@ -44,19 +44,37 @@ fn is_open(instance: &Instance<'_>, courses: &[u32], time: Time, set: &CourseSet
     true
 }
 
-/// Returns the price of a set in a period.
-fn price_of(group: &PricedGroup, courses: &[u32], time: Time, set: &CourseSet) -> i64
-    requires { length courses.now ≤ COURSES }
-    ensures value { result ≡ set_price (group_of group.now) courses.now time.day time.period set.now }
+/// Returns the price of each course in a period.
+fn prices_of(
+    alloc: Global,
+    group: &PricedGroup,
+    courses: &[u32],
+    time: Time,
+) -> Result<Vec<i32>, AllocError>
+    ensures value { IfOk result (λ v. v.items ≡ map (λ c. (group_of group.now).price c (slot time.day time.period)) courses.now) }
+    ensures small { IfOk result (λ v. All IsPrice v.items) }
+{
+    let mut prices = Vec::new(alloc);
+    for course in courses {
+        prices.push(group.price(*course, time.day, time.period))?;
+    }
+    Ok(prices)
+}
+
+/// Returns the sum of the prices of the courses of a set.
+fn price_of(prices: &[i32], set: &CourseSet) -> i64
+    requires few { length prices.now ≤ COURSES }
+    requires prices { All IsPrice prices.now }
+    ensures value { result ≡ sum_of prices.now set.now }
     ensures small { IsWithin (2 ^ 30) result }
 {
-    let mut price = 0;
-    for (i, course) in courses.iter().enumerate() {
+    let mut sum = 0;
+    for (i, price) in prices.iter().enumerate() {
         if set.courses[i] == 1 {
-            price += i64::from(group.price(*course, time.day, time.period));
+            sum += i64::from(*price);
         }
     }
-    price
+    sum
 }
 
 /// Returns the sets that a period can have, with their prices.
@@ -72,10 +90,11 @@ pub fn letters_of(
     ensures letters { IfOk result (λ v. AreLetters instance.now (group_of group.now) courses.now time.day time.period sets.now v.items) }
     ensures small { IfOk result (λ v. All (λ x. IsWithin (2 ^ 30) x.price) v.items) }
 {
+    let prices = prices_of(alloc, group, courses, time)?;
     let mut letters = Vec::new(alloc);
     for set in sets {
         if is_open(instance, courses, time, set) {
-            let price = price_of(group, courses, time, set);
+            let price = price_of(&prices, set);
             letters.push(Letter { set: *set, price })?;
         }
     }

@@ -1,6 +1,6 @@
 //! The first periods of a day, as far as the others depend on them.
 
-ghost use Rattle.std.specs.Prelude.{◌≡◌, ℕ, ◌+◌, ◌*◌, ◌^◌, ◌<◌, ◌≤◌, ◌≤ℤ◌, ◌<ℤ◌, pos, neg_ℤ, min, length, slice_index, IfNone, IfSome, true, false};
+ghost use Rattle.std.specs.Prelude.{◌≡◌, ℕ, ◌+◌, ◌*◌, ◌^◌, ◌<◌, ◌≤◌, ◌≤ℤ◌, ◌<ℤ◌, pos, neg_ℤ, min, max, length, slice_index, IfNone, IfSome, true, false};
 ghost use Rattle.tt_prices_day.specs.Inner.Following.{beyond};
 ghost use Rattle.tt_prices_day.specs.Inner.Layers.{IsNext, IsOver};
 ghost use Rattle.tt_prices.specs.Limits.{IsWithin};
@@ -47,6 +47,17 @@ fn capped(counts: &[u8; COURSES], caps: &[u8; COURSES]) -> [u8; COURSES]
     let mut all = *counts;
     for i in 0..COURSES {
         all[i] = all[i].min(caps[i]);
+    }
+    all
+}
+
+/// Returns the counts, none of them below its least.
+pub fn raised(counts: &[u8; COURSES], least: &[u8; COURSES]) -> [u8; COURSES]
+    ensures { (i : ℕ) → slice_index result i ≡ max (slice_index counts.now i) (slice_index least.now i) }
+{
+    let mut all = *counts;
+    for i in 0..COURSES {
+        all[i] = all[i].max(least[i]);
     }
     all
 }

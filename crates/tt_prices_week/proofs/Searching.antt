@@ -27,7 +27,8 @@ module _ (moves : List Move) (amounts : List ℕ) where
 
   -- some move is found if there is one
   pub always_found : AreSorted moves → HasMoveOf amounts moves → (i : ℕ)
-      → (IsNonDecreasingBy (λ m. ordering_index (against m)) moves → IsPartitionPoint (λ m. against m ≡ Less) (λ m. against m ≡ Greater) moves i) → ⊥
+      → (IsNonDecreasingBy (λ m. ordering_index (against m)) moves
+      → IsPartitionPoint (λ m. against m ≡ Less) (λ m. against m ≡ Greater) moves i) → ⊥
   always_found sorted there i point =
       let parts = point (searchable_from_sorted nat_list_cmp_total (λ m. m.entry.amounts) moves amounts sorted) in
       let m = there.0 in

@@ -25,7 +25,7 @@ pub struct Drawn {
 }
 
 /// Returns a random number below `bound`, which is positive.
-fn below(rng: &mut Pcg32, bound: u32) -> u32 {
+pub fn below(rng: &mut Pcg32, bound: u32) -> u32 {
     rng.next_u32() % bound.max(1)
 }
 

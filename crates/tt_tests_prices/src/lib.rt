@@ -2,7 +2,13 @@
 #![tactic(auto)]
 
 #[cfg(test)]
+mod brute_force;
+#[cfg(test)]
 mod drawn;
+#[cfg(test)]
+mod groups;
+#[cfg(test)]
+mod groups_drawn;
 #[cfg(test)]
 mod terms;
 #[cfg(test)]

@@ -1,5 +1,5 @@
 -- The layers of a day: what can follow the first periods, and what they pay; cs are the courses that the group concerns.
-use Rattle.std.specs.Prelude.{◌≡◌, ℕ, ◌+◌, ◌-◌, ◌*◌, ◌^◌, ◌<◌, ◌≤◌, min, ℤ, pos, ◌+ℤ◌, ◌≤ℤ◌, true, false, ◌⊎◌, List, [], ◌∷◌, length, filter, sum_by, count_ones, bit_and, replicate, slice_index, Contains}
+use Rattle.std.specs.Prelude.{◌≡◌, ℕ, ◌+◌, ◌-◌, ◌*◌, ◌^◌, ◌<◌, ◌≤◌, min, max, ℤ, pos, ◌+ℤ◌, ◌≤ℤ◌, true, false, ◌⊎◌, List, [], ◌∷◌, length, filter, sum_by, count_ones, bit_and, replicate, slice_index, slice_index_or, Contains}
 use Rattle.std.specs.Int.{bit_not, w64}
 use Rattle.tt_list_laws.specs.Words.{range_below}
 use Rattle.tt_instance.specs.declared.limit.TheConstants.{ISOLATED_COST, MISSING_DAY_COST}
@@ -22,6 +22,10 @@ use Rattle.tt_prices_day.specs.declared.rules.Rules.{Rules}
 -- Before the first period nothing is counted or paid.
 abbrev pub first_node : Node
 first_node = record { key = record { counts = replicate 16 0; occupied = 0; pending = 0 }; paid = pos 0 }
+
+-- The sum of the prices of the courses of a set, by their places.
+abbrev pub sum_of : List ℤ → CourseSet → ℤ
+sum_of prices x = signed_sum (λ i. slice_index_or prices i (pos 0)) (filter (has_course x) (range_below (length prices)))
 
 -- The prices of the courses of a set in a period.
 abbrev pub set_price : PricedGroup → List ℕ → ℕ → ℕ → CourseSet → ℤ
@@ -63,6 +67,10 @@ pub record IsNodeWithin (n : ℕ) (x : Node) : Type 0 where
   pub counts : (i : ℕ) → slice_index x.key.counts i ≤ 254
   pub paid : IsWithin n x.paid
 
+-- Some node has the key of a node, and pays no more.
+abbrev pub HasCheaper : List Node → Node → Type 0
+HasCheaper nodes x = (y : Node) × Contains nodes y × (y.key ≡ x.key) × (y.paid ≤ℤ x.paid)
+
 -- A course would have too many lectures.
 abbrev pub IsOver : Rules → Letter → Node → Type 0
 IsOver rules letter node = (i : ℕ) × (i < 16) × (slice_index rules.most i < slice_index node.key.counts i + slice_index letter.set.courses i)
@@ -85,18 +93,18 @@ AreFollowed rules scale letters layer next = (x : Node) (l : Letter) → Contain
 abbrev pub AreReached : Rules → ℕ → List Letter → List Node → List Node → Type 0
 AreReached rules scale letters layer next = (z : Node) → Contains next z → (x : Node) × (l : Letter) × Contains layer x × Contains letters l × IsNext rules scale l x z
 
--- The node at the end of the day pays for the pending curricula.
-pub record IsEndOf (scale : ℕ) (node end : Node) : Type 0 where
+-- The node at the end of the day pays for the pending curricula. A course whose lectures above its cap are paid for has at least one.
+pub record IsEndOf (rules : Rules) (scale : ℕ) (node end : Node) : Type 0 where
   pub pending_word : node.key.pending < 2 ^ 64
-  pub counts : end.key.counts ≡ node.key.counts
+  pub counts : (i : ℕ) → slice_index end.key.counts i ≡ max (slice_index node.key.counts i) (slice_index rules.paying i)
   pub occupied : end.key.occupied ≡ 0
   pub pending : end.key.pending ≡ 0
   pub paid : end.paid ≡ node.paid +ℤ pos (scale * (ISOLATED_COST * count_ones node.key.pending))
 
 -- Whether each node has an end that pays no more.
-abbrev pub AreEnded : ℕ → List Node → List Node → Type 0
-AreEnded scale layer ends = (x : Node) → Contains layer x → (y z : Node) × IsEndOf scale x y × Contains ends z × (z.key ≡ y.key) × (z.paid ≤ℤ y.paid)
+abbrev pub AreEnded : Rules → ℕ → List Node → List Node → Type 0
+AreEnded rules scale layer ends = (x : Node) → Contains layer x → (y z : Node) × IsEndOf rules scale x y × Contains ends z × (z.key ≡ y.key) × (z.paid ≤ℤ y.paid)
 
 -- Whether each end is that of a node.
-abbrev pub AreEndsOf : ℕ → List Node → List Node → Type 0
-AreEndsOf scale layer ends = (z : Node) → Contains ends z → (x : Node) × Contains layer x × IsEndOf scale x z
+abbrev pub AreEndsOf : Rules → ℕ → List Node → List Node → Type 0
+AreEndsOf rules scale layer ends = (z : Node) → Contains ends z → (x : Node) × Contains layer x × IsEndOf rules scale x z

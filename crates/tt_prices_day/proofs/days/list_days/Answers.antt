@@ -128,8 +128,8 @@ returns-clause-list c =
     omega (arith, c.loop-period-test.false, c.loop-period.auto.period-end, c.periods-period-end.ensures.value) in
     day-listed p g shape a.day c.requires layer ends entries
     (subst (λ n. IsLayer p shape.scale g no_weights a.day shape.rules n layer) whole c.loop-period.invariant.layer)
-    (subst (λ (l : List Node). AreEnded shape.scale l ends) c.deref-2.ensures.value c.in_ok-ends.ensures.followed)
-    (subst (λ (l : List Node). AreEndsOf shape.scale l ends) c.deref-2.ensures.value c.in_ok-ends.ensures.reached)
+    (subst (λ (l : List Node). AreEnded shape.rules shape.scale l ends) c.deref-2.ensures.value c.in_ok-ends.ensures.followed)
+    (subst (λ (l : List Node). AreEndsOf shape.rules shape.scale l ends) c.deref-2.ensures.value c.in_ok-ends.ensures.reached)
     (subst (λ (l : List Node). (x : Node) → Contains l x → (y : PricedDay) × Contains entries y × IsEntryOf shape x y) c.deref-3.ensures.value
     c.in_ok-entries.ensures.all)
     (subst (λ (l : List Node). (y : PricedDay) → Contains entries y → (x : Node) × Contains l x × IsEntryOf shape x y) c.deref-3.ensures.value

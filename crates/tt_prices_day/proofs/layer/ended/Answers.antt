@@ -13,7 +13,7 @@ returns-clause-within c = λ n node.
     subst (IsWithin (2 ^ 31)) (sym c.from.ensures) (within-pos (c.args.scale * (2 * ones)) (2 ^ 31)
     (omega (arith, scaled-le c.args.scale (2 * ones) 128 c.requires.scale (omega (arith, few))))) in
     record {
-      counts = node.counts;
+      counts = λ i. omega (arith, c.raised.ensures i, node.counts i, c.requires.paying i);
       paid = subst (IsWithin (n + 2 ^ 31)) (sym (sum-of (2 ^ 60) (2 ^ 31) c.args.node.now.paid c.from.result (omega arith) c.requires.node.paid points))
           (within-plus n (2 ^ 31) c.args.node.now.paid c.from.result node.paid points);
     }

@@ -1,12 +1,11 @@
-use Rattle.std.proofs.Common.{◌+◌, ◌^◌, ◌++◌, List, get_or, sym, subst, inl, inr}
-use Rattle.std.specs.Prelude.{◌⊎◌, Contains, pos}
+use Rattle.std.proofs.Common.{◌+◌, ◌^◌, List, get_or, sym, subst, inl, inr}
+use Rattle.std.specs.Prelude.{◌⊎◌, All, Contains, pos}
 use Rattle.std.proofs.lemmas.List.Elements.{Contains-get_or}
 use Rattle.tt_groups_day.proofs.Searching.{no_set}
-use Rattle.tt_prices_day.specs.Inner.Layers.{IsNext, IsOver, IsNodeWithin}
+use Rattle.tt_prices_day.specs.Inner.Layers.{IsNext, IsOver, IsNodeWithin, HasCheaper}
 use Rattle.tt_prices_day.specs.declared.letters.Letter.{Letter}
 use Rattle.tt_prices_day.specs.declared.node.Node.{Node}
 use Rattle.tt_prices_day.proofs.Growing.{taken_cases, taken_all}
-use Rattle.tt_prices_day.proofs.Kept.{all_own}
 use Rattle.tt_prices_day.proofs.layer.next_layer.Goals as goal
 
 -- the default letter, for indices outside a list
@@ -24,9 +23,9 @@ loop-letter-preserved c =
     let now = c.in_ok-follow.ensures in
     record {
       followed = λ x l m k. elim (taken_cases letters i no_letter l there k) [
-        | inl h ↦ elim (before.followed x l m h) [ inl over ↦ inl over | inr w ↦ inr (w.0, now.kept w.0 w.1, w.2) ]
+        | inl h ↦ elim (before.followed x l m h) [ inl over ↦ inl over | inr w ↦ inr (w.0, w.1, now.kept w.0 w.2) ]
         | inr e ↦ subst (λ (n : Letter). IsOver c.args.rules.now n x
-            ⊎ ((y : Node) × Contains c.follow.new.next.items y × IsNext c.args.rules.now c.args.scale n x y)) e (now.followed x m)
+            ⊎ ((y : Node) × IsNext c.args.rules.now c.args.scale n x y × HasCheaper c.follow.new.next.nodes.items y)) e (now.followed x m)
       ];
       reached = λ y m. elim (now.reached y m) [
         | inl h ↦ before.reached y h
@@ -39,18 +38,13 @@ pub returns-clause-followed : goal.returns-clause-followed
 returns-clause-followed c = λ x l m k.
     elim (c.loop-letter.invariant.followed x l m (taken_all c.args.letters.now c.loop-letter.letter-index l c.loop-letter-test.false k)) [
       | inl over ↦ inl over
-      | inr w ↦ let v = c.in_ok-keep_cheapest.ensures.all w.0 (subst (λ (l : List Node). Contains l w.0) (sym c.as_mut_slice.ensures.value) w.1) in inr (w.0, v.0, w.2, v.1, v.2, v.3)
+      | inr w ↦
+          let v = subst (λ (l : List Node). HasCheaper l w.0) (sym c.into_nodes.ensures) w.2 in
+          inr (w.0, v.0, w.1, v.1, v.2, v.3)
     ]
 
-own_nodes : (c : goal.After-drop-next-2) → (z : Node) → Contains c.keep_cheapest.new.kept.items z → Contains c.loop-letter.next.items z
-own_nodes c z m =
-    let h = c.in_ok-keep_cheapest.ensures.own z m in
-    subst (λ (l : List Node). Contains l z) c.as_mut_slice.ensures.value
-    (subst (λ (l : List Node). Contains (l ++ c.as_mut_slice.result.now) z) c.new-kept.ensures.items h)
-
 pub returns-clause-reached : goal.returns-clause-reached
-returns-clause-reached c = λ z m. c.loop-letter.invariant.reached z (own_nodes c z m)
+returns-clause-reached c = λ z m. c.loop-letter.invariant.reached z (subst (λ (l : List Node). Contains l z) c.into_nodes.ensures m)
 
 pub returns-clause-within : goal.returns-clause-within
-returns-clause-within c = λ n all.
-    all_own (IsNodeWithin (n + 2 ^ 31)) c.keep_cheapest.new.kept.items c.loop-letter.next.items (own_nodes c) (c.loop-letter.invariant.within n all)
+returns-clause-within c = λ n all. subst (All (IsNodeWithin (n + 2 ^ 31))) (sym c.into_nodes.ensures) (c.loop-letter.invariant.within n all)

@@ -13,6 +13,7 @@ use Rattle.tt_prices.specs.Rows.{group_of}
 use Rattle.tt_prices_day.specs.Inner.Layers.{AreLetters, set_price}
 use Rattle.tt_prices_day.specs.declared.letters.Letter.{Letter}
 use Rattle.tt_prices_day.proofs.Growing.{pushed_cases, pushed_last, taken_cases, all_pushed}
+use Rattle.tt_prices_day.proofs.Priced.{sum-of_prices}
 use Rattle.tt_prices_day.proofs.Within.{word-of}
 use Rattle.tt_prices_day.proofs.letters.letters_of.Goals as goal
 use Rattle.tt_prices_day.proofs.letters.letters_of.Goals.{then-is_open+in_ok-push, else-is_open}
@@ -41,6 +42,8 @@ loop-set-preserved c =
           let cases : (x : Letter) → Contains now x → Contains old x ⊎ (letter ≡ x) = λ x m.
           pushed_cases old letter x (subst (λ (l : List Letter). Contains l x) items m) in
           let open_is = c.is_open.ensures.open w.if-is_open.true in
+          let summed = sum-of_prices g a.courses.now a.time.day a.time.period set w.deref.result.now
+          (w.deref.ensures.value ∙ c.in_ok-prices.ensures.value) in
           record {
             letters = record {
               own = λ x m. elim (cases x m) [
@@ -54,7 +57,7 @@ loop-set-preserved c =
               priced = λ x m. elim (cases x m) [
                 | inl h ↦ before.priced x h
                 | inr e ↦ subst (λ (n : Letter). n.price ≡ set_price g a.courses.now a.time.day a.time.period n.set) e
-                    (same ∙ w.price_of-price.ensures.value)
+                    (same ∙ w.price_of-price.ensures.value ∙ summed)
               ];
               all = λ x m fits. elim (taken_cases sets i no_set x there m) [
                 | inl h ↦ let v = before.all x h fits in

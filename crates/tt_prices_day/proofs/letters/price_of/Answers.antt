@@ -1,13 +1,11 @@
 use Rattle.std.proofs.Common.{◌≡◌, ℕ, ◌+◌, ◌*◌, ◌<◌, true, false, [], ◌∷◌, sym, ap, subst, ◌∙◌, arith, eq-eqb, w64, ℤ, pos, ◌+ℤ◌, to_z, of_z}
-use Rattle.std.specs.Prelude.{filter, slice_index}
+use Rattle.std.specs.Prelude.{filter, slice_index, slice_index_or}
 use Rattle.std.proofs.lemmas.Bool.{ne_eqb}
 use Rattle.std.proofs.lemmas.Int.{ints}
 use Rattle.tt_list_laws.specs.Words.{range_below}
 use Rattle.tt_list_laws.proofs.Below.{filter_more-passing, filter_more-failing}
-use Rattle.tt_instance.specs.Cells.{slot}
 use Rattle.tt_groups_day.specs.Sets.{has_course}
-use Rattle.tt_prices.specs.Limits.{IsWithin}
-use Rattle.tt_prices.specs.Rows.{group_of}
+use Rattle.tt_prices.specs.Limits.{IsPrice, IsWithin}
 use Rattle.tt_prices.specs.Signed.{signed_sum}
 use Rattle.tt_prices.proofs.Signed.{signed_sum-append}
 use Rattle.tt_prices_day.proofs.Within.{within-more, within-plus, word-of, word32-of}
@@ -18,34 +16,34 @@ pub loop-i-preserved : goal.loop-i-preserved
 loop-i-preserved c =
     let a = c.args in
     let i = c.loop-i.i in
-    let cs = a.courses.now in
+    let prices = a.prices.now in
     let set = a.set.now in
-    let f : ℕ → ℤ = λ k. (group_of a.group.now).price (slice_index cs k) (slot a.time.day a.time.period) in
+    let f : ℕ → ℤ = λ k. slice_index_or prices k (pos 0) in
     let before = c.loop-i.invariant in
-    let few : i < 16 = omega (arith, c.loop-i-test.true, c.requires) in
+    let few : i < 16 = omega (arith, c.loop-i-test.true, c.requires.few) in
+    let small : IsPrice (f i) = c.requires.prices i (pos 0) c.loop-i-test.true in
     elim c.if-set-i-eq1.branch [
       | then-set-i-eq1 w ↦
           let has : has_course set i ≡ true = eq-eqb (slice_index set.courses i) 1 w.if-set-i-eq1.true in
-          let old : ℤ = to_z w64 c.loop-i.price-bits in
-          let price = w.price.result in
-          let from : w.from-price.result ≡ price = w.from-price.ensures ∙ word32-of price w.price.ensures.small in
-          let within : IsWithin 1_000_000 w.from-price.result = subst (IsWithin 1_000_000) (sym from) w.price.ensures.small in
-          let both = within-plus (i * 1_000_000) 1_000_000 old w.from-price.result before.small within in
-          let now : to_z w64 c.if-set-i-eq1.price-bits ≡ old +ℤ w.from-price.result = w.price-is
-          ∙ ap (λ z. to_z w64 (of_z w64 (old +ℤ z))) (word-of 1_000_000 w.from-price.result (omega arith) within)
-          ∙ word-of (i * 1_000_000 + 1_000_000) (old +ℤ w.from-price.result) (omega (arith, few)) both in
+          let old : ℤ = to_z w64 c.loop-i.sum-bits in
+          let from : w.from-sum.result ≡ f i = w.from-sum.ensures ∙ word32-of (f i) small in
+          let within : IsWithin 1_000_000 w.from-sum.result = subst (IsWithin 1_000_000) (sym from) small in
+          let both = within-plus (i * 1_000_000) 1_000_000 old w.from-sum.result before.small within in
+          let now : to_z w64 c.if-set-i-eq1.sum-bits ≡ old +ℤ w.from-sum.result = w.sum-is
+          ∙ ap (λ z. to_z w64 (of_z w64 (old +ℤ z))) (word-of 1_000_000 w.from-sum.result (omega arith) within)
+          ∙ word-of (i * 1_000_000 + 1_000_000) (old +ℤ w.from-sum.result) (omega (arith, few)) both in
           let more : signed_sum f (filter (has_course set) (range_below (i + 1))) ≡ signed_sum f (filter (has_course set) (range_below i)) +ℤ (f i +ℤ pos 0) =
           ap (signed_sum f) (filter_more-passing (has_course set) i has) ∙ signed_sum-append f (filter (has_course set) (range_below i)) (i ∷ []) in
           record {
-            value = omega (arith, ints, now, from, before.value, more, w.price.ensures.value);
+            value = omega (arith, ints, now, from, before.value, more);
             small = subst (IsWithin ((i + 1) * 1_000_000)) (sym now)
-                (within-more (i * 1_000_000 + 1_000_000) ((i + 1) * 1_000_000) (old +ℤ w.from-price.result) (omega arith) both);
+                (within-more (i * 1_000_000 + 1_000_000) ((i + 1) * 1_000_000) (old +ℤ w.from-sum.result) (omega arith) both);
           }
       | else-set-i-eq1 w ↦
           let has : has_course set i ≡ false = ne_eqb (slice_index set.courses i) 1 w.if-set-i-eq1.false in
           record {
-            value = w.price-is ∙ before.value ∙ sym (ap (signed_sum f) (filter_more-failing (has_course set) i has));
-            small = subst (IsWithin ((i + 1) * 1_000_000)) (sym w.price-is)
-                (within-more (i * 1_000_000) ((i + 1) * 1_000_000) (to_z w64 c.loop-i.price-bits) (omega arith) before.small);
+            value = w.sum-is ∙ before.value ∙ sym (ap (signed_sum f) (filter_more-failing (has_course set) i has));
+            small = subst (IsWithin ((i + 1) * 1_000_000)) (sym w.sum-is)
+                (within-more (i * 1_000_000) ((i + 1) * 1_000_000) (to_z w64 c.loop-i.sum-bits) (omega arith) before.small);
           }
     ]

@@ -1,15 +1,13 @@
 use Rattle.std.proofs.Common.{◌≡◌, ◌*◌}
-use Rattle.std.specs.Prelude.{filter, slice_index}
+use Rattle.std.specs.Prelude.{pos, filter, slice_index_or}
 use Rattle.tt_list_laws.specs.Words.{range_below}
-use Rattle.tt_instance.specs.Cells.{slot}
 use Rattle.tt_groups_day.specs.Sets.{has_course}
 use Rattle.tt_prices.specs.Limits.{IsWithin}
-use Rattle.tt_prices.specs.Rows.{group_of}
 use Rattle.tt_prices.specs.Signed.{signed_sum}
 use Rattle.tt_prices_day.proofs.letters.price_of.Given as goal
 
 abbrev pub invariant-loop-i : goal.invariant-loop-i
 invariant-loop-i l = record {
-  value : l.price ≡ signed_sum (λ k. (group_of l.group).price (slice_index l.courses k) (slot l.time.day l.time.period)) (filter (has_course l.set) (range_below l.i));
-  small : IsWithin (l.i * 1_000_000) l.price;
+  value : l.sum ≡ signed_sum (λ k. slice_index_or l.prices k (pos 0)) (filter (has_course l.set) (range_below l.i));
+  small : IsWithin (l.i * 1_000_000) l.sum;
 }

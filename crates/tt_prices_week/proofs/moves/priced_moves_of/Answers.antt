@@ -29,10 +29,11 @@ loop-day-preserved c =
     let new = c.in_ok-push.ensures.items in
     let more = moves_more (take i days) old (get_or days i no_day) m c.loop-day.invariant.moves c.priced_move.ensures.is in
     let plain = c.in_ok-plain.plain.items in
+    let are = c.in_ok-plain.ensures in
     let own = subst (λ (l : List Move). Contains l m.by) c.deref.ensures.value c.priced_move.ensures.own in
     let ready : IsReady d.sizes.items d.weights.items d.courses m = record {
-      indexed = All-contains (λ k. k.index ≡ index_of d.weights.items d.courses k.entry.amounts) plain m.by c.in_ok-plain.ensures.indexed own;
-      floored = All-contains (λ k. k.floor ≡ floor_of d.sizes.items k.entry.amounts) plain m.by c.in_ok-plain.ensures.floored own;
+      indexed = All-contains (λ k. k.index ≡ index_of d.weights.items d.courses k.entry.amounts) plain m.by are.indexed own;
+      floored = All-contains (λ k. k.floor ≡ floor_of d.sizes.items k.entry.amounts) plain m.by are.floored own;
       small = c.priced_move.ensures.small;
     } in
     record {

@@ -19,7 +19,8 @@ returns c =
       indexed = All-permutation (λ m. m.index ≡ index_of d.weights.items d.courses m.entry.amounts) old new order are.ready.indexed;
       floored = All-permutation (λ m. m.floor ≡ floor_of d.sizes.items m.entry.amounts) old new order are.ready.floored;
       all = λ x there.
-          let in_entries = subst (λ (l : List DayEntry). Contains l (plain x)) (sym c.in_ok-entries.ensures) (plain_there c.args.days.now x there) in
+          let in_days = plain_there c.args.days.now x there in
+          let in_entries = subst (λ (l : List DayEntry). Contains l (plain x)) (sym c.in_ok-entries.ensures) in_days in
           let found = are.all (plain x) (subst (λ (l : List DayEntry). Contains l (plain x)) (sym c.deref.ensures.value) in_entries) in
           (found.0, Contains-permutation old new found.0 order found.1, ap (λ (e : DayEntry). e.amounts) found.2);
     }
