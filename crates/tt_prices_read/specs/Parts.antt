@@ -1,5 +1,5 @@
 -- The parts of a file, and their limits.
-use Rattle.std.specs.Prelude.{◌≡◌, ℕ, ◌<◌, ◌≤◌, true, List, All, length, map}
+use Rattle.std.specs.Prelude.{◌≡◌, ℕ, ◌<◌, ◌≤◌, Bool, true, List, All, length, map}
 use Rattle.tt_list_laws.specs.Words.{are_distinct}
 use Rattle.tt_leaf.specs.Ranges.{AreBelow}
 use Rattle.tt_prices.specs.Limits.{IsPrice}
@@ -69,7 +69,8 @@ pub record AreRents (slots : ℕ) (rents : List ℕ) : Type 0 where
 abbrev pub IsRoomRents : Sizes → text.RoomRents → Type 0
 IsRoomRents sizes r = (r.room < sizes.rooms) × AreRents (text.slots_of sizes) r.rents
 
--- Whether a group, or the rents of a room, are within the limits of the instance; a group has the instance's number of periods of a day.
-abbrev pub IsItem : Sizes → Item → Type 0
-IsItem sizes (Group g) = IsGroup sizes (group_of g) × (g.periods ≡ sizes.periods)
-IsItem sizes (Rent r) = IsRoomRents sizes (rents_of r)
+-- Whether a group, or the rents of a room, are within the limits of the instance; a group has the instance's number of periods of a day, and
+-- there are rents only if the file claims the rooms.
+abbrev pub IsItem : Sizes → Bool → Item → Type 0
+IsItem sizes has_rooms (Group g) = IsGroup sizes (group_of g) × (g.periods ≡ sizes.periods)
+IsItem sizes has_rooms (Rent r) = IsRoomRents sizes (rents_of r) × (has_rooms ≡ true)

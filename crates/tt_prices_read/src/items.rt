@@ -1,6 +1,6 @@
 //! Single groups, and the rents of single rooms.
 
-ghost use Rattle.std.specs.Prelude.{◌≡◌, ◌<◌, IfOk, IfSome};
+ghost use Rattle.std.specs.Prelude.{◌≡◌, ◌<◌, true, IfOk, IfSome};
 ghost use Rattle.std.specs.Option.{option_map};
 ghost use Rattle.tt_text.specs.Feeds.{room_of};
 ghost use Rattle.tt_prices_read.specs.Inner.Contract.{ReadsAs, ReadsPast};
@@ -30,6 +30,7 @@ pub enum ItemWord {
 /// Returns the word of an item, or the end, in one token.
 fn item_word(text: &[u8], at: usize, has_rooms: bool) -> Result<ItemWord, PricesTextFault>
     ensures read { Gives (λ w. w) result (item_word_of has_rooms (record { text = text.now; at = at })) }
+    ensures rooms { IfOk result (λ w. w ≡ ItemWord.Rent → has_rooms ≡ true) }
     ensures unread { ReportsNoFailedRead result }
 {
     match text {
@@ -127,7 +128,7 @@ pub fn read_item<R: Source>(
 ) -> Result<Option<Item>, PricesTextFault>
     ensures read { ReadsAs R.Source feed.old source.old feed.new source.new (option_map part_of) result (item_at sizes has_rooms) }
     ensures forward { IfOk result (λ o. IfSome o (λ _. room_of feed.new < room_of feed.old)) }
-    ensures within { IfOk result (λ o. IfSome o (IsItem sizes)) }
+    ensures within { IfOk result (λ o. IfSome o (IsItem sizes has_rooms)) }
 {
     let at = token(feed, source)?;
     match item_word(feed.token(), at, has_rooms)? {

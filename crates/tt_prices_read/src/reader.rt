@@ -94,7 +94,7 @@ impl PricesReader {
         // A failed read is reported if the bytes before it give a part of the item and no error.
         ensures cut_short { self.old.fault ≡ None → ItemAgreesWhenCut self.old (R.remaining source.old) result self.new.fed (R.remaining source.new) }
         // The numbers of the item are the instance's, and its prices are within their limits.
-        ensures item { IfOk result (λ o. IfSome o (IsItem self.old.sizes)) }
+        ensures item { IfOk result (λ o. IfSome o (IsItem self.old.sizes self.old.header.has_rooms)) }
     {
         if let Some(fault) = self.fault {
             return Err(fault);
