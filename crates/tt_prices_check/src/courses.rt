@@ -33,7 +33,7 @@ fn is_member(instance: &Instance<'_>, group: &PricedGroup, course: u32) -> bool
 }
 
 /// Checks whether a group concerns a course.
-fn is_concerned(instance: &Instance<'_>, group: &PricedGroup, course: u32) -> bool
+pub fn is_concerned(instance: &Instance<'_>, group: &PricedGroup, course: u32) -> bool
     ensures { result ≡ concerns instance.now (group_of group.now) course }
 {
     group.has_days_of(course) || is_further(group, course) || is_member(instance, group, course)

@@ -1,2 +1,11 @@
+pub mod Accounted
 pub mod Holding
+pub mod Once
 pub mod Parts
+pub mod Priced
+pub mod Rented
+pub mod RentsSummed
+pub mod RowAdded
+pub mod Termed
+pub mod Totalled
+pub mod Underway

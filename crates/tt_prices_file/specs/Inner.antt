@@ -1,0 +1,6 @@
+pub mod Accounts
+pub mod Groups
+pub mod Rents
+pub mod Tables
+pub mod Terms
+pub mod Underway
