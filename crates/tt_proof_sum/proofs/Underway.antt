@@ -50,9 +50,8 @@ use Rattle.tt_proof_sum.specs.GroupsFaults.{Pass, AfterClaims, ExplainsGroups}
 use Rattle.tt_proof_sum.specs.Sums.{group_targets, targets_of_claims, Part, GroupsPart, GroupsFile}
 use Rattle.tt_proof_sum.specs.Tables.{State, owner, first_claim, begun, group_places, first_owner, Marks, IsTableOf}
 use Rattle.tt_proof_sum.specs.UpToFailedRead.{AreGroupsCutOff}
-use Rattle.tt_proof_sum.proofs.Joining.{first_claim-push}
 use Rattle.tt_proof_sum.proofs.Looked.{keeps_known}
-use Rattle.tt_proof_sum.proofs.Owners.{entered_none, entered_more, group_placed, all_unclaimed, claimed_twice, claimed_before}
+use Rattle.tt_proof_sum.proofs.Owners.{entered_none, entered_more, group_placed, all_unclaimed, claimed_twice, claimed_before, table_after}
 
 -- -- another claim of a stream
 
@@ -65,10 +64,6 @@ to_more : (p : Problem) (s : Stream) (b : ℕ) (ks : List GroupClaim) (mid after
     → group_at (sizes_of p) mid ≡ Ok (Some k, after) → ReadsTo p s b (ks ++ k ∷ []) after
 to_more p s b ks mid after k r e =
     record { headed = r.headed; header = r.header; reads = reads_more (sizes_of p) r.headed ks mid after k r.reads e }
-
-unclaimed_owner : (y : Bool) (q o : ℕ) → o ≡ cond (y && false) q o
-unclaimed_owner true q o = refl
-unclaimed_owner false q o = refl
 
 -- ---- the header
 
@@ -154,29 +149,8 @@ module _ (p : Problem) (is : IsInstance p) (before : Option (List ℕ)) (a : Sta
     abbrev file : GroupsPart
     file = record { bound = r.bound; claims = u.claims }
 
-    table_after : IsTableOf b (parts ++ GroupsFile file ∷ [])
-    table_after =
-        let places = map place (targets_of_claims u.claims) in
-        let number_is : a.proof ≡ 1 + length parts = ap (λ (z : State). z.proof) begins ∙ (let n = of.number in omega (arith, n)) in
-        record {
-          owners = λ k l.
-              u.entered.marks.owners k l ∙ by k l (has_number places k) refl
-              ∙ ap (λ q. cond ((first_claim 1 parts k == 0) && has_number places k) q (first_claim 1 parts k)) number_is
-              ∙ sym (first_claim-push 1 parts (GroupsFile file) k (lit< tt));
-          number = let long = length-append parts (GroupsFile file ∷ []) in let same = u.entered.marks.proof in
-              omega (arith, same, number_is, long);
-          free = u.entered.marks.clash ∙ ap (λ (z : State). z.clash) begins ∙ of.free;
-        }
-      where
-        first_is : (k : ℕ) → k < 32768 → owner a k ≡ first_claim 1 parts k
-        first_is k l = ap (λ (z : State). owner z k) begins ∙ of.owners k l
-
-        by : (k : ℕ) → k < 32768 → (z : Bool) → has_number (map place (targets_of_claims u.claims)) k ≡ z
-            → cond z a.proof (owner a k) ≡ cond ((first_claim 1 parts k == 0) && z) a.proof (first_claim 1 parts k)
-        by k l true e =
-            let none : first_claim 1 parts k ≡ 0 = sym (first_is k l) ∙ u.entered.fresh k l e in
-            rw (eq-eqb (first_claim 1 parts k) 0 none) refl
-        by k l false e = first_is k l ∙ unclaimed_owner (first_claim 1 parts k == 0) a.proof (first_claim 1 parts k)
+    fresh_before : (k : ℕ) → k < 32768 → has_number (map place (targets_of_claims u.claims)) k ≡ true → owner old k ≡ 0
+    fresh_before k l has = sym (ap (λ (z : State). owner z k) begins) ∙ u.entered.fresh k l has
 
     pub joins : (known : Option (List ℕ)) → Keeps known before → IsOfKind kind.Groups known → (later : Option (List ℕ)) (after : Reader)
         → (is_some before ≡ true → group_at (sizes_of p) (stream_at r.fed now) ≡ Ok (None, stream_at after.fed later)) → r.bound ≤ sum
@@ -204,7 +178,7 @@ module _ (p : Problem) (is : IsInstance p) (before : Option (List ℕ)) (a : Sta
       };
       bound = refl;
       apart = passes.free;
-      table = table_after;
+      table = table_after old b parts (GroupsFile file) of marked fresh_before;
     }
 
     -- the stream of the file, for a fault after the claims that were read
@@ -267,7 +241,9 @@ module _ (p : Problem) (is : IsInstance p) (before : Option (List ℕ)) (a : Sta
                 (tells_claim f reported);
           }
       claim_fault bytes e kind (fault.Proof f) reported = absurd reported
+      claim_fault bytes e kind (fault.Prices f) reported = absurd reported
       claim_fault bytes e kind (fault.ClaimedElsewhere i o) reported = absurd reported
+      claim_fault bytes e kind (fault.TargetClaimedElsewhere y o) reported = absurd reported
       claim_fault bytes e kind fault.TooLarge reported = absurd reported
 
     pub cheap_fault : (bytes : List ℕ) → before ≡ Some bytes → kind_of bytes ≡ kind.Groups → (later : Option (List ℕ)) (after : Reader)

@@ -47,12 +47,13 @@ pub fn take_prices<R: Source>(
         Ok(claim) => claim,
         Err(stop) => return Err(stop_from_prices(stop)),
     };
-    if let Some(owned) = table.owner_of_claim(instance.courses(), &claim) {
+    let courses = instance.courses();
+    if let Some(owned) = table.owner_of_claim(courses, &claim) {
         return Err(Stop::Fault(FileFault::TargetClaimedElsewhere {
             target: owned.target,
             earlier: owned.owner,
         }));
     }
-    table.mark_claim(instance.courses(), &claim);
+    table.mark_claim(courses, &claim);
     Ok(Bound::AtLeast(claim.bound))
 }
