@@ -95,12 +95,12 @@ header_broken s e = rw e refl
 -- streams that give the first word of groups, and after it only a failed read
 groups_broken : (s : Stream) (at : ℕ) → s ≡ with_token (record { text = codes "CTTG"; at = at }) (stopped (Err Read))
     → groups.header_at s ≡ Err (groups_fault.Text read_failed)
-unfolding groups.header_at
+unfolding groups.opening_at groups.bound_at word_at token_at
 groups_broken s at e = rw e refl
 
 prices_broken : (s : Stream) (at : ℕ) → s ≡ with_token (record { text = codes "CTTG"; at = at }) (stopped (Err Read))
     → prices.header_at s ≡ Err (prices_fault.Text read_failed)
-unfolding prices.header_at prices.bound_at prices.word_at prices.token_at
+unfolding prices.header_at prices.bound_at prices.word_at prices.token_at token_at
 prices_broken s at e = rw e refl
 
 pub broken_off : (p : Problem) (before after : Option (List ℕ)) → BreaksOff before after → (bytes : List ℕ) → before ≡ Some bytes

@@ -159,9 +159,11 @@ rooms_called n =
     (each_map Called Stability ns (each (λ c. Called (Stability c)) (λ c. (c, inr refl)) ns))
 
 -- the first owner of a target of the rooms
-rooms_owner : (a : State) (n : ℕ) → first_owner a (map place (room_targets n))
-    ≡ option_or (first_owner a (numbered 0 (range_below n))) (first_owner a (numbered 3 (range_below n)))
-rooms_owner a n = ap (first_owner a) (room_places n) ∙ first_owner-append a (numbered 0 (range_below n)) (numbered 3 (range_below n))
+rooms_owner : (a : State) (n : ℕ) (x y : Option ℕ) → x ≡ first_owner a (numbered 0 (range_below n))
+    → y ≡ first_owner a (numbered 3 (range_below n)) → first_owner a (map place (room_targets n)) ≡ option_or x y
+rooms_owner a n x y first second =
+    ap (first_owner a) (room_places n) ∙ first_owner-append a (numbered 0 (range_below n)) (numbered 3 (range_below n))
+    ∙ ap (λ (o : Option ℕ). option_or o (first_owner a (numbered 3 (range_below n)))) (sym first) ∙ ap (option_or x) (sym second)
 
 module _ (a : State) (n : ℕ) (k : PricesClaim) where
   abbrev qs : List ℕ
@@ -198,31 +200,29 @@ module _ (a : State) (n : ℕ) (k : PricesClaim) where
       pub none_but_rooms : k.has_rooms ≡ false → first_owner a (claim_places n k) ≡ None
       none_but_rooms unclaimed = none_owned (ap (λ b. first_owner a (map place (own_rooms b n))) unclaimed)
 
-      pub no_rooms_owned : k.has_rooms ≡ true
-          → option_or (first_owner a (numbered 0 (range_below n))) (first_owner a (numbered 3 (range_below n))) ≡ None
-          → first_owner a (claim_places n k) ≡ None
-      no_rooms_owned claimed none =
-          none_owned (ap (λ b. first_owner a (map place (own_rooms b n))) claimed ∙ rooms_owner a n ∙ none)
+      module _ (x y : Option ℕ) (first : x ≡ first_owner a (numbered 0 (range_below n)))
+          (second : y ≡ first_owner a (numbered 3 (range_below n))) (claimed : k.has_rooms ≡ true) where
+        pub no_rooms_owned : option_or x y ≡ None → first_owner a (claim_places n k) ≡ None
+        no_rooms_owned none =
+            none_owned (ap (λ b. first_owner a (map place (own_rooms b n))) claimed ∙ rooms_owner a n x y first second ∙ none)
 
-      pub rooms_owned : (o : ℕ) → k.has_rooms ≡ true
-          → option_or (first_owner a (numbered 0 (range_below n))) (first_owner a (numbered 3 (range_below n))) ≡ Some o
-          → FirstTarget a (targets_of_claim n k) target.Rooms o
-      rooms_owned o claimed found =
-          let f = first_with_owner a (λ y. IsCalled y target.Rooms) (room_targets n) o (rooms_called n) (rooms_owner a n ∙ found) in
-          let here : FirstTarget a (room_targets n) target.Rooms o = record {
-            before = f.before;
-            target = f.target;
-            more = f.more;
-            split = f.split;
-            free = f.free;
-            owned = f.owned;
-            some = f.some;
-            called = f.is;
-          } in
-          after_curricula target.Rooms o
-          (target_after a target.Rooms o (map WorkingDays cs) rooms
-          (ap (first_owner a) (places_each WorkingDays 1 (λ m. refl) cs) ∙ no_course)
-          (subst (λ b. FirstTarget a (own_rooms b n) target.Rooms o) (sym claimed) here))
+        pub rooms_owned : (o : ℕ) → option_or x y ≡ Some o → FirstTarget a (targets_of_claim n k) target.Rooms o
+        rooms_owned o found =
+            let f = first_with_owner a (λ y. IsCalled y target.Rooms) (room_targets n) o (rooms_called n) (rooms_owner a n x y first second ∙ found) in
+            let here : FirstTarget a (room_targets n) target.Rooms o = record {
+              before = f.before;
+              target = f.target;
+              more = f.more;
+              split = f.split;
+              free = f.free;
+              owned = f.owned;
+              some = f.some;
+              called = f.is;
+            } in
+            after_curricula target.Rooms o
+            (target_after a target.Rooms o (map WorkingDays cs) rooms
+            (ap (first_owner a) (places_each WorkingDays 1 (λ m. refl) cs) ∙ no_course)
+            (subst (λ b. FirstTarget a (own_rooms b n) target.Rooms o) (sym claimed) here))
 
 -- ---- marks
 
