@@ -1,6 +1,6 @@
 -- A file whose kind was checked before it was read.
 use Rattle.std.proofs.Common.{◌≡◌, ℕ, List, Option, Some, None, Result, Ok, Err, refl, ap, subst, ◌∙◌, inl, inr}
-use Rattle.std.specs.Prelude.{IfOk, ◌⊎◌, codes}
+use Rattle.std.specs.Prelude.{IfOk, codes}
 use Rattle.std.specs.Io.KnownBytes.{Consumes, Keeps}
 use Rattle.tt_text.specs.CutShort.{cut_short}
 use Rattle.tt_text.specs.Feeds.{Stream, stopped, with_token}
@@ -14,9 +14,8 @@ use Rattle.tt_groups_read.specs.Reading as groups
 use Rattle.tt_groups_read.specs.declared.fault.GroupTextFault.TheVariants as groups_fault
 use Rattle.tt_prices_read.specs.Reading as prices
 use Rattle.tt_prices_read.specs.declared.fault.PricesTextFault.TheVariants as prices_fault
-use Rattle.tt_text_peek.specs.Fronts.{kind_of, HasNoToken, HasOnlyGroupsWord, BreaksOff}
+use Rattle.tt_text_peek.specs.Fronts.{kind_of, BreaksOff}
 use Rattle.tt_text_peek.specs.declared.kind.FileKind.{FileKind}
-use Rattle.tt_text_peek.specs.declared.kind.FileKind.TheVariants as kind
 use Rattle.tt_text_peek.proofs.Fronts.{broken_kinds}
 use Rattle.tt_stop.proofs.Stops.{OnFault-weaker}
 use Rattle.tt_stop.specs.Stops.{IfFault}

@@ -1,5 +1,5 @@
--- Owners of the targets of groups, and a table to which a group is added.
-use Rattle.std.proofs.Common.{◌≡◌, ℕ, ◌+◌, ◌-◌, ◌*◌, ◌<◌, ◌≤◌, Bool, true, false, not, cond, ◌&&◌, ◌||◌, List, [], ◌∷◌, ◌++◌, take, drop, length, get_or, map, Option, Some, None, refl, sym, ap, subst, ◌∙◌, arith, append-nil, inl, inr, lit<, length-append}
+-- Owners of targets, and a table to which a group or another file is added.
+use Rattle.std.proofs.Common.{◌≡◌, ℕ, ◌+◌, ◌-◌, ◌*◌, ◌<◌, Bool, true, false, not, cond, ◌&&◌, ◌||◌, List, [], ◌∷◌, ◌++◌, take, drop, length, get_or, map, Option, Some, None, refl, sym, ap, subst, ◌∙◌, arith, append-nil, inl, inr, lit<, length-append}
 use Rattle.std.specs.Prelude.{◌==◌, slice_get, IsSomeAnd}
 use Rattle.std.specs.Option.{option_or}
 use Rattle.std.specs.List.{list_all, AllByRecursion}
@@ -11,6 +11,7 @@ use Rattle.std.proofs.lemmas.Grind.{flat_map-append}
 use Rattle.tt_list_laws.specs.Words.{has_number}
 use Rattle.tt_list_laws.proofs.Below.{all_pass}
 use Rattle.tt_list_laws.proofs.Members.{each_of_append}
+use Rattle.tt_list_laws.proofs.Tested.{each_append}
 use Rattle.tt_list_laws.proofs.Twos.{list_all-swap, each_two-push, neither}
 use Rattle.tt_instance.specs.Problem.{Problem}
 use Rattle.tt_instance.specs.Limits.{IsInstance}
@@ -27,6 +28,7 @@ use Rattle.tt_proof_sum.specs.GroupsFaults.{Pass, is_unclaimed, FirstClaimed, Is
 use Rattle.tt_proof_sum.specs.Sums.{is_among, are_apart, group_targets, targets_of_claims, Part, claims_of}
 use Rattle.tt_proof_sum.specs.Tables.{State, owner, first_claim, begun, group_places, first_owner, Marks, IsTableOf}
 use Rattle.tt_proof_sum.proofs.Joining.{has_place, first_claim-push, claim_below, unclaimed, claims_it}
+use Rattle.tt_proof_sum.proofs.Priced.{placed_each}
 use Rattle.tt_list_laws.proofs.All.{list_all-same}
 
 -- ---- the first owner of places
@@ -114,22 +116,15 @@ group_marks a b c g h k = subst (λ (l : List ℕ). Marks a l c) (sym (places_of
 
 -- ---- places of a group's targets are within the table
 
-placed_courses : (n : ℕ) (cs : List ℕ) → n ≤ 8192 → AllByRecursion (λ c. c < n) cs → AllByRecursion (λ y. place y < 32768)
-    (map WorkingDays cs)
-placed_courses n [] at_most h = tt
-placed_courses n (c ∷ cs) at_most h = (omega (arith, h.0, at_most), placed_courses n cs at_most h.1)
-
-placed_curricula : (n : ℕ) (qs : List ℕ) (rest : List Target) → n ≤ 8192 → AllByRecursion (λ q. q < n) qs
-    → AllByRecursion (λ y. place y < 32768) rest → AllByRecursion (λ y. place y < 32768) (map Compactness qs ++ rest)
-placed_curricula n [] rest at_most h r = r
-placed_curricula n (q ∷ qs) rest at_most h r = (omega (arith, h.0, at_most), placed_curricula n qs rest at_most h.1 r)
-
 pub group_placed : (p : Problem) → IsInstance p → (k : GroupClaim) → IsClaim p k → AllByRecursion (λ y. place y < 32768)
     (group_targets k.group)
 group_placed p is k claim =
-    placed_curricula (length p.curricula) k.group.curricula (map WorkingDays k.group.courses) is.within.curricula
-    (recursion_from_All (λ q. q < length p.curricula) k.group.curricula claim.curricula.0)
-    (placed_courses (length p.courses) k.group.courses (let at_most = is.within.courses in omega (arith, at_most))
+    let few = is.within.courses in
+    let few_curricula = is.within.curricula in
+    each_append (λ y. place y < 32768) (map Compactness k.group.curricula) (map WorkingDays k.group.courses)
+    (placed_each Compactness (length p.curricula) (λ q l. omega (arith, l, few_curricula)) k.group.curricula
+    (recursion_from_All (λ q. q < length p.curricula) k.group.curricula claim.curricula.0))
+    (placed_each WorkingDays (length p.courses) (λ c l. omega (arith, l, few)) k.group.courses
     (recursion_from_All (λ c. c < length p.courses) k.group.courses claim.courses.0))
 
 -- -- the first target that has an owner

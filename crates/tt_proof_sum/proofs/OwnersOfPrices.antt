@@ -3,11 +3,10 @@ use Rattle.std.proofs.Common.{◌≡◌, ℕ, ◌+◌, ◌*◌, ◌<◌, ◌≤�
 use Rattle.std.specs.Option.{option_or}
 use Rattle.std.specs.List.{list_all, AllByRecursion}
 use Rattle.std.specs.Io.KnownBytes.{Keeps}
-use Rattle.std.proofs.lemmas.Bool.{cond-true}
 use Rattle.std.proofs.lemmas.List.{map-append, take_more, take-append-drop}
 use Rattle.std.proofs.lemmas.List.FromFn.{take-map-range_with_len, get_or-range_with_len, length-range_with_len}
 use Rattle.std.specs.Prelude.{drop}
-use Rattle.tt_list_laws.specs.Words.{has_number, range_below}
+use Rattle.tt_list_laws.specs.Words.{range_below}
 use Rattle.tt_list_laws.proofs.Below.{range_below_more}
 use Rattle.tt_list_laws.proofs.Sums.{each}
 use Rattle.tt_list_laws.proofs.Tested.{each_append, each_map}
@@ -24,9 +23,8 @@ use Rattle.tt_text_peek.specs.Fronts.{kind_of}
 use Rattle.tt_text_peek.specs.declared.kind.FileKind.TheVariants as kind
 use Rattle.tt_proof_sum.specs.Added.{IsOfKind, Joins}
 use Rattle.tt_proof_sum.specs.Faults.{IsCalled, IsTargetClaimedElsewhere}
-use Rattle.tt_proof_sum.specs.GroupsFaults.{is_unclaimed, FirstClaimed, IsClaimedBy}
 use Rattle.tt_proof_sum.specs.Inner.Owned.{FirstOwned, FirstTarget}
-use Rattle.tt_proof_sum.specs.Sums.{is_among, are_apart, room_targets, targets_with, targets_of_claim, prices_targets, PricesPart, ArePricesRight, Part, PricesFile, claims_of}
+use Rattle.tt_proof_sum.specs.Sums.{is_among, room_targets, targets_with, targets_of_claim, prices_targets, PricesPart, ArePricesRight, Part, PricesFile, claims_of}
 use Rattle.tt_proof_sum.specs.Tables.{State, owner, begun, claim_places, first_owner, Marks, IsTableOf}
 use Rattle.tt_proof_sum.specs.declared.claimed.ClaimedTarget.{ClaimedTarget}
 use Rattle.tt_proof_sum.specs.declared.claimed.ClaimedTarget.TheVariants as target
@@ -208,7 +206,8 @@ module _ (a : State) (n : ℕ) (k : PricesClaim) where
 
         pub rooms_owned : (o : ℕ) → option_or x y ≡ Some o → FirstTarget a (targets_of_claim n k) target.Rooms o
         rooms_owned o found =
-            let f = first_with_owner a (λ y. IsCalled y target.Rooms) (room_targets n) o (rooms_called n) (rooms_owner a n x y first second ∙ found) in
+            let f = first_with_owner a (λ y. IsCalled y target.Rooms) (room_targets n) o (rooms_called n)
+            (rooms_owner a n x y first second ∙ found) in
             let here : FirstTarget a (room_targets n) target.Rooms o = record {
               before = f.before;
               target = f.target;
@@ -303,7 +302,8 @@ module _ (p : Problem) (is : IsInstance p) (remaining : Option (List ℕ)) (k : 
         -- nothing belongs to the newest file yet
         other : o ≡ before.proof + 1 → ⊥
         other newest =
-            let inside = (before_split (λ y. place y < 32768) (prices_targets file) here.before here.target here.more here.split placed).1 in
+            let inside = (before_split (λ y. place y < 32768) (prices_targets file) here.before here.target here.more here.split
+            placed).1 in
             let no : false ≡ true = own_target before (begun before) parts [] of (marks_none (begun before)) here.target inside
             (here.owned ∙ newest) in
             cc

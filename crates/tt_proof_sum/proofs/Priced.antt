@@ -1,6 +1,6 @@
 -- The targets of groups with prices, and what feasible timetables pay for them.
-use Rattle.std.proofs.Common.{◌≡◌, ℕ, ◌+◌, ◌*◌, ◌<◌, ◌≤◌, Bool, true, false, not, cond, ◌&&◌, List, [], ◌∷◌, ◌++◌, length, map, append-nil, refl, sym, ap, subst, ◌∙◌, arith}
-use Rattle.std.specs.Prelude.{◌==◌, Contains, All, flat_map, sum_by}
+use Rattle.std.proofs.Common.{◌≡◌, ℕ, ◌+◌, ◌<◌, ◌≤◌, Bool, true, false, not, cond, ◌&&◌, List, [], ◌∷◌, ◌++◌, length, map, append-nil, refl, sym, ap, subst, ◌∙◌, arith}
+use Rattle.std.specs.Prelude.{◌==◌, All, sum_by}
 use Rattle.std.specs.List.{list_all, AllByRecursion}
 use Rattle.std.proofs.lemmas.Bool.{and_from, and_parts, eq-eqb}
 use Rattle.std.proofs.lemmas.List.Elements.{recursion_from_All}
@@ -24,7 +24,7 @@ use Rattle.tt_rules.proofs.Feasible.{in_range}
 use Rattle.tt_leaf_rules.specs.Claims.{Target, RoomCapacity, WorkingDays, Compactness, Stability, part}
 use Rattle.tt_leaf_rules.specs.Inner.NumberSet.{place}
 use Rattle.tt_leaf_rules.specs.Tests.{same_target}
-use Rattle.tt_prices_file.specs.Files.{curricula_in, courses_in, groups_of}
+use Rattle.tt_prices_file.specs.Files.{curricula_in, courses_in}
 use Rattle.tt_prices_file.proofs.Holding.{bound_holds}
 use Rattle.tt_prices_file.proofs.Parts.{curricula_of, courses_of}
 use Rattle.tt_proof_sum.specs.Sums.{room_targets, targets_with, prices_targets, PricesPart, ArePricesRight}
@@ -33,7 +33,7 @@ use Rattle.tt_proof_sum.proofs.Over.{are_different}
 -- ---- places within the table
 
 -- the targets of numbers are within the table
-placed_each : (f : ℕ → Target) (n : ℕ) → ((k : ℕ) → k < n → place (f k) < 32768) → (ks : List ℕ) → AllByRecursion (λ k. k < n) ks
+pub placed_each : (f : ℕ → Target) (n : ℕ) → ((k : ℕ) → k < n → place (f k) < 32768) → (ks : List ℕ) → AllByRecursion (λ k. k < n) ks
     → AllByRecursion (λ y. place y < 32768) (map f ks)
 placed_each f n within [] below = tt
 placed_each f n within (k ∷ ks) below = (within k below.0, placed_each f n within ks below.1)
@@ -69,9 +69,11 @@ module _ (p : Problem) (k : PricesPart) (right : ArePricesRight p k) where
 
       placed_rooms : (b : Bool) → k.courses ≤ 2048 → AllByRecursion (λ y. place y < 32768) (cond b (room_targets k.courses) [])
       placed_rooms true few =
-          each_append (λ y. place y < 32768) (map RoomCapacity (range_below k.courses)) (map Stability (range_below k.courses))
-          (placed_each RoomCapacity k.courses (λ c l. omega (arith, l, few)) (range_below k.courses) (each_below (λ c. c < k.courses) k.courses (λ c l. l)))
-          (placed_each Stability k.courses (λ c l. omega (arith, l, few)) (range_below k.courses) (each_below (λ c. c < k.courses) k.courses (λ c l. l)))
+          let ns = range_below k.courses in
+          let below = each_below (λ c. c < k.courses) k.courses (λ c l. l) in
+          each_append (λ y. place y < 32768) (map RoomCapacity ns) (map Stability ns)
+          (placed_each RoomCapacity k.courses (λ c l. omega (arith, l, few)) ns below)
+          (placed_each Stability k.courses (λ c l. omega (arith, l, few)) ns below)
       placed_rooms false few = tt
 
   -- ---- no target twice
@@ -121,12 +123,10 @@ module _ (p : Problem) (k : PricesPart) (right : ArePricesRight p k) where
       rooms = both (map RoomCapacity ns) (map Stability ns) (each_two-of_map differ RoomCapacity ns ∙ distinct_below k.courses)
           (between RoomCapacity Stability (λ a b. refl) ns ns) (each_two-of_map differ Stability ns ∙ distinct_below k.courses)
 
-      cross : (f : ℕ → Target) → ((a b : ℕ) → same_target (f a) (RoomCapacity b) ≡ false) → ((a b : ℕ) → same_target (f a) (Stability b) ≡ false)
-          → (xs : List ℕ) → list_all (λ y. list_all (differ y) (room_targets k.courses)) (map f xs) ≡ true
-      cross f one two xs = across (map f xs) (map RoomCapacity ns) (map Stability ns) (between f RoomCapacity one xs ns) (between f Stability two xs ns)
-
-      nothing : (xs : List Target) → list_all (λ y. list_all (differ y) []) xs ≡ true
-      nothing xs = all_pass (λ y. true) xs (λ y. refl)
+      cross : (f : ℕ → Target) → ((a b : ℕ) → same_target (f a) (RoomCapacity b) ≡ false)
+          → ((a b : ℕ) → same_target (f a) (Stability b) ≡ false) → (xs : List ℕ) → list_all (λ y. list_all (differ y) (room_targets k.courses)) (map f xs) ≡ true
+      cross f one two xs =
+          across (map f xs) (map RoomCapacity ns) (map Stability ns) (between f RoomCapacity one xs ns) (between f Stability two xs ns)
 
       by : (b : Bool) → are_different (targets_with curricula courses b k.courses) ≡ true
       by true = both (map Compactness curricula) (map WorkingDays courses ++ room_targets k.courses) first
@@ -150,7 +150,8 @@ module _ (p : Problem) (k : PricesPart) (right : ArePricesRight p k) where
         let one : Cell → ℕ → ℕ = λ e c. cond (is_of c e) (excess p e.course e.room) 0 in
         let turned = sum_by-swap (λ c e. one e c) (all_courses p) t in
         let up = sum_by-le (λ e. excess p e.course e.room) (λ e. sum_by (one e) (all_courses p)) t
-        (each_member (λ e. excess p e.course e.room ≤ sum_by (one e) (all_courses p)) t (λ e there. own e (in_range p t ok e there).course)) in
+        (each_member (λ e. excess p e.course e.room ≤ sum_by (one e) (all_courses p)) t
+        (λ e there. own e (in_range p t ok e there).course)) in
         omega (arith, turned, up)
       where
         own : (e : Cell) → e.course < length p.courses
@@ -165,7 +166,8 @@ module _ (p : Problem) (k : PricesPart) (right : ArePricesRight p k) where
     pub prices_paid : k.header.bound ≤ sum_by f (prices_targets k)
     prices_paid = by k.header.has_rooms refl
       where
-        rooms : sum_by f (room_targets k.courses) ≡ sum_by (λ c. f (RoomCapacity c)) (range_below k.courses) + sum_by (stability_cost p t) (range_below k.courses)
+        rooms : sum_by f (room_targets k.courses)
+            ≡ sum_by (λ c. f (RoomCapacity c)) (range_below k.courses) + sum_by (stability_cost p t) (range_below k.courses)
         rooms =
             let ns = range_below k.courses in
             let a = sum_by-append f (map RoomCapacity ns) (map Stability ns) in

@@ -1,9 +1,9 @@
 -- A file of groups is read claim by claim.
-use Rattle.std.proofs.Common.{◌≡◌, ℕ, ◌+◌, ◌-◌, ◌<◌, ◌≤◌, ◌^◌, min, Bool, true, false, cond, ◌&&◌, List, [], ◌∷◌, ◌++◌, length, map, Option, Some, None, Result, Ok, Err, is_some, refl, sym, ap, subst, ◌∙◌, arith, inl, inr, lit<, length-append}
-use Rattle.std.specs.Prelude.{◌==◌, nat_lt, IfOk}
+use Rattle.std.proofs.Common.{◌≡◌, ℕ, ◌+◌, ◌-◌, ◌<◌, ◌≤◌, ◌^◌, min, Bool, true, false, cond, List, [], ◌∷◌, ◌++◌, map, Option, Some, None, Result, Ok, Err, is_some, refl, sym, ap, subst, ◌∙◌, arith, inl, inr, length-append}
+use Rattle.std.specs.Prelude.{nat_lt, IfOk}
 use Rattle.std.specs.Bool.{OnFalse}
 use Rattle.std.specs.Io.KnownBytes.{Keeps}
-use Rattle.std.proofs.lemmas.Bool.{eq-eqb, ltb-true, ltb-false}
+use Rattle.std.proofs.lemmas.Bool.{ltb-true, ltb-false}
 use Rattle.std.proofs.lemmas.List.Sums.{sum_by-append}
 use Rattle.tt_list_laws.specs.Words.{has_number}
 use Rattle.tt_text.specs.CutShort.{rest_of, cut_at}
@@ -48,7 +48,7 @@ use Rattle.tt_proof_sum.specs.Inner.Claiming.{ExplainsClaimFault, ExplainsClaim,
 use Rattle.tt_proof_sum.specs.Faults.{IsGroupsFault, ExplainsAdded, stop_from_text, HoldsNoStop}
 use Rattle.tt_proof_sum.specs.GroupsFaults.{Pass, AfterClaims, ExplainsGroups}
 use Rattle.tt_proof_sum.specs.Sums.{group_targets, targets_of_claims, Part, GroupsPart, GroupsFile}
-use Rattle.tt_proof_sum.specs.Tables.{State, owner, first_claim, begun, group_places, first_owner, Marks, IsTableOf}
+use Rattle.tt_proof_sum.specs.Tables.{State, owner, begun, group_places, first_owner, Marks, IsTableOf}
 use Rattle.tt_proof_sum.specs.UpToFailedRead.{AreGroupsCutOff}
 use Rattle.tt_proof_sum.proofs.Looked.{keeps_known}
 use Rattle.tt_proof_sum.proofs.Owners.{entered_none, entered_more, group_placed, all_unclaimed, claimed_twice, claimed_before, table_after}
@@ -232,8 +232,8 @@ module _ (p : Problem) (is : IsInstance p) (before : Option (List ℕ)) (a : Sta
           )
       tells_claim groups.TooCheap reported = absurd reported
 
-      pub claim_fault : (bytes : List ℕ) → before ≡ Some bytes → kind_of bytes ≡ kind.Groups → (f : FileFault) → ExplainsClaim p b number k f
-          → ExplainsAdded p parts bytes f
+      pub claim_fault : (bytes : List ℕ) → before ≡ Some bytes → kind_of bytes ≡ kind.Groups → (f : FileFault)
+          → ExplainsClaim p b number k f → ExplainsAdded p parts bytes f
       claim_fault bytes e kind (fault.Groups f) reported =
           record {
             kind = kind;

@@ -1,5 +1,5 @@
 -- The meaning of the refusals of files that are added up.
-use Rattle.std.specs.Prelude.{◌≡◌, ℕ, ◌+◌, ◌-◌, ◌≤◌, ◌^◌, Bool, true, false, ◌&&◌, ◌==◌, if◌then◌else◌, List, [], ◌∷◌, ◌++◌, length, sum_by, slice_get, IsSomeAnd, ⊤, ◌⊎◌}
+use Rattle.std.specs.Prelude.{◌≡◌, ℕ, ◌+◌, ◌-◌, ◌≤◌, ◌^◌, Bool, true, ◌&&◌, ◌==◌, if◌then◌else◌, List, [], ◌∷◌, ◌++◌, length, sum_by, slice_get, IsSomeAnd, ⊤, ◌⊎◌}
 use Rattle.std.specs.List.{list_all, AllZip}
 use Rattle.tt_stop.specs.Stops as stops
 use Rattle.tt_stop.specs.Stops.{mapped}

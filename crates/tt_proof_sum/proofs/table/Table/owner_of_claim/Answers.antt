@@ -24,7 +24,8 @@ returns-then-not-claim-clause-none c =
     let a = c.args.self.now in
     none_but_rooms a c.args.courses c.args.claim.now
     (subst (λ (l : List ℕ). first_owner a (map (λ (n : ℕ). 4 * n + 2) l) ≡ None) c.deref.ensures.value c.in_default.ensures.none)
-    (subst (λ (l : List ℕ). first_owner a (map (λ (n : ℕ). 4 * n + 1) l) ≡ None) c.deref-2.ensures.value c.in_default-first_owned.ensures.none)
+    (subst (λ (l : List ℕ). first_owner a (map (λ (n : ℕ). 4 * n + 1) l) ≡ None) c.deref-2.ensures.value
+    c.in_default-first_owned.ensures.none)
     c.if-not-claim.true
 
 pub returns-in_err-owner-clause-none : goal.returns-in_err-owner-clause-none
@@ -32,7 +33,8 @@ returns-in_err-owner-clause-none c =
     let a = c.args.self.now in
     rw c.from_residual.ensures (no_rooms_owned a c.args.courses c.args.claim.now
     (subst (λ (l : List ℕ). first_owner a (map (λ (n : ℕ). 4 * n + 2) l) ≡ None) c.deref.ensures.value c.in_default.ensures.none)
-    (subst (λ (l : List ℕ). first_owner a (map (λ (n : ℕ). 4 * n + 1) l) ≡ None) c.deref-2.ensures.value c.in_default-first_owned.ensures.none)
+    (subst (λ (l : List ℕ). first_owner a (map (λ (n : ℕ). 4 * n + 1) l) ≡ None) c.deref-2.ensures.value
+    c.in_default-first_owned.ensures.none)
     c.first_owner_of_rooms-capacity.result c.first_owner_of_rooms.result c.first_owner_of_rooms-capacity.ensures
     c.first_owner_of_rooms.ensures c.if-not-claim.false (sym c.in_err-owner.ensures))
 
@@ -41,6 +43,7 @@ returns-clause-some c =
     let a = c.args.self.now in
     rooms_owned a c.args.courses c.args.claim.now
     (subst (λ (l : List ℕ). first_owner a (map (λ (n : ℕ). 4 * n + 2) l) ≡ None) c.deref.ensures.value c.in_default.ensures.none)
-    (subst (λ (l : List ℕ). first_owner a (map (λ (n : ℕ). 4 * n + 1) l) ≡ None) c.deref-2.ensures.value c.in_default-first_owned.ensures.none)
+    (subst (λ (l : List ℕ). first_owner a (map (λ (n : ℕ). 4 * n + 1) l) ≡ None) c.deref-2.ensures.value
+    c.in_default-first_owned.ensures.none)
     c.first_owner_of_rooms-capacity.result c.first_owner_of_rooms.result c.first_owner_of_rooms-capacity.ensures
     c.first_owner_of_rooms.ensures c.if-not-claim.false c.in_ok-owner.owner (sym c.in_ok-owner.ensures)
