@@ -199,8 +199,8 @@ abbrev pub sum_of : List Part → Bound
 sum_of [] = AtLeast 0
 sum_of (k ∷ ks) = both_bounds (bound_of k) (sum_of ks)
 
--- Each of the files spells a tree that derives its bound, or groups that are right; no target is claimed by two of them, and s is
--- the sum of the bounds.
+-- Each of the files spells a tree that derives its bound, or groups that are right, with prices or without; no target is claimed by two of
+-- them, and s is the sum of the bounds.
 pub record IsSum (p : Problem) (files : List (List ℕ)) (s : Bound) : Type 0 where
   pub parts : List Part
   pub each : AllZip (IsPart p) files parts

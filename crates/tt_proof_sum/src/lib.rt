@@ -1,4 +1,4 @@
-//! Tree proofs and claims about groups whose bounds add up.
+//! Tree proofs, claims about groups, and groups with prices whose bounds add up.
 #![tactic(auto)]
 
 mod claimed;
