@@ -30,7 +30,7 @@ fn reaches(header: Header, total: i128) -> bool
     scale * i128::from(header.bound) < total + scale
 }
 
-/// Returns what the groups of a file, the terms of all courses and the rents come to.
+/// Returns the total of a file: what its groups pay at least and the terms of all courses, less the rents.
 fn total_of(
     alloc: Global,
     instance: &Instance<'_>,
