@@ -9,7 +9,6 @@ use Rattle.tt_stop.specs.declared.stop.Stop.TheVariants.{Fault, ReadFailed, OutO
 use Rattle.tt_proof_sum.specs.Faults.{IsUnfinished, all_points}
 use Rattle.tt_proof_sum.specs.Sums.{IsSum}
 use Rattle.tt_proof_sum.specs.declared.fault.FileFault.{FileFault}
-use Rattle.tt_proof_sum.specs.declared.fault.FileFault.TheVariants as file
 use Rattle.tt_proof_sum.specs.declared.fault.SumStop.{SumStop}
 use Rattle.tt_call_answers.specs.FaultMaps.{fault_at_file, fault_from_sum}
 use Rattle.tt_call_answers.specs.Refusals.{IsSilentRefusal}
@@ -20,10 +19,7 @@ pub silent_refusal : (s : SumStop) → OnFault s.stop IsUnfinished → IsSilentR
 silent_refusal s h = on s.file s.stop h
   where
     on : (n : ℕ) (x : Stop FileFault) → OnFault x IsUnfinished → IsSilentRefusal (fault_at_file n x)
-    on n (Fault (file.Proof f)) h = absurd h
-    on n (Fault (file.Groups f)) h = inr (inr (record { file = n; found = f; is = refl; open_claim = h }))
-    on n (Fault (file.ClaimedElsewhere k e)) h = absurd h
-    on n (Fault file.TooLarge) h = absurd h
+    on n (Fault f) h = inr (inr (record { file = n; found = f; is = refl; unfinished = h }))
     on n ReadFailed h = inr (inl (n, refl))
     on n OutOfMemory h = inl refl
 

@@ -4,9 +4,8 @@ use Rattle.tt_instance_read.specs.Reading.{instance_of}
 use Rattle.tt_proof_check.specs.Verdicts.{FailsSolution}
 use Rattle.tt_call_answers.specs.declared.fault.AppFault.{AppFault}
 use Rattle.tt_call_answers.specs.declared.fault.AppFault.TheVariants as fault
-use Rattle.tt_proof_sum.specs.GroupsFaults.{IsLeftOpen}
-use Rattle.tt_proof_sum.specs.declared.groups_fault.GroupsFault.{GroupsFault}
-use Rattle.tt_proof_sum.specs.declared.fault.FileFault.TheVariants as file_fault
+use Rattle.tt_proof_sum.specs.Faults.{IsUnfinished}
+use Rattle.tt_proof_sum.specs.declared.fault.FileFault.{FileFault}
 
 -- a refusal reports the first error: the instance's, then the solution's
 abbrev pub IsFileRefusal : List ℕ → List ℕ → AppFault → Type 0
@@ -25,14 +24,14 @@ abbrev pub is_failed_read_at : ℕ → AppFault → Bool
 is_failed_read_at n (fault.ReadFailedIn m) = m == n
 is_failed_read_at n _ = false
 
--- The check of a group's claim, in this file of groups, was not finished.
+-- The check of a group, in this file of groups, was not finished.
 pub record IsGivenUp (f : AppFault) : Type 0 where
   pub file : ℕ
-  pub found : GroupsFault
-  pub is : f ≡ fault.Sum file (file_fault.Groups found)
-  pub open_claim : IsLeftOpen found
+  pub found : FileFault
+  pub is : f ≡ fault.Sum file found
+  pub unfinished : IsUnfinished found
 
--- whether memory ran out, a read of a file failed, or the check of a group's claim was not finished
+-- whether memory ran out, a read of a file failed, or the check of a group was not finished
 abbrev pub IsSilentRefusal : AppFault → Type 0
 IsSilentRefusal f = (f ≡ fault.OutOfMemory) ⊎ (((n : ℕ) × (f ≡ fault.ReadFailedIn n)) ⊎ IsGivenUp f)
 

@@ -1,10 +1,10 @@
--- Another file is added, or the check of a claim isn't finished.
+-- Another file is added, or the check of a group isn't finished.
 use Rattle.std.proofs.Common.{◌≡◌, ℕ, ◌+◌, ◌-◌, ◌<◌, ◌≤◌, ◌^◌, Bool, true, ◌||◌, List, [], ◌∷◌, ◌++◌, Option, Some, refl, sym, ap, subst, ◌∙◌, arith, zero-le}
 use Rattle.std.specs.Prelude.{flat_map}
 use Rattle.std.specs.List.{list_any}
 use Rattle.std.proofs.lemmas.List.Folds.{list_any-append}
 use Rattle.std.proofs.lemmas.List.Sums.{sum_by-append}
-use Rattle.std.proofs.lemmas.Bool.{or_left, or_right, both_ways}
+use Rattle.std.proofs.lemmas.Bool.{or_left, or_right}
 use Rattle.tt_list_laws.proofs.Sums.{list_any-of_flat_map}
 use Rattle.tt_list_laws.proofs.Twos.{each_two-push, each_two-last}
 use Rattle.tt_list_laws.proofs.Tested.{all_at}
@@ -18,15 +18,17 @@ use Rattle.tt_proof_read.specs.Trees.{Tree, preorder}
 use Rattle.tt_proof_read.specs.declared.node.Node.{Node}
 use Rattle.tt_proof_check.proofs.Texts.{proved_faultless, spelled_once}
 use Rattle.tt_proof_sum.specs.declared.fault.FileFault.{FileFault}
-use Rattle.tt_proof_sum.specs.declared.fault.FileFault.TheVariants.{Proof, Groups, ClaimedElsewhere, TooLarge}
+use Rattle.tt_proof_sum.specs.declared.fault.FileFault.TheVariants.{Proof, Groups, Prices, ClaimedElsewhere, TargetClaimedElsewhere, TooLarge}
+use Rattle.tt_proof_sum.specs.declared.claimed.ClaimedTarget.{ClaimedTarget}
 use Rattle.tt_proof_sum.specs.declared.summed.Sum.{Sum}
-use Rattle.tt_text_peek.specs.Fronts.{is_groups}
+use Rattle.tt_text_peek.specs.declared.kind.FileKind.TheVariants as kind
+use Rattle.tt_prices_file.proofs.Once as prices
 use Rattle.tt_proof_sum.specs.Added.{IsPartOf, Joins, IsSumOf, Adds}
-use Rattle.tt_proof_sum.specs.Faults.{points, all_points, IsClaimedElsewhere, IsTooLarge, ExplainsAdded, IsUnfinished}
-use Rattle.tt_proof_sum.specs.Sums.{claimed_by, is_among, are_apart, TreePart, GroupsPart, Part, TreeProof, GroupsFile, IsTreePart, IsGroupsPart, IsPart, bound_of, claims_of, AreApart, both_bounds, sum_of}
+use Rattle.tt_proof_sum.specs.Faults.{points, all_points, IsClaimedElsewhere, IsTooLarge, IsTargetClaimedElsewhere, ExplainsAdded, IsUnfinished}
+use Rattle.tt_proof_sum.specs.Sums.{claimed_by, is_among, are_apart, TreePart, GroupsPart, PricesPart, Part, TreeProof, GroupsFile, PricesFile, IsTreePart, IsGroupsPart, IsPricesPart, IsPart, prices_targets, bound_of, claims_of, AreApart, both_bounds, sum_of}
 use Rattle.tt_proof_sum.specs.Tables.{State, claims_at}
 use Rattle.tt_proof_sum.proofs.Joining.{tree_claims}
-use Rattle.tt_proof_sum.proofs.SpelledOnce.{proofs_are_trees, same_part, no_tree, left_open}
+use Rattle.tt_proof_sum.proofs.SpelledOnce.{part_kind, kinds_same, same_part, split_among, left_open}
 use Rattle.tt_proof_sum.proofs.Together.{not_both}
 
 -- ---- sums of bounds
@@ -95,6 +97,11 @@ spelled_part p remaining bytes (GroupsFile k) known is = record {
   spelled = is.spelled bytes known;
   right = is.right;
 }
+spelled_part p remaining bytes (PricesFile k) known is = record {
+  kind = is.kind bytes known;
+  spelled = is.spelled bytes known;
+  right = is.right;
+}
 
 pub too_large : (p : Problem) (remaining : Option (List ℕ)) (s : Sum) (parts : List Part) (a : State) (b : Bound) → IsSumOf s parts
     → Joins p remaining parts a b → 2 ^ 64 ≤ points s.total + points b → (bytes : List ℕ) → remaining ≡ Some bytes
@@ -125,9 +132,13 @@ tree_faultless : (p : Problem) → IsInstance p → (parts : List Part) (bytes :
 tree_faultless p is parts bytes k spelled apart within (Proof f) reported =
     proved_faultless p is bytes k.bound (k.version, k.tree, spelled.spelled, spelled.derives) f reported.fault
 tree_faultless p is parts bytes k spelled apart within (Groups f) reported =
-    both_ways (is_groups bytes) (proofs_are_trees p bytes k spelled.spelled) reported.kind
+    let no : kind.Tree ≡ kind.Groups = sym (part_kind p bytes (TreeProof k) spelled) ∙ reported.kind in cc
+tree_faultless p is parts bytes k spelled apart within (Prices f) reported =
+    let no : kind.Tree ≡ kind.Prices = sym (part_kind p bytes (TreeProof k) spelled) ∙ reported.kind in cc
 tree_faultless p is parts bytes k spelled apart within (ClaimedElsewhere i e) reported =
     tree_meets p is parts bytes k i e spelled apart reported
+tree_faultless p is parts bytes k spelled apart within (TargetClaimedElsewhere name e) reported =
+    let no : kind.Tree ≡ kind.Prices = kinds_same p bytes (TreeProof k) (PricesFile reported.part) spelled reported.is in cc
 tree_faultless p is parts bytes k spelled apart within TooLarge reported =
     let same : reported.0 ≡ TreeProof k = same_part p is bytes reported.0 (TreeProof k) reported.1 spelled in
     let points_same : points (bound_of reported.0) ≡ points k.bound = ap (λ (x : Part). points (bound_of x)) same in
@@ -137,15 +148,51 @@ tree_faultless p is parts bytes k spelled apart within TooLarge reported =
 groups_unfinished : (p : Problem) → IsInstance p → (parts : List Part) (bytes : List ℕ) (k : GroupsPart) → IsGroupsPart p bytes k
     → AreApart (parts ++ GroupsFile k ∷ []) → all_points (parts ++ GroupsFile k ∷ []) < 2 ^ 64 → (f : FileFault)
     → ExplainsAdded p parts bytes f → IsUnfinished f
-groups_unfinished p is parts bytes k spelled apart within (Proof f) reported = no_tree p bytes k f spelled reported
+groups_unfinished p is parts bytes k spelled apart within (Proof f) reported =
+    let no : kind.Groups ≡ kind.Tree = sym spelled.kind ∙ reported.kind in cc
 groups_unfinished p is parts bytes k spelled apart within (Groups f) reported = left_open p is parts bytes k spelled
     (each_two-last (λ x y. are_apart (claims_of x) (claims_of y)) parts (GroupsFile k) apart) f reported.fault
+groups_unfinished p is parts bytes k spelled apart within (Prices f) reported =
+    let no : kind.Groups ≡ kind.Prices = sym spelled.kind ∙ reported.kind in absurd cc
 groups_unfinished p is parts bytes k spelled apart within (ClaimedElsewhere i e) reported =
-    both_ways (is_groups bytes) (proofs_are_trees p bytes reported.part reported.is.spelled) spelled.kind
+    let no : kind.Groups ≡ kind.Tree = kinds_same p bytes (GroupsFile k) (TreeProof reported.part) spelled reported.is in cc
+groups_unfinished p is parts bytes k spelled apart within (TargetClaimedElsewhere name e) reported =
+    let no : kind.Groups ≡ kind.Prices = kinds_same p bytes (GroupsFile k) (PricesFile reported.part) spelled reported.is in cc
 groups_unfinished p is parts bytes k spelled apart within TooLarge reported =
     let same : reported.0 ≡ GroupsFile k = same_part p is bytes reported.0 (GroupsFile k) reported.1 spelled in
     let points_same : points (bound_of reported.0) ≡ k.bound = ap (λ (x : Part). points (bound_of x)) same in
     absurd (omega (arith, reported.2, points_same, within, all_points-push parts (GroupsFile k)))
+
+-- if groups with prices claim a target that one of the parts claims, the two are not apart
+prices_meet : (p : Problem) → IsInstance p → (parts : List Part) (bytes : List ℕ) (k : PricesPart) (name : ClaimedTarget) (e : ℕ)
+    → IsPricesPart p bytes k → AreApart (parts ++ PricesFile k ∷ []) → IsTargetClaimedElsewhere p parts bytes name e → ⊥
+prices_meet p is parts bytes k name e spelled apart reported =
+    let same = same_part p is bytes (PricesFile reported.part) (PricesFile k) reported.is spelled in
+    let first = reported.first in
+    let x = all_at (λ x. are_apart (claims_of x) (prices_targets k)) (λ x. is_among (claims_of x) first.target ≡ true) parts (e - 1)
+    (each_two-last (λ x y. are_apart (claims_of x) (claims_of y)) parts (PricesFile k) apart) first.is.1.1 in
+    not_both (claims_of x.0) (prices_targets k) x.1 first.target x.2
+    (subst (λ (z : Part). is_among (claims_of z) first.target ≡ true) same
+    (split_among (prices_targets reported.part) first.before first.target first.more first.split))
+
+-- a file of groups with prices that can be added is refused only if a group's check wasn't finished
+prices_unfinished : (p : Problem) → IsInstance p → (parts : List Part) (bytes : List ℕ) (k : PricesPart) → IsPricesPart p bytes k
+    → AreApart (parts ++ PricesFile k ∷ []) → all_points (parts ++ PricesFile k ∷ []) < 2 ^ 64 → (f : FileFault)
+    → ExplainsAdded p parts bytes f → IsUnfinished f
+prices_unfinished p is parts bytes k spelled apart within (Proof f) reported =
+    let no : kind.Prices ≡ kind.Tree = sym spelled.kind ∙ reported.kind in cc
+prices_unfinished p is parts bytes k spelled apart within (Groups f) reported =
+    let no : kind.Prices ≡ kind.Groups = sym spelled.kind ∙ reported.kind in absurd cc
+prices_unfinished p is parts bytes k spelled apart within (Prices f) reported =
+    prices.left_open p is bytes k.header k.parts spelled.spelled spelled.right.right f reported.fault
+prices_unfinished p is parts bytes k spelled apart within (ClaimedElsewhere i e) reported =
+    let no : kind.Prices ≡ kind.Tree = kinds_same p bytes (PricesFile k) (TreeProof reported.part) spelled reported.is in cc
+prices_unfinished p is parts bytes k spelled apart within (TargetClaimedElsewhere name e) reported =
+    prices_meet p is parts bytes k name e spelled apart reported
+prices_unfinished p is parts bytes k spelled apart within TooLarge reported =
+    let same : reported.0 ≡ PricesFile k = same_part p is bytes reported.0 (PricesFile k) reported.1 spelled in
+    let points_same : points (bound_of reported.0) ≡ k.header.bound = ap (λ (x : Part). points (bound_of x)) same in
+    absurd (omega (arith, reported.2, points_same, within, all_points-push parts (PricesFile k)))
 
 pub only_unfinished : (p : Problem) → IsInstance p → (parts : List Part) (bytes : List ℕ) (part : Part) → IsPart p bytes part
     → AreApart (parts ++ part ∷ []) → all_points (parts ++ part ∷ []) < 2 ^ 64 → (f : FileFault)
@@ -154,3 +201,5 @@ only_unfinished p is parts bytes (TreeProof k) spelled apart within f reported =
     absurd (tree_faultless p is parts bytes k spelled apart within f reported)
 only_unfinished p is parts bytes (GroupsFile k) spelled apart within f reported =
     groups_unfinished p is parts bytes k spelled apart within f reported
+only_unfinished p is parts bytes (PricesFile k) spelled apart within f reported =
+    prices_unfinished p is parts bytes k spelled apart within f reported

@@ -1,5 +1,5 @@
 -- Files over different targets, whose bounds add up, and files that share one.
-use Rattle.std.proofs.Common.{◌≡◌, ℕ, List, true, false, [], ◌∷◌, refl}
+use Rattle.std.proofs.Common.{◌≡◌, ℕ, Bool, List, true, false, [], ◌∷◌, refl}
 use Rattle.tt_list_laws.specs.Words.{each_two}
 use Rattle.tt_instance.proofs.Examples.{gap}
 use Rattle.tt_instance.specs.Cells.{slot, cell}
@@ -13,7 +13,8 @@ use Rattle.tt_leaf.specs.declared.leaf.Leaf.TheVariants.{Clique, Cost}
 use Rattle.tt_leaf_rules.proofs.Examples.{when}
 use Rattle.tt_proof_read.specs.Trees.{Tree, Tip, Fork}
 use Rattle.tt_groups_read.specs.declared.claim.GroupClaim.{GroupClaim}
-use Rattle.tt_proof_sum.specs.Sums.{are_apart, cost_over, every_target, group_targets, AreClaimsApart, Part, TreeProof, GroupsFile, claims_of, AreApart, sum_of}
+use Rattle.tt_prices_read.specs.Reading.{GroupPart}
+use Rattle.tt_proof_sum.specs.Sums.{are_apart, cost_over, every_target, group_targets, AreClaimsApart, Part, TreeProof, GroupsFile, PricesFile, claims_of, AreApart, sum_of}
 
 abbrev proof : Bound → Tree → Part
 proof b tree = TreeProof (record { version = 2; bound = b; tree = tree })
@@ -53,6 +54,14 @@ groups bound claims = GroupsFile (record { bound = bound; claims = claims })
 abbrev two_groups : List GroupClaim
 two_groups = group 4 (0 ∷ []) [] ∷ group 5 [] (0 ∷ 1 ∷ []) ∷ []
 
+-- one group with the curriculum and the days of the first course, and the prices of two courses, with the rooms or without
+abbrev with_prices : Bool → Part
+with_prices has_rooms = PricesFile (record {
+  header = record { bound = 3; scale = 1; has_rooms = has_rooms };
+  parts = GroupPart (record { curricula = 0 ∷ []; courses = 0 ∷ []; further = []; uncounted = []; rows = [] }) ∷ [];
+  courses = 2;
+})
+
 -- a target occurs once for each leaf that claims it
 claimed_twice : claims_of isolated ≡ Compactness 0 ∷ Compactness 0 ∷ []
 claimed_twice = refl
@@ -79,6 +88,23 @@ kinds_add_up = refl
 
 tree_and_group_share : are_apart (claims_of isolated) (claims_of (groups 4 (group 4 (0 ∷ []) [] ∷ []))) ≡ false
 tree_and_group_share = refl
+
+groups_with_prices_claim : claims_of (with_prices false) ≡ Compactness 0 ∷ WorkingDays 0 ∷ []
+groups_with_prices_claim = refl
+
+rooms_are_claimed : claims_of (with_prices true)
+    ≡ Compactness 0 ∷ WorkingDays 0 ∷ RoomCapacity 0 ∷ RoomCapacity 1 ∷ Stability 0 ∷ Stability 1 ∷ []
+rooms_are_claimed = refl
+
+-- a tree that claims a seat shares it with groups that claim all rooms
+seats_are_apart : AreApart (seat ∷ with_prices false ∷ [])
+seats_are_apart = refl
+
+seat_and_rooms_share : are_apart (claims_of seat) (claims_of (with_prices true)) ≡ false
+seat_and_rooms_share = refl
+
+seat_and_prices_add_up : sum_of (seat ∷ with_prices false ∷ []) ≡ AtLeast 4
+seat_and_prices_add_up = refl
 
 they_add_up : sum_of (seat ∷ isolated ∷ days ∷ []) ≡ AtLeast 10
 they_add_up = refl

@@ -6,6 +6,8 @@ pub mod Lists
 pub mod Looked
 pub mod Over
 pub mod Owners
+pub mod OwnersOfPrices
+pub mod Priced
 pub mod SpelledOnce
 pub mod Tables
 pub mod Together

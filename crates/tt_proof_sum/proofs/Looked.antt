@@ -1,23 +1,29 @@
 -- A file whose kind was checked before it was read.
-use Rattle.std.proofs.Common.{◌≡◌, ℕ, Bool, true, List, Option, Some, None, Result, Ok, Err, refl, ap, subst, ◌∙◌, inl}
-use Rattle.std.specs.Prelude.{IfOk}
+use Rattle.std.proofs.Common.{◌≡◌, ℕ, List, Option, Some, None, Result, Ok, Err, refl, ap, subst, ◌∙◌, inl, inr}
+use Rattle.std.specs.Prelude.{IfOk, codes}
 use Rattle.std.specs.Io.KnownBytes.{Consumes, Keeps}
 use Rattle.tt_text.specs.CutShort.{cut_short}
-use Rattle.tt_text.specs.Feeds.{Stream, stopped}
+use Rattle.tt_text.specs.Feeds.{Stream, stopped, with_token}
 use Rattle.tt_text.specs.declared.feed.FeedFault.TheVariants.{Read}
 use Rattle.tt_instance.specs.Problem.{Problem}
 use Rattle.tt_leaf.specs.declared.leaf.Bound.{Bound}
 use Rattle.tt_proof_read.specs.Faults.{read_failed}
 use Rattle.tt_proof_read.specs.Reading.{header_at, word_at, token_at}
 use Rattle.tt_proof_check.specs.Streams.{stream_of}
-use Rattle.tt_text_peek.specs.Fronts.{is_groups, BreaksOff}
+use Rattle.tt_groups_read.specs.Reading as groups
+use Rattle.tt_groups_read.specs.declared.fault.GroupTextFault.TheVariants as groups_fault
+use Rattle.tt_prices_read.specs.Reading as prices
+use Rattle.tt_prices_read.specs.declared.fault.PricesTextFault.TheVariants as prices_fault
+use Rattle.tt_text_peek.specs.Fronts.{kind_of, BreaksOff}
+use Rattle.tt_text_peek.specs.declared.kind.FileKind.{FileKind}
+use Rattle.tt_text_peek.proofs.Fronts.{broken_kinds}
 use Rattle.tt_stop.proofs.Stops.{OnFault-weaker}
 use Rattle.tt_stop.specs.Stops.{IfFault}
 use Rattle.tt_stop.specs.declared.stop.Stop.{Stop}
 use Rattle.tt_proof_sum.specs.declared.fault.FileFault.{FileFault}
 use Rattle.tt_proof_sum.specs.Added.{IsPartOf, IsOfKind, Joins}
 use Rattle.tt_proof_sum.specs.Faults.{ExplainsAdded}
-use Rattle.tt_proof_sum.specs.Sums.{Part, TreeProof, GroupsFile}
+use Rattle.tt_proof_sum.specs.Sums.{Part, TreeProof, GroupsFile, PricesFile}
 use Rattle.tt_proof_sum.specs.Tables.{State, begun, IsTableOf}
 use Rattle.tt_proof_sum.specs.UpToFailedRead.{IsFileCheckedUpToFailedRead}
 
@@ -36,6 +42,11 @@ part_kept p old mid kept (GroupsFile k) is = record {
   kind = λ bytes e. is.kind bytes (keeps_known old mid bytes kept e);
   spelled = λ bytes e. is.spelled bytes (keeps_known old mid bytes kept e);
   claims = is.claims;
+  right = is.right;
+}
+part_kept p old mid kept (PricesFile k) is = record {
+  kind = λ bytes e. is.kind bytes (keeps_known old mid bytes kept e);
+  spelled = λ bytes e. is.spelled bytes (keeps_known old mid bytes kept e);
   right = is.right;
 }
 
@@ -63,14 +74,14 @@ module _ (p : Problem) (old mid : Option (List ℕ)) (kept : Keeps old mid) (tab
       → Joins p mid parts last b) → IfOk r (λ b. (parts : List Part) → IsTableOf table parts → Joins p old parts last b)
   proof_joins h = ok_as r _ _ (λ b f parts of. joins_kept p old mid parts last b kept (f table parts of begins)) h
 
-  pub groups_joins : IsOfKind true old → IfOk r (λ b. (before : State) (parts : List Part) (known : Option (List ℕ))
-      → IsTableOf before parts → now ≡ begun before → Keeps known mid → IsOfKind true known → Joins p known parts last b)
+  pub kind_joins : (k : FileKind) → IsOfKind k old → IfOk r (λ b. (before : State) (parts : List Part) (known : Option (List ℕ))
+      → IsTableOf before parts → now ≡ begun before → Keeps known mid → IsOfKind k known → Joins p known parts last b)
       → IfOk r (λ b. (parts : List Part) → IsTableOf table parts → Joins p old parts last b)
-  groups_joins kind h = ok_as r _ _ (λ b f parts of. f table parts old of begins kept kind) h
+  kind_joins k kind h = ok_as r _ _ (λ b f parts of. f table parts old of begins kept kind) h
 
-  pub kind_fault : (z : Bool) → IsOfKind z old
+  pub kind_fault : (z : FileKind) → IsOfKind z old
       → IfFault r (λ e. (before : State) (parts : List Part) (bytes : List ℕ) → IsTableOf before parts → now ≡ begun before
-      → mid ≡ Some bytes → is_groups bytes ≡ z → ExplainsAdded p parts bytes e)
+      → mid ≡ Some bytes → kind_of bytes ≡ z → ExplainsAdded p parts bytes e)
       → IfFault r (λ e. (parts : List Part) (bytes : List ℕ) → IsTableOf table parts → old ≡ Some bytes → ExplainsAdded p parts bytes e)
   kind_fault z kind h = fault_as r _ _ (λ e f parts bytes of known. f table parts bytes of begins (keeps_known old mid bytes kept known)
       (kind bytes known)) h
@@ -80,11 +91,26 @@ header_broken : (s : Stream) → s ≡ stopped (Err Read) → header_at s ≡ Er
 unfolding header_at word_at token_at
 header_broken s e = rw e refl
 
+-- streams that give the first word of groups, and after it only a failed read
+groups_broken : (s : Stream) (at : ℕ) → s ≡ with_token (record { text = codes "CTTG"; at = at }) (stopped (Err Read))
+    → groups.header_at s ≡ Err (groups_fault.Text read_failed)
+unfolding groups.opening_at groups.bound_at word_at token_at
+groups_broken s at e = rw e refl
+
+prices_broken : (s : Stream) (at : ℕ) → s ≡ with_token (record { text = codes "CTTG"; at = at }) (stopped (Err Read))
+    → prices.header_at s ≡ Err (prices_fault.Text read_failed)
+unfolding prices.header_at prices.bound_at prices.word_at prices.token_at token_at
+prices_broken s at e = rw e refl
+
 pub broken_off : (p : Problem) (before after : Option (List ℕ)) → BreaksOff before after → (bytes : List ℕ) → before ≡ Some bytes
     → IsFileCheckedUpToFailedRead p bytes after
-broken_off p before after b bytes e =
-    inl (
-      b.given,
-      subst (λ (z : Option (List ℕ)). Consumes z after b.given) e b.consumed,
-      inl (header_broken (cut_short (stream_of b.given)) b.no_token),
-    )
+broken_off p before after b bytes e = elim b.undecided.tokens [
+  | inl none ↦ inl (b.given, here, inl (header_broken (cut_short (stream_of b.given)) none))
+  | inr word ↦ elim (broken_kinds before after b bytes e word) [
+    | inl is ↦ inr (inl (is, (b.given, here, inl (groups_broken (cut_short (stream_of b.given)) word.0 word.1))))
+    | inr is ↦ inr (inr (is, (b.given, here, inl (prices_broken (cut_short (stream_of b.given)) word.0 word.1))))
+  ]
+]
+  where
+    here : Consumes (Some bytes) after b.given
+    here = subst (λ (z : Option (List ℕ)). Consumes z after b.given) e b.consumed

@@ -1,5 +1,5 @@
--- Owners of the targets of groups, and a table to which a group is added.
-use Rattle.std.proofs.Common.{◌≡◌, ℕ, ◌+◌, ◌-◌, ◌*◌, ◌<◌, ◌≤◌, Bool, true, false, not, cond, ◌&&◌, ◌||◌, List, [], ◌∷◌, ◌++◌, take, drop, length, get_or, map, Option, Some, None, refl, sym, ap, subst, ◌∙◌, arith, append-nil, inl, inr, lit<}
+-- Owners of targets, and a table to which a group or another file is added.
+use Rattle.std.proofs.Common.{◌≡◌, ℕ, ◌+◌, ◌-◌, ◌*◌, ◌<◌, Bool, true, false, not, cond, ◌&&◌, ◌||◌, List, [], ◌∷◌, ◌++◌, take, drop, length, get_or, map, Option, Some, None, refl, sym, ap, subst, ◌∙◌, arith, append-nil, inl, inr, lit<, length-append}
 use Rattle.std.specs.Prelude.{◌==◌, slice_get, IsSomeAnd}
 use Rattle.std.specs.Option.{option_or}
 use Rattle.std.specs.List.{list_all, AllByRecursion}
@@ -10,6 +10,8 @@ use Rattle.std.proofs.lemmas.List.Folds.{list_any-append, list_all-append}
 use Rattle.std.proofs.lemmas.Grind.{flat_map-append}
 use Rattle.tt_list_laws.specs.Words.{has_number}
 use Rattle.tt_list_laws.proofs.Below.{all_pass}
+use Rattle.tt_list_laws.proofs.Members.{each_of_append}
+use Rattle.tt_list_laws.proofs.Tested.{each_append}
 use Rattle.tt_list_laws.proofs.Twos.{list_all-swap, each_two-push, neither}
 use Rattle.tt_instance.specs.Problem.{Problem}
 use Rattle.tt_instance.specs.Limits.{IsInstance}
@@ -19,15 +21,19 @@ use Rattle.tt_groups.specs.Group.{Group, IsGroupBound}
 use Rattle.tt_groups_read.specs.Spelling.{IsClaim}
 use Rattle.tt_groups_read.specs.declared.claim.GroupClaim.{GroupClaim}
 use Rattle.tt_proof_sum.specs.Inner.Claiming.{Entered}
+use Rattle.tt_proof_sum.specs.Inner.Owned.{FirstTarget}
+use Rattle.tt_proof_sum.specs.declared.claimed.ClaimedTarget.{ClaimedTarget}
+use Rattle.tt_proof_sum.specs.Faults.{IsCalled}
 use Rattle.tt_proof_sum.specs.GroupsFaults.{Pass, is_unclaimed, FirstClaimed, IsClaimedBy}
 use Rattle.tt_proof_sum.specs.Sums.{is_among, are_apart, group_targets, targets_of_claims, Part, claims_of}
 use Rattle.tt_proof_sum.specs.Tables.{State, owner, first_claim, begun, group_places, first_owner, Marks, IsTableOf}
-use Rattle.tt_proof_sum.proofs.Joining.{has_place, claim_below, unclaimed, claims_it}
+use Rattle.tt_proof_sum.proofs.Joining.{has_place, first_claim-push, claim_below, unclaimed, claims_it}
+use Rattle.tt_proof_sum.proofs.Priced.{placed_each}
 use Rattle.tt_list_laws.proofs.All.{list_all-same}
 
 -- ---- the first owner of places
 
-first_owner-append : (a : State) (xs ys : List ℕ) → first_owner a (xs ++ ys) ≡ option_or (first_owner a xs) (first_owner a ys)
+pub first_owner-append : (a : State) (xs ys : List ℕ) → first_owner a (xs ++ ys) ≡ option_or (first_owner a xs) (first_owner a ys)
 first_owner-append a [] ys = refl
 first_owner-append a (k ∷ ks) ys = on (owner a k == 0) (first_owner-append a ks ys)
   where
@@ -41,6 +47,10 @@ owns a k some = rw (false_from_ne_true (owner a k == 0) (λ e. some (eqb-true (o
 
 owns_not : (a : State) (k : ℕ) → owner a k ≡ 0 → first_owner a (k ∷ []) ≡ None
 owns_not a k none = rw (eq-eqb (owner a k) 0 none) refl
+
+pub none_then : (a : State) (ks : List ℕ) (k : ℕ) → first_owner a ks ≡ None → owner a k ≡ 0 → first_owner a (ks ++ k ∷ []) ≡ None
+none_then a ks k before none =
+    first_owner-append a ks (k ∷ []) ∙ ap (λ (o : Option ℕ). option_or o (first_owner a (k ∷ []))) before ∙ owns_not a k none
 
 module _ (a : State) (f : ℕ → ℕ) (ns : List ℕ) (i d : ℕ) (within : i < length ns) (before : first_owner a (map f (take i ns)) ≡ None) where
   up_to : first_owner a (map f (take (i + 1) ns)) ≡ first_owner a (f (get_or ns i d) ∷ [])
@@ -61,19 +71,18 @@ module _ (a : State) (f : ℕ → ℕ) (ns : List ℕ) (i d : ℕ) (within : i <
       (map f (drop (i + 1) ns))
       ∙ ap (λ (o : Option ℕ). option_or o rest) (up_to ∙ owns a (f (get_or ns i d)) some))
 
-curriculum_places : (qs : List ℕ) → map place (map Compactness qs) ≡ map (λ (n : ℕ). 4 * n + 2) qs
-curriculum_places [] = refl
-curriculum_places (q ∷ qs) = ap (λ (l : List ℕ). (4 * q + 2) ∷ l) (curriculum_places qs)
-
-course_places : (cs : List ℕ) → map place (map WorkingDays cs) ≡ map (λ (n : ℕ). 4 * n + 1) cs
-course_places [] = refl
-course_places (c ∷ cs) = ap (λ (l : List ℕ). (4 * c + 1) ∷ l) (course_places cs)
+-- the places of targets of one kind
+pub places_each : (f : ℕ → Target) (kind : ℕ) → ((n : ℕ) → place (f n) ≡ 4 * n + kind) → (ns : List ℕ)
+    → map place (map f ns) ≡ map (λ (n : ℕ). 4 * n + kind) ns
+places_each f kind is [] = refl
+places_each f kind is (n ∷ ns) = ap (λ (k : ℕ). k ∷ map place (map f ns)) (is n) ∙ ap (λ (l : List ℕ). (4 * n + kind) ∷ l)
+    (places_each f kind is ns)
 
 pub places_of_group : (g : Group) → group_places g ≡ map (λ (n : ℕ). 4 * n + 2) g.curricula ++ map (λ (n : ℕ). 4 * n + 1) g.courses
 places_of_group g =
     map-append place (map Compactness g.curricula) (map WorkingDays g.courses)
-    ∙ ap (λ (l : List ℕ). l ++ map place (map WorkingDays g.courses)) (curriculum_places g.curricula)
-    ∙ ap (λ (l : List ℕ). map (λ (n : ℕ). 4 * n + 2) g.curricula ++ l) (course_places g.courses)
+    ∙ ap (λ (l : List ℕ). l ++ map place (map WorkingDays g.courses)) (places_each Compactness 2 (λ n. refl) g.curricula)
+    ∙ ap (λ (l : List ℕ). map (λ (n : ℕ). 4 * n + 2) g.curricula ++ l) (places_each WorkingDays 1 (λ n. refl) g.courses)
 
 pub group_owner : (a : State) (g : Group) → option_or (first_owner a (map (λ (n : ℕ). 4 * n + 2) g.curricula))
     (first_owner a (map (λ (n : ℕ). 4 * n + 1) g.courses)) ≡ first_owner a (group_places g)
@@ -82,7 +91,7 @@ group_owner a g = sym (ap (first_owner a) (places_of_group g) ∙ first_owner-ap
 
 -- ---- marks
 
-marks_none : (a : State) → Marks a [] a
+pub marks_none : (a : State) → Marks a [] a
 marks_none a = record { proof = refl; clash = refl; owners = λ k l. refl }
 
 pub marks_then : (a b c : State) (xs ys : List ℕ) → Marks a xs b → Marks b ys c → Marks a (xs ++ ys) c
@@ -107,23 +116,68 @@ group_marks a b c g h k = subst (λ (l : List ℕ). Marks a l c) (sym (places_of
 
 -- ---- places of a group's targets are within the table
 
-placed_courses : (n : ℕ) (cs : List ℕ) → n ≤ 8192 → AllByRecursion (λ c. c < n) cs → AllByRecursion (λ y. place y < 32768)
-    (map WorkingDays cs)
-placed_courses n [] at_most h = tt
-placed_courses n (c ∷ cs) at_most h = (omega (arith, h.0, at_most), placed_courses n cs at_most h.1)
-
-placed_curricula : (n : ℕ) (qs : List ℕ) (rest : List Target) → n ≤ 8192 → AllByRecursion (λ q. q < n) qs
-    → AllByRecursion (λ y. place y < 32768) rest → AllByRecursion (λ y. place y < 32768) (map Compactness qs ++ rest)
-placed_curricula n [] rest at_most h r = r
-placed_curricula n (q ∷ qs) rest at_most h r = (omega (arith, h.0, at_most), placed_curricula n qs rest at_most h.1 r)
-
 pub group_placed : (p : Problem) → IsInstance p → (k : GroupClaim) → IsClaim p k → AllByRecursion (λ y. place y < 32768)
     (group_targets k.group)
 group_placed p is k claim =
-    placed_curricula (length p.curricula) k.group.curricula (map WorkingDays k.group.courses) is.within.curricula
-    (recursion_from_All (λ q. q < length p.curricula) k.group.curricula claim.curricula.0)
-    (placed_courses (length p.courses) k.group.courses (let at_most = is.within.courses in omega (arith, at_most))
+    let few = is.within.courses in
+    let few_curricula = is.within.curricula in
+    each_append (λ y. place y < 32768) (map Compactness k.group.curricula) (map WorkingDays k.group.courses)
+    (placed_each Compactness (length p.curricula) (λ q l. omega (arith, l, few_curricula)) k.group.curricula
+    (recursion_from_All (λ q. q < length p.curricula) k.group.curricula claim.curricula.0))
+    (placed_each WorkingDays (length p.courses) (λ c l. omega (arith, l, few)) k.group.courses
     (recursion_from_All (λ c. c < length p.courses) k.group.courses claim.courses.0))
+
+-- -- the first target that has an owner
+
+-- o is the owner of the first of the targets that has one, and P holds of that target
+pub record FirstWithOwner (a : State) (P : Target → Type 0) (ys : List Target) (o : ℕ) : Type 0 where
+  pub before : List Target
+  pub target : Target
+  pub more : List Target
+  pub split : ys ≡ before ++ target ∷ more
+  pub free : first_owner a (map place before) ≡ None
+  pub owned : owner a (place target) ≡ o
+  pub some : o ≡ 0 → ⊥
+  pub is : P target
+
+pub first_with_owner : (a : State) (P : Target → Type 0) (ys : List Target) (o : ℕ) → AllByRecursion P ys
+    → first_owner a (map place ys) ≡ Some o → FirstWithOwner a P ys o
+first_with_owner a P [] o each e = absurd cc
+first_with_owner a P (y ∷ ys) o each e = on (owner a (place y) == 0) refl e (λ h. first_with_owner a P ys o each.1 h)
+  where
+    on : (z : Bool) → (owner a (place y) == 0) ≡ z → cond z (first_owner a (map place ys)) (Some (owner a (place y))) ≡ Some o
+        → (first_owner a (map place ys) ≡ Some o → FirstWithOwner a P ys o) → FirstWithOwner a P (y ∷ ys) o
+    on true z h rest =
+        let r = rest h in
+        record {
+          before = y ∷ r.before;
+          target = r.target;
+          more = r.more;
+          split = ap (λ (l : List Target). y ∷ l) r.split;
+          free = rw z r.free;
+          owned = r.owned;
+          some = r.some;
+          is = r.is;
+        }
+    on false z h rest =
+        let is : owner a (place y) ≡ o = cc in
+        record {
+          before = [];
+          target = y;
+          more = ys;
+          split = refl;
+          free = refl;
+          owned = is;
+          some = λ n. both_ways (owner a (place y) == 0) z (eq-eqb (owner a (place y)) 0 (is ∙ n));
+          is = each.0;
+        }
+
+-- what holds of each of the targets holds of those before the one at the split, and of that one
+pub before_split : (P : Target → Type 0) (ys before : List Target) (y : Target) (more : List Target) → ys ≡ before ++ y ∷ more
+    → AllByRecursion P ys → AllByRecursion P before × P y
+before_split P ys before y more split each =
+    let sides = each_of_append P before (y ∷ more) (subst (AllByRecursion P) split each) in
+    (sides.0, sides.1.0)
 
 -- -- the meaning of an owner
 
@@ -150,7 +204,7 @@ module _ (before b : State) (parts : List Part) (claims : List GroupClaim) (of :
           (not_from_false (is_among targets y) e) (unclaimed 1 parts y (lit< tt) h)
 
   -- a target owned by the newest file is among its targets
-  own_target : (y : Target) → place y < 32768 → owner b (place y) ≡ b.proof → is_among targets y ≡ true
+  pub own_target : (y : Target) → place y < 32768 → owner b (place y) ≡ b.proof → is_among targets y ≡ true
   own_target y l is = on (is_among targets y) refl (sym (owner_is y l) ∙ is ∙ marks.proof)
     where
       on : (z : Bool) → is_among targets y ≡ z → cond z (before.proof + 1) (first_claim 1 parts (place y)) ≡ before.proof + 1
@@ -184,74 +238,72 @@ module _ (before b : State) (parts : List Part) (claims : List GroupClaim) (of :
           (unowned y placed.0 (eqb-true (owner b (place y)) 0 z)) (rest h)
       on false z h rest = absurd cc
 
-  pub record FirstOwned (ys : List Target) (o : ℕ) : Type 0 where
-    pub first : List Target
-    pub target : Target
-    pub more : List Target
-    pub split : ys ≡ first ++ target ∷ more
-    pub unclaimed_before : list_all (is_unclaimed parts claims) first ≡ true
-    pub within : place target < 32768
-    pub owned : owner b (place target) ≡ o
-    pub some : o ≡ 0 → ⊥
-
-  pub first_owned : (ys : List Target) (o : ℕ) → AllByRecursion (λ y. place y < 32768) ys → first_owner b (map place ys) ≡ Some o
-      → FirstOwned ys o
-  first_owned [] o placed e = absurd cc
-  first_owned (y ∷ ys) o placed e = on (owner b (place y) == 0) refl e (λ h. first_owned ys o placed.1 h)
-    where
-      on : (z : Bool) → (owner b (place y) == 0) ≡ z → cond z (first_owner b (map place ys)) (Some (owner b (place y))) ≡ Some o
-          → (first_owner b (map place ys) ≡ Some o → FirstOwned ys o) → FirstOwned (y ∷ ys) o
-      on true z h rest =
-          let r = rest h in
-          record {
-            first = y ∷ r.first;
-            target = r.target;
-            more = r.more;
-            split = ap (λ (l : List Target). y ∷ l) r.split;
-            unclaimed_before = and_from (is_unclaimed parts claims y) (list_all (is_unclaimed parts claims) r.first)
-                (unowned y placed.0 (eqb-true (owner b (place y)) 0 z)) r.unclaimed_before;
-            within = r.within;
-            owned = r.owned;
-            some = r.some;
-          }
-      on false z h rest =
-          let is : owner b (place y) ≡ o = cc in
-          record {
-            first = [];
-            target = y;
-            more = ys;
-            split = refl;
-            unclaimed_before = refl;
-            within = placed.0;
-            owned = is;
-            some = λ n. both_ways (owner b (place y) == 0) z (eq-eqb (owner b (place y)) 0 (is ∙ n));
-          }
-
   pub claimed_twice : (ys : List Target) → AllByRecursion (λ y. place y < 32768) ys → first_owner b (map place ys) ≡ Some b.proof
       → FirstClaimed parts claims ys (λ y. is_among targets y ≡ true)
   claimed_twice ys placed e =
-      let f = first_owned ys b.proof placed e in
+      let f = first_with_owner b (λ y. place y < 32768) ys b.proof placed e in
       record {
-        before = f.first;
+        before = f.before;
         target = f.target;
         more = f.more;
         split = f.split;
-        unclaimed = f.unclaimed_before;
-        is = own_target f.target f.within f.owned;
+        unclaimed = all_unclaimed f.before (before_split (λ y. place y < 32768) ys f.before f.target f.more f.split placed).0 f.free;
+        is = own_target f.target f.is f.owned;
       }
 
   pub claimed_before : (ys : List Target) (o : ℕ) → AllByRecursion (λ y. place y < 32768) ys → first_owner b (map place ys) ≡ Some o
       → (o ≡ b.proof → ⊥) → FirstClaimed parts claims ys (IsClaimedBy parts o)
   claimed_before ys o placed e other =
-      let f = first_owned ys o placed e in
+      let f = first_with_owner b (λ y. place y < 32768) ys o placed e in
       record {
-        before = f.first;
+        before = f.before;
         target = f.target;
         more = f.more;
         split = f.split;
-        unclaimed = f.unclaimed_before;
-        is = earlier_target f.target o f.within f.owned f.some other;
+        unclaimed = all_unclaimed f.before (before_split (λ y. place y < 32768) ys f.before f.target f.more f.split placed).0 f.free;
+        is = earlier_target f.target o f.is f.owned f.some other;
       }
+
+  pub called_before : (ys : List Target) (name : ClaimedTarget) (o : ℕ) → AllByRecursion (λ y. place y < 32768) ys
+      → FirstTarget b ys name o → (o ≡ b.proof → ⊥) → FirstClaimed parts claims ys (λ y. IsCalled y name × IsClaimedBy parts o y)
+  called_before ys name o placed f other =
+      let sides = before_split (λ y. place y < 32768) ys f.before f.target f.more f.split placed in
+      record {
+        before = f.before;
+        target = f.target;
+        more = f.more;
+        split = f.split;
+        unclaimed = all_unclaimed f.before sides.0 f.free;
+        is = (f.called, earlier_target f.target o sides.1 f.owned f.some other);
+      }
+
+-- -- a table that has the places of another part
+
+module _ (before b : State) (parts : List Part) (part : Part) (of : IsTableOf before parts)
+    (marks : Marks (begun before) (map place (claims_of part)) b)
+    (fresh : (k : ℕ) → k < 32768 → has_number (map place (claims_of part)) k ≡ true → owner before k ≡ 0) where
+  pub table_after : IsTableOf b (parts ++ part ∷ [])
+  table_after =
+      let number_is : before.proof + 1 ≡ 1 + length parts = omega (arith, of.number) in
+      record {
+        owners = λ k l.
+            marks.owners k l ∙ by k l (has_number (map place (claims_of part)) k) refl
+            ∙ ap (λ q. cond ((first_claim 1 parts k == 0) && has_number (map place (claims_of part)) k) q (first_claim 1 parts k)) number_is
+            ∙ sym (first_claim-push 1 parts part k (lit< tt));
+        number = let long = length-append parts (part ∷ []) in omega (arith, marks.proof, number_is, long);
+        free = marks.clash ∙ of.free;
+      }
+    where
+      unclaimed_owner : (y : Bool) (q o : ℕ) → o ≡ cond (y && false) q o
+      unclaimed_owner true q o = refl
+      unclaimed_owner false q o = refl
+
+      by : (k : ℕ) → k < 32768 → (z : Bool) → has_number (map place (claims_of part)) k ≡ z
+          → cond z (before.proof + 1) (owner before k) ≡ cond ((first_claim 1 parts k == 0) && z) (before.proof + 1) (first_claim 1 parts k)
+      by k l true e =
+          let none : first_claim 1 parts k ≡ 0 = sym (of.owners k l) ∙ fresh k l e in
+          rw (eq-eqb (first_claim 1 parts k) 0 none) refl
+      by k l false e = of.owners k l ∙ unclaimed_owner (first_claim 1 parts k == 0) (before.proof + 1) (first_claim 1 parts k)
 
 -- -- another claim
 
@@ -266,7 +318,7 @@ in_none (k ∷ ks) y =
     ap not (list_any-append _ (targets_in k) (targets_of_claims ks)) ∙ neither (is_among (targets_in k) y)
     (is_among (targets_of_claims ks) y) ∙ ap (λ z. not (is_among (targets_in k) y) && z) (in_none ks y)
 
-both_all : {X : Type 0} (f g : X → Bool) (xs : List X) → list_all (λ x. f x && g x) xs ≡ true → (list_all f xs ≡ true)
+pub both_all : {X : Type 0} (f g : X → Bool) (xs : List X) → list_all (λ x. f x && g x) xs ≡ true → (list_all f xs ≡ true)
     × (list_all g xs ≡ true)
 both_all f g [] e = (refl, refl)
 both_all f g (x ∷ xs) e =
@@ -336,7 +388,7 @@ more_pass p parts claims k h new bound =
           ∙ list_all-append clear ys (targets_in k) ∙ and_from (list_all clear ys) (list_all clear (targets_in k)) old parted.1;
     }
 
-owner_none : (b : State) (ks : List ℕ) (k : ℕ) → first_owner b ks ≡ None → has_number ks k ≡ true → owner b k ≡ 0
+pub owner_none : (b : State) (ks : List ℕ) (k : ℕ) → first_owner b ks ≡ None → has_number ks k ≡ true → owner b k ≡ 0
 owner_none b [] k e h = absurd cc
 owner_none b (m ∷ ms) k e h = on (owner b m == 0) refl e (λ f g. owner_none b ms k f g)
   where

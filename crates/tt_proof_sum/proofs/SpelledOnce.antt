@@ -5,7 +5,7 @@ use Rattle.std.proofs.lemmas.List.Elements.{All-contains, Contains-append_right}
 use Rattle.tt_groups.specs.Group.{IsGroupBound}
 use Rattle.tt_groups_check.specs.declared.fault.GroupFault.TheVariants as group
 use Rattle.std.specs.List.{list_all, list_any}
-use Rattle.std.proofs.lemmas.Bool.{both_ways, or_left, or_right}
+use Rattle.std.proofs.lemmas.Bool.{or_left, or_right}
 use Rattle.std.proofs.lemmas.List.Folds.{list_any-append}
 use Rattle.tt_list_laws.proofs.Members.{at_member, member_from_any, each_two-of_append}
 use Rattle.tt_list_laws.proofs.Sums.{list_any-of_flat_map, each_from_list_all}
@@ -26,11 +26,15 @@ use Rattle.tt_proof_read.specs.declared.fault.TextFault.{TextFault}
 use Rattle.tt_proof_read.specs.declared.sizes.Sizes.{Sizes}
 use Rattle.tt_proof_read.proofs.Small.{are_small}
 use Rattle.tt_proof_check.specs.Streams.{stream_of, sizes_of}
-use Rattle.tt_proof_check.specs.declared.fault.CheckFault.{CheckFault}
 use Rattle.tt_proof_check.proofs.Sizes.{are_sizes_of}
 use Rattle.tt_proof_check.proofs.Texts.{spelled_once}
-use Rattle.tt_text_peek.specs.Fronts.{is_groups}
-use Rattle.tt_text_peek.proofs.Fronts.{proofs_are_no_groups}
+use Rattle.tt_prices_read.specs.Reading as prices
+use Rattle.tt_prices_read.specs.declared.header.Header.{Header}
+use Rattle.tt_prices_file.proofs.Once.{file_once}
+use Rattle.tt_text_peek.specs.Fronts.{kind_of}
+use Rattle.tt_text_peek.specs.declared.kind.FileKind.{FileKind}
+use Rattle.tt_text_peek.specs.declared.kind.FileKind.TheVariants as kind
+use Rattle.tt_text_peek.proofs.Fronts.{kind_of-proof}
 use Rattle.tt_groups_read.specs.Reading.{group_at}
 use Rattle.tt_groups_read.specs.Reads.{ReadsClaims, ReadsFile}
 use Rattle.tt_groups_read.specs.Spelling.{SpellsGroups}
@@ -39,27 +43,36 @@ use Rattle.tt_groups_read.specs.declared.fault.GroupTextFault.{GroupTextFault}
 use Rattle.tt_groups_read.proofs.FileLaws.{spelled_reads}
 use Rattle.tt_proof_sum.specs.declared.groups_fault.GroupsFault.{GroupsFault}
 use Rattle.tt_proof_sum.specs.declared.groups_fault.GroupsFault.TheVariants as groups
-use Rattle.tt_proof_sum.specs.Faults.{IsTreeFault}
 use Rattle.tt_proof_sum.specs.GroupsFaults.{AfterClaims, ExplainsGroups, IsLeftOpen}
-use Rattle.tt_proof_sum.specs.Sums.{is_among, are_apart, group_targets, targets_of_claims, TreePart, GroupsPart, Part, TreeProof, GroupsFile, IsGroupsPart, IsPart, claims_of, AreClaimsApart}
+use Rattle.tt_proof_sum.specs.Sums.{is_among, are_apart, group_targets, targets_of_claims, TreePart, GroupsPart, Part, TreeProof, GroupsFile, PricesFile, IsGroupsPart, IsPart, claims_of, AreClaimsApart}
 use Rattle.tt_proof_sum.proofs.Together.{not_both}
 
--- -- a proof isn't a file of groups
+-- -- the kind of a part is that of its text
 
 starts : (bytes : List ℕ) (ps : List Piece) (ts : List Placed) → tokens_of bytes ≡ ts → Begins (Text (codes "CTTP") ∷ ps) ts []
-    → is_groups bytes ≡ false
+    → kind_of bytes ≡ kind.Tree
 starts bytes ps [] e b = absurd b
-starts bytes ps (t ∷ ts) e b = proofs_are_no_groups bytes t ts e b.0
+starts bytes ps (t ∷ ts) e b = kind_of-proof bytes t ts e b.0
 
-pub proofs_are_trees : (p : Problem) (bytes : List ℕ) (k : TreePart) → SpellsProof p bytes k.version k.bound k.tree
-    → is_groups bytes ≡ false
+proofs_are_trees : (p : Problem) (bytes : List ℕ) (k : TreePart) → SpellsProof p bytes k.version k.bound k.tree
+    → kind_of bytes ≡ kind.Tree
 proofs_are_trees p bytes k spelled =
     starts bytes (Text (version_text k.version) ∷ Text (codes "bound") ∷ bound_piece k.bound ∷
     (spelled.body ++ Text (codes "end") ∷ [])) (tokens_of bytes) refl spelled.tokens
 
--- a file of groups has no fault as a tree proof
-pub no_tree : (p : Problem) (bytes : List ℕ) (k : GroupsPart) (f : CheckFault) → IsGroupsPart p bytes k → IsTreeFault p bytes f → ⊥
-no_tree p bytes k f spelled reported = both_ways (is_groups bytes) reported.kind spelled.kind
+abbrev pub kind_of_part : Part → FileKind
+kind_of_part (TreeProof k) = kind.Tree
+kind_of_part (GroupsFile k) = kind.Groups
+kind_of_part (PricesFile k) = kind.Prices
+
+pub part_kind : (p : Problem) (bytes : List ℕ) (k : Part) → IsPart p bytes k → kind_of bytes ≡ kind_of_part k
+part_kind p bytes (TreeProof k) h = proofs_are_trees p bytes k h.spelled
+part_kind p bytes (GroupsFile k) h = h.kind
+part_kind p bytes (PricesFile k) h = h.kind
+
+-- two parts of one text have the same kind
+pub kinds_same : (p : Problem) (bytes : List ℕ) (k l : Part) → IsPart p bytes k → IsPart p bytes l → kind_of_part k ≡ kind_of_part l
+kinds_same p bytes k l h i = sym (part_kind p bytes k h) ∙ part_kind p bytes l i
 
 -- ---- claims that a stream gives
 
@@ -172,13 +185,31 @@ tree_part v b t = TreeProof (record { version = v; bound = b; tree = t })
 abbrev groups_part : ℕ → List GroupClaim → Part
 groups_part b claims = GroupsFile (record { bound = b; claims = claims })
 
+abbrev prices_part : Header → List prices.Part → ℕ → Part
+prices_part h parts n = PricesFile (record { header = h; parts = parts; courses = n })
+
 pub same_part : (p : Problem) → IsInstance p → (bytes : List ℕ) (k l : Part) → IsPart p bytes k → IsPart p bytes l → k ≡ l
 same_part p is bytes (TreeProof k) (TreeProof l) h i =
     let same = spelled_once p is bytes k.version l.version k.bound l.bound k.tree l.tree h.spelled i.spelled in
     ap (λ (v : ℕ). tree_part v k.bound k.tree) same.0.0 ∙ ap (λ (b : Bound). tree_part l.version b k.tree) same.0.1
     ∙ ap (λ (t : Tree). tree_part l.version l.bound t) same.1
-same_part p is bytes (TreeProof k) (GroupsFile l) h i = absurd (both_ways (is_groups bytes) (proofs_are_trees p bytes k h.spelled) i.kind)
-same_part p is bytes (GroupsFile k) (TreeProof l) h i = absurd (both_ways (is_groups bytes) (proofs_are_trees p bytes l i.spelled) h.kind)
+same_part p is bytes (TreeProof k) (GroupsFile l) h i =
+    let no : kind.Tree ≡ kind.Groups = kinds_same p bytes (TreeProof k) (GroupsFile l) h i in absurd cc
+same_part p is bytes (TreeProof k) (PricesFile l) h i =
+    let no : kind.Tree ≡ kind.Prices = kinds_same p bytes (TreeProof k) (PricesFile l) h i in absurd cc
+same_part p is bytes (GroupsFile k) (TreeProof l) h i =
+    let no : kind.Groups ≡ kind.Tree = kinds_same p bytes (GroupsFile k) (TreeProof l) h i in absurd cc
+same_part p is bytes (GroupsFile k) (PricesFile l) h i =
+    let no : kind.Groups ≡ kind.Prices = kinds_same p bytes (GroupsFile k) (PricesFile l) h i in absurd cc
+same_part p is bytes (PricesFile k) (TreeProof l) h i =
+    let no : kind.Prices ≡ kind.Tree = kinds_same p bytes (PricesFile k) (TreeProof l) h i in absurd cc
+same_part p is bytes (PricesFile k) (GroupsFile l) h i =
+    let no : kind.Prices ≡ kind.Groups = kinds_same p bytes (PricesFile k) (GroupsFile l) h i in absurd cc
+same_part p is bytes (PricesFile k) (PricesFile l) h i =
+    let same = file_once p is bytes k.header l.header k.parts l.parts h.spelled i.spelled in
+    let courses : k.courses ≡ l.courses = h.right.courses ∙ sym i.right.courses in
+    ap (λ (x : Header). prices_part x k.parts k.courses) same.0 ∙ ap (λ (xs : List prices.Part). prices_part l.header xs k.courses) same.1
+    ∙ ap (λ (n : ℕ). prices_part l.header l.parts n) courses
 same_part p is bytes (GroupsFile k) (GroupsFile l) h i =
     let same = groups_once p is bytes k.bound l.bound k.claims l.claims h.spelled i.spelled in
     ap (λ (b : ℕ). groups_part b k.claims) same.0 ∙ ap (λ (c : List GroupClaim). groups_part l.bound c) same.1

@@ -1,4 +1,4 @@
--- Bounds of trees and of groups that claim distinct targets add up.
+-- Bounds of trees, of groups and of groups with prices that claim distinct targets add up.
 use Rattle.std.proofs.Common.{◌≡◌, ℕ, ◌+◌, ◌≤◌, Bool, true, false, not, cond, ◌&&◌, ◌||◌, List, [], ◌∷◌, ◌++◌, map, Option, refl, subst, ◌∙◌, arith, inl, inr, zero-le}
 use Rattle.std.specs.Prelude.{Contains, ◌⊎◌, sum_by, flat_map}
 use Rattle.std.specs.List.{list_any, list_all, AllZip, AllByRecursion}
@@ -29,8 +29,9 @@ use Rattle.tt_groups.proofs.Seen.{group_bound_holds}
 use Rattle.tt_groups_read.specs.Spelling.{IsClaim}
 use Rattle.tt_groups_read.specs.declared.claim.GroupClaim.{GroupClaim}
 use Rattle.tt_proof_sum.specs.Added.{IsPartOf}
-use Rattle.tt_proof_sum.specs.Sums.{claimed_by, is_among, are_among, are_apart, cost_over, every_target, group_targets, targets_of_claims, AreClaimsApart, both_bounds, sum_of, Part, TreeProof, GroupsFile, IsPart, ShowsOn, bound_of, claims_of, AreApart, IsSum}
+use Rattle.tt_proof_sum.specs.Sums.{claimed_by, is_among, are_among, are_apart, cost_over, every_target, group_targets, targets_of_claims, AreClaimsApart, both_bounds, sum_of, Part, TreeProof, GroupsFile, PricesFile, prices_targets, IsPart, ShowsOn, bound_of, claims_of, AreApart, IsSum}
 use Rattle.tt_proof_sum.proofs.Over.{are_different, tree_by, most_over, over_all, IsMost}
+use Rattle.tt_proof_sum.proofs.Priced.{prices_different, prices_paid}
 
 -- if each target of a list is one of these, the test says so
 itself_among : (targets ys : List Target) → ((y : Target) → Contains ys y → Contains targets y) → list_all (is_among targets) ys ≡ true
@@ -195,6 +196,10 @@ module _ (p : Problem) (t : List Cell) (ok : IsFeasible p t) where
         let paid = claims_paid k.claims (recursion_from_All (IsClaim p) k.claims d.0)
         (recursion_from_All (λ z. IsGroupBound p z.group z.value) k.claims d.1.bounds) d.1.apart in
         omega (arith, paid, d.1.enough)
+    part_paid (PricesFile k) d =
+        let own_claims = prices_targets k in
+        let within = most_share own_claims own_claims (prices_different p k d) (itself_among own_claims own_claims (λ y m. m)) in
+        omega (arith, within, prices_paid p k d t ok)
 
     shares_hold : (parts : List Part) → AllByRecursion (ShowsOn p path) parts → AreApart parts
         → Respects (sum_of parts) (share (flat_map claims_of parts))
@@ -230,10 +235,12 @@ parts_hold p R shows xs parts zipped apart t ok = bounds_add p t ok [] (All-nil 
 pub part_shows : (p : Problem) (bytes : List ℕ) (k : Part) → IsPart p bytes k → ShowsOn p [] k
 part_shows p bytes (TreeProof k) is = is.derives
 part_shows p bytes (GroupsFile k) is = (is.spelled.each, is.right)
+part_shows p bytes (PricesFile k) is = is.right
 
 pub part_of_shows : (p : Problem) (remaining : Option (List ℕ)) (k : Part) → IsPartOf p remaining k → ShowsOn p [] k
 part_of_shows p remaining (TreeProof k) is = is.derives
 part_of_shows p remaining (GroupsFile k) is = (is.claims, is.right)
+part_of_shows p remaining (PricesFile k) is = is.right
 
 pub sum_holds : (p : Problem) (files : List (List ℕ)) (s : Bound) → IsSum p files s → HoldsOfAll p s
 sum_holds p files s h = subst (HoldsOfAll p) h.total (parts_hold p (IsPart p) (part_shows p) files h.parts h.each h.apart)

@@ -1,9 +1,9 @@
 -- A file of groups is read claim by claim.
-use Rattle.std.proofs.Common.{◌≡◌, ℕ, ◌+◌, ◌-◌, ◌<◌, ◌≤◌, ◌^◌, min, Bool, true, false, cond, ◌&&◌, List, [], ◌∷◌, ◌++◌, length, map, Option, Some, None, Result, Ok, Err, is_some, refl, sym, ap, subst, ◌∙◌, arith, inl, inr, lit<, length-append}
-use Rattle.std.specs.Prelude.{◌==◌, nat_lt, IfOk}
+use Rattle.std.proofs.Common.{◌≡◌, ℕ, ◌+◌, ◌-◌, ◌<◌, ◌≤◌, ◌^◌, min, Bool, true, false, cond, List, [], ◌∷◌, ◌++◌, map, Option, Some, None, Result, Ok, Err, is_some, refl, sym, ap, subst, ◌∙◌, arith, inl, inr, length-append}
+use Rattle.std.specs.Prelude.{nat_lt, IfOk}
 use Rattle.std.specs.Bool.{OnFalse}
 use Rattle.std.specs.Io.KnownBytes.{Keeps}
-use Rattle.std.proofs.lemmas.Bool.{eq-eqb, ltb-true, ltb-false}
+use Rattle.std.proofs.lemmas.Bool.{ltb-true, ltb-false}
 use Rattle.std.proofs.lemmas.List.Sums.{sum_by-append}
 use Rattle.tt_list_laws.specs.Words.{has_number}
 use Rattle.tt_text.specs.CutShort.{rest_of, cut_at}
@@ -34,7 +34,8 @@ use Rattle.tt_groups_read.specs.declared.claim.GroupClaim.{GroupClaim}
 use Rattle.tt_groups_read.specs.declared.fault.GroupTextFault.{GroupTextFault}
 use Rattle.tt_groups_read.specs.declared.fault.GroupTextFault.TheVariants as group_text
 use Rattle.tt_groups_read.proofs.FileLaws.{reads_spelled}
-use Rattle.tt_text_peek.specs.Fronts.{is_groups}
+use Rattle.tt_text_peek.specs.Fronts.{kind_of}
+use Rattle.tt_text_peek.specs.declared.kind.FileKind.TheVariants as kind
 use Rattle.tt_stop.specs.Stops.{OnFault, IfFault}
 use Rattle.tt_stop.specs.declared.stop.Stop.{Stop}
 use Rattle.tt_stop.specs.declared.stop.Stop.TheVariants.{Fault, ReadFailed, OutOfMemory}
@@ -47,11 +48,10 @@ use Rattle.tt_proof_sum.specs.Inner.Claiming.{ExplainsClaimFault, ExplainsClaim,
 use Rattle.tt_proof_sum.specs.Faults.{IsGroupsFault, ExplainsAdded, stop_from_text, HoldsNoStop}
 use Rattle.tt_proof_sum.specs.GroupsFaults.{Pass, AfterClaims, ExplainsGroups}
 use Rattle.tt_proof_sum.specs.Sums.{group_targets, targets_of_claims, Part, GroupsPart, GroupsFile}
-use Rattle.tt_proof_sum.specs.Tables.{State, owner, first_claim, begun, group_places, first_owner, Marks, IsTableOf}
+use Rattle.tt_proof_sum.specs.Tables.{State, owner, begun, group_places, first_owner, Marks, IsTableOf}
 use Rattle.tt_proof_sum.specs.UpToFailedRead.{AreGroupsCutOff}
-use Rattle.tt_proof_sum.proofs.Joining.{first_claim-push}
 use Rattle.tt_proof_sum.proofs.Looked.{keeps_known}
-use Rattle.tt_proof_sum.proofs.Owners.{entered_none, entered_more, group_placed, all_unclaimed, claimed_twice, claimed_before}
+use Rattle.tt_proof_sum.proofs.Owners.{entered_none, entered_more, group_placed, all_unclaimed, claimed_twice, claimed_before, table_after}
 
 -- -- another claim of a stream
 
@@ -64,10 +64,6 @@ to_more : (p : Problem) (s : Stream) (b : ℕ) (ks : List GroupClaim) (mid after
     → group_at (sizes_of p) mid ≡ Ok (Some k, after) → ReadsTo p s b (ks ++ k ∷ []) after
 to_more p s b ks mid after k r e =
     record { headed = r.headed; header = r.header; reads = reads_more (sizes_of p) r.headed ks mid after k r.reads e }
-
-unclaimed_owner : (y : Bool) (q o : ℕ) → o ≡ cond (y && false) q o
-unclaimed_owner true q o = refl
-unclaimed_owner false q o = refl
 
 -- ---- the header
 
@@ -153,31 +149,10 @@ module _ (p : Problem) (is : IsInstance p) (before : Option (List ℕ)) (a : Sta
     abbrev file : GroupsPart
     file = record { bound = r.bound; claims = u.claims }
 
-    table_after : IsTableOf b (parts ++ GroupsFile file ∷ [])
-    table_after =
-        let places = map place (targets_of_claims u.claims) in
-        let number_is : a.proof ≡ 1 + length parts = ap (λ (z : State). z.proof) begins ∙ (let n = of.number in omega (arith, n)) in
-        record {
-          owners = λ k l.
-              u.entered.marks.owners k l ∙ by k l (has_number places k) refl
-              ∙ ap (λ q. cond ((first_claim 1 parts k == 0) && has_number places k) q (first_claim 1 parts k)) number_is
-              ∙ sym (first_claim-push 1 parts (GroupsFile file) k (lit< tt));
-          number = let long = length-append parts (GroupsFile file ∷ []) in let same = u.entered.marks.proof in
-              omega (arith, same, number_is, long);
-          free = u.entered.marks.clash ∙ ap (λ (z : State). z.clash) begins ∙ of.free;
-        }
-      where
-        first_is : (k : ℕ) → k < 32768 → owner a k ≡ first_claim 1 parts k
-        first_is k l = ap (λ (z : State). owner z k) begins ∙ of.owners k l
+    fresh_before : (k : ℕ) → k < 32768 → has_number (map place (targets_of_claims u.claims)) k ≡ true → owner old k ≡ 0
+    fresh_before k l has = sym (ap (λ (z : State). owner z k) begins) ∙ u.entered.fresh k l has
 
-        by : (k : ℕ) → k < 32768 → (z : Bool) → has_number (map place (targets_of_claims u.claims)) k ≡ z
-            → cond z a.proof (owner a k) ≡ cond ((first_claim 1 parts k == 0) && z) a.proof (first_claim 1 parts k)
-        by k l true e =
-            let none : first_claim 1 parts k ≡ 0 = sym (first_is k l) ∙ u.entered.fresh k l e in
-            rw (eq-eqb (first_claim 1 parts k) 0 none) refl
-        by k l false e = first_is k l ∙ unclaimed_owner (first_claim 1 parts k == 0) a.proof (first_claim 1 parts k)
-
-    pub joins : (known : Option (List ℕ)) → Keeps known before → IsOfKind true known → (later : Option (List ℕ)) (after : Reader)
+    pub joins : (known : Option (List ℕ)) → Keeps known before → IsOfKind kind.Groups known → (later : Option (List ℕ)) (after : Reader)
         → (is_some before ≡ true → group_at (sizes_of p) (stream_at r.fed now) ≡ Ok (None, stream_at after.fed later)) → r.bound ≤ sum
         → Joins p known parts b (AtLeast r.bound)
     joins known kept kind later after finish enough = record {
@@ -203,7 +178,7 @@ module _ (p : Problem) (is : IsInstance p) (before : Option (List ℕ)) (a : Sta
       };
       bound = refl;
       apart = passes.free;
-      table = table_after;
+      table = table_after old b parts (GroupsFile file) of marked fresh_before;
     }
 
     -- the stream of the file, for a fault after the claims that were read
@@ -257,8 +232,8 @@ module _ (p : Problem) (is : IsInstance p) (before : Option (List ℕ)) (a : Sta
           )
       tells_claim groups.TooCheap reported = absurd reported
 
-      pub claim_fault : (bytes : List ℕ) → before ≡ Some bytes → is_groups bytes ≡ true → (f : FileFault) → ExplainsClaim p b number k f
-          → ExplainsAdded p parts bytes f
+      pub claim_fault : (bytes : List ℕ) → before ≡ Some bytes → kind_of bytes ≡ kind.Groups → (f : FileFault)
+          → ExplainsClaim p b number k f → ExplainsAdded p parts bytes f
       claim_fault bytes e kind (fault.Groups f) reported =
           record {
             kind = kind;
@@ -266,10 +241,12 @@ module _ (p : Problem) (is : IsInstance p) (before : Option (List ℕ)) (a : Sta
                 (tells_claim f reported);
           }
       claim_fault bytes e kind (fault.Proof f) reported = absurd reported
+      claim_fault bytes e kind (fault.Prices f) reported = absurd reported
       claim_fault bytes e kind (fault.ClaimedElsewhere i o) reported = absurd reported
+      claim_fault bytes e kind (fault.TargetClaimedElsewhere y o) reported = absurd reported
       claim_fault bytes e kind fault.TooLarge reported = absurd reported
 
-    pub cheap_fault : (bytes : List ℕ) → before ≡ Some bytes → is_groups bytes ≡ true → (later : Option (List ℕ)) (after : Reader)
+    pub cheap_fault : (bytes : List ℕ) → before ≡ Some bytes → kind_of bytes ≡ kind.Groups → (later : Option (List ℕ)) (after : Reader)
         → (is_some before ≡ true → group_at (sizes_of p) (stream_at r.fed now) ≡ Ok (None, stream_at after.fed later))
         → sum < r.bound → r.bound < 2 ^ 64 → IsGroupsFault p parts bytes groups.TooCheap
     cheap_fault bytes e kind later after finish below small =
@@ -332,7 +309,7 @@ loud false P h e = h
 
 -- the header fails
 pub header_fault : (p : Problem) (parts : List Part) (bytes : List ℕ) (before now : Option (List ℕ)) → before ≡ Some bytes
-    → is_groups bytes ≡ true → (f : GroupTextFault)
+    → kind_of bytes ≡ kind.Groups → (f : GroupTextFault)
     → (is_some before ≡ true → IsHeaderReadingOf (stream_at fresh before) (Err f) now) → is_environmental f ≡ false
     → ExplainsAdded p parts bytes (fault.Groups (groups.Text f))
 header_fault p parts bytes before now e kind f says calm = record {
@@ -359,7 +336,7 @@ module _ (p : Problem) (is : IsInstance p) (before : Option (List ℕ)) (a : Sta
   pub text_fault : (parts : List Part) (old : State) → IsTableOf old parts → a ≡ begun old
       → (is_some now ≡ true → IsReadingOf r (stream_at r.fed now) (Err t) (stream_at after.fed later)) → (bytes : List ℕ)
       → before ≡ Some bytes
-      → is_groups bytes ≡ true → is_environmental (group_text.Text t) ≡ false
+      → kind_of bytes ≡ kind.Groups → is_environmental (group_text.Text t) ≡ false
       → ExplainsAdded p parts bytes (fault.Groups (groups.Text (group_text.Text t)))
   text_fault parts old of begins says bytes e kind calm =
       let k : is_some before ≡ true = ap is_some e in

@@ -1,5 +1,5 @@
 -- Files that have been added, and another file.
-use Rattle.std.specs.Prelude.{◌≡◌, ℕ, ◌+◌, Bool, true, List, [], ◌∷◌, ◌++◌, Option, Some, All}
+use Rattle.std.specs.Prelude.{◌≡◌, ℕ, ◌+◌, true, List, [], ◌∷◌, ◌++◌, Option, Some, All}
 use Rattle.std.specs.List.{list_all, AllZip}
 use Rattle.tt_instance.specs.Problem.{Problem}
 use Rattle.tt_leaf.specs.declared.leaf.Bound.{Bound}
@@ -7,30 +7,41 @@ use Rattle.tt_proof_check.specs.Derives.{Derives}
 use Rattle.tt_proof_read.specs.Spelling.{SpellsProof}
 use Rattle.tt_proof_sum.specs.declared.summed.Sum.{Sum}
 use Rattle.tt_groups_read.specs.Spelling.{IsClaim, SpellsGroups}
-use Rattle.tt_text_peek.specs.Fronts.{is_groups}
-use Rattle.tt_proof_sum.specs.Sums.{are_apart, AreRight, TreePart, GroupsPart, Part, TreeProof, GroupsFile, bound_of, claims_of, AreApart, sum_of}
+use Rattle.tt_prices_read.specs.Spelling.{SpellsFile}
+use Rattle.tt_text_peek.specs.Fronts.{kind_of}
+use Rattle.tt_text_peek.specs.declared.kind.FileKind.{FileKind}
+use Rattle.tt_text_peek.specs.declared.kind.FileKind.TheVariants as kind
+use Rattle.tt_proof_check.specs.Streams.{sizes_of}
+use Rattle.tt_proof_sum.specs.Sums.{are_apart, AreRight, ArePricesRight, TreePart, GroupsPart, PricesPart, Part, TreeProof, GroupsFile, PricesFile, bound_of, claims_of, AreApart, sum_of}
 use Rattle.tt_proof_sum.specs.Tables.{State, IsTableOf}
 
--- If the bytes are known, they are a file of groups exactly if `kind` is true.
-abbrev pub IsOfKind : Bool → Option (List ℕ) → Type 0
-IsOfKind kind remaining = (bytes : List ℕ) → remaining ≡ Some bytes → is_groups bytes ≡ kind
+-- If the bytes are known, they are a file of this kind.
+abbrev pub IsOfKind : FileKind → Option (List ℕ) → Type 0
+IsOfKind k remaining = (bytes : List ℕ) → remaining ≡ Some bytes → kind_of bytes ≡ k
 
 -- If the bytes are known, they spell the part, and it derives its bound.
 pub record IsTreeOf (p : Problem) (remaining : Option (List ℕ)) (k : TreePart) : Type 0 where
   pub spelled : (bytes : List ℕ) → remaining ≡ Some bytes → SpellsProof p bytes k.version k.bound k.tree
   pub derives : Derives p k.bound [] k.tree
 
--- If the bytes are known, they begin with `CTTG` and spell the part, and its claims are right.
+-- If the bytes are known, they are a file of groups and spell the part, and its claims are right.
 pub record AreGroupsOf (p : Problem) (remaining : Option (List ℕ)) (k : GroupsPart) : Type 0 where
-  pub kind : IsOfKind true remaining
+  pub kind : IsOfKind kind.Groups remaining
   pub spelled : (bytes : List ℕ) → remaining ≡ Some bytes → SpellsGroups p bytes k.bound k.claims
   pub claims : All (IsClaim p) k.claims
   pub right : AreRight p k.bound k.claims
 
--- If the bytes are known, they spell the part, and its tree derives its bound or its claims of groups are right.
+-- If the bytes are known, they are a file of groups with prices and spell the part, and it is right.
+pub record ArePricesOf (p : Problem) (remaining : Option (List ℕ)) (k : PricesPart) : Type 0 where
+  pub kind : IsOfKind kind.Prices remaining
+  pub spelled : (bytes : List ℕ) → remaining ≡ Some bytes → SpellsFile (sizes_of p) bytes k.header k.parts
+  pub right : ArePricesRight p k
+
+-- If the bytes are known, they spell the part, and it is right.
 abbrev pub IsPartOf : Problem → Option (List ℕ) → Part → Type 0
 IsPartOf p remaining (TreeProof k) = IsTreeOf p remaining k
 IsPartOf p remaining (GroupsFile k) = AreGroupsOf p remaining k
+IsPartOf p remaining (PricesFile k) = ArePricesOf p remaining k
 
 -- A part with this bound claims no target that these parts claim, and the table is the one of these parts and that part.
 pub record Joins (p : Problem) (remaining : Option (List ℕ)) (parts : List Part) (a : State) (b : Bound) : Type 0 where

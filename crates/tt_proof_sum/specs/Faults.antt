@@ -1,29 +1,34 @@
 -- The meaning of the refusals of files that are added up.
-use Rattle.std.specs.Prelude.{◌≡◌, ℕ, ◌+◌, ◌-◌, ◌≤◌, ◌^◌, Bool, true, false, ◌&&◌, ◌==◌, if◌then◌else◌, List, ◌∷◌, ◌++◌, length, sum_by, slice_get, IsSomeAnd, ⊤}
+use Rattle.std.specs.Prelude.{◌≡◌, ℕ, ◌+◌, ◌-◌, ◌≤◌, ◌^◌, Bool, true, ◌&&◌, ◌==◌, if◌then◌else◌, List, [], ◌∷◌, ◌++◌, length, sum_by, slice_get, IsSomeAnd, ⊤, ◌⊎◌}
 use Rattle.std.specs.List.{list_all, AllZip}
 use Rattle.tt_stop.specs.Stops as stops
 use Rattle.tt_stop.specs.Stops.{mapped}
 use Rattle.tt_stop.specs.declared.stop.Stop.{Stop}
 use Rattle.tt_stop.specs.declared.stop.Stop.TheVariants.{Fault, ReadFailed, OutOfMemory}
 use Rattle.tt_instance.specs.Problem.{Problem}
-use Rattle.tt_leaf_rules.specs.Claims.{Target}
+use Rattle.tt_leaf_rules.specs.Claims.{Target, RoomCapacity, WorkingDays, Compactness, Stability}
 use Rattle.tt_leaf.specs.declared.leaf.Bound.{Bound}
 use Rattle.tt_leaf.specs.declared.leaf.Bound.TheVariants.{AtLeast, Nothing}
 use Rattle.tt_proof_read.specs.Trees.{preorder}
 use Rattle.tt_proof_read.specs.declared.node.Node.{Node}
 use Rattle.tt_groups_read.specs.Faults.{is_environmental, is_failed_read}
 use Rattle.tt_groups_read.specs.declared.fault.GroupTextFault.{GroupTextFault}
-use Rattle.tt_text_peek.specs.Fronts.{is_groups}
+use Rattle.tt_text_peek.specs.Fronts.{kind_of}
+use Rattle.tt_text_peek.specs.declared.kind.FileKind.TheVariants as kind
+use Rattle.tt_prices_file.specs.Faults as prices
+use Rattle.tt_prices_file.specs.declared.fault.PricesFault.{PricesFault}
 use Rattle.tt_proof_check.specs.Faults as checks
 use Rattle.tt_proof_check.specs.Streams.{IsProofFault, stream_of}
 use Rattle.tt_proof_check.specs.declared.fault.CheckFault.{CheckFault}
 use Rattle.tt_proof_sum.specs.declared.fault.FileFault.{FileFault}
-use Rattle.tt_proof_sum.specs.declared.fault.FileFault.TheVariants.{Proof, Groups, ClaimedElsewhere, TooLarge}
+use Rattle.tt_proof_sum.specs.declared.fault.FileFault.TheVariants.{Proof, Groups, Prices, ClaimedElsewhere, TargetClaimedElsewhere, TooLarge}
+use Rattle.tt_proof_sum.specs.declared.claimed.ClaimedTarget.{ClaimedTarget}
+use Rattle.tt_proof_sum.specs.declared.claimed.ClaimedTarget.TheVariants as target
 use Rattle.tt_proof_sum.specs.declared.fault.SumStop.{SumStop}
 use Rattle.tt_proof_sum.specs.declared.groups_fault.GroupsFault.{GroupsFault}
 use Rattle.tt_proof_sum.specs.declared.groups_fault.GroupsFault.TheVariants as groups
-use Rattle.tt_proof_sum.specs.GroupsFaults.{IsOfFile, IsLeftOpen, ExplainsGroups}
-use Rattle.tt_proof_sum.specs.Sums.{is_among, are_apart, TreePart, Part, IsTreePart, IsPart, bound_of, claims_of, AreApart}
+use Rattle.tt_proof_sum.specs.GroupsFaults.{IsOfFile, IsLeftOpen, ExplainsGroups, FirstClaimed, IsClaimedBy}
+use Rattle.tt_proof_sum.specs.Sums.{is_among, are_apart, TreePart, PricesPart, Part, IsTreePart, IsPricesPart, IsPart, prices_targets, bound_of, claims_of, AreApart}
 use Rattle.tt_proof_sum.specs.Tables.{claims_at}
 
 -- -- another file, after those of these parts
@@ -57,21 +62,41 @@ all_points parts = sum_by (λ k. points (bound_of k)) parts
 abbrev pub IsTooLarge : Problem → List Part → List ℕ → Type 0
 IsTooLarge p parts bytes = (part : Part) × IsPart p bytes part × (2 ^ 64 ≤ all_points parts + points (bound_of part))
 
--- The text isn't a file of groups; as a proof it has this fault.
+-- The text is a tree proof, and has this fault.
 pub record IsTreeFault (p : Problem) (bytes : List ℕ) (f : CheckFault) : Type 0 where
-  pub kind : is_groups bytes ≡ false
+  pub kind : kind_of bytes ≡ kind.Tree
   pub fault : IsProofFault p (stream_of bytes) f
 
 -- The text is a file of groups, and has this fault.
 pub record IsGroupsFault (p : Problem) (parts : List Part) (bytes : List ℕ) (f : GroupsFault) : Type 0 where
-  pub kind : is_groups bytes ≡ true
+  pub kind : kind_of bytes ≡ kind.Groups
   pub fault : ExplainsGroups p parts (stream_of bytes) f
+
+-- The text is a file of groups with prices, and has this fault.
+pub record IsPricesFault (p : Problem) (bytes : List ℕ) (f : PricesFault) : Type 0 where
+  pub kind : kind_of bytes ≡ kind.Prices
+  pub fault : prices.ExplainsPrices p (stream_of bytes) f
+
+-- What a fault calls a target of groups with prices.
+abbrev pub IsCalled : Target → ClaimedTarget → Type 0
+IsCalled y (target.Curriculum q) = y ≡ Compactness q
+IsCalled y (target.Course c) = y ≡ WorkingDays c
+IsCalled y target.Rooms = (c : ℕ) × ((y ≡ RoomCapacity c) ⊎ (y ≡ Stability c))
+
+-- The file spells groups with prices that are right, and the first of its targets that one of the parts claims is called so; the part at e,
+-- counted from 1, claims it.
+pub record IsTargetClaimedElsewhere (p : Problem) (parts : List Part) (bytes : List ℕ) (name : ClaimedTarget) (e : ℕ) : Type 0 where
+  pub part : PricesPart
+  pub is : IsPricesPart p bytes part
+  pub first : FirstClaimed parts [] (prices_targets part) (λ y. IsCalled y name × IsClaimedBy parts e y)
 
 -- The meaning of a fault of another file.
 abbrev pub ExplainsAdded : Problem → List Part → List ℕ → FileFault → Type 0
 ExplainsAdded p parts bytes (Proof f) = IsTreeFault p bytes f
 ExplainsAdded p parts bytes (Groups f) = IsGroupsFault p parts bytes f
+ExplainsAdded p parts bytes (Prices f) = IsPricesFault p bytes f
 ExplainsAdded p parts bytes (ClaimedElsewhere i e) = IsClaimedElsewhere p parts bytes i e
+ExplainsAdded p parts bytes (TargetClaimedElsewhere name e) = IsTargetClaimedElsewhere p parts bytes name e
 ExplainsAdded p parts bytes TooLarge = IsTooLarge p parts bytes
 
 -- ---- a list of files
@@ -100,6 +125,10 @@ IsSumStop p files n OutOfMemory = ⊤
 abbrev pub stop_from_check : Stop CheckFault → Stop FileFault
 stop_from_check stop = mapped Proof stop
 
+-- Why adding a file is stopped after the check of its groups with prices was.
+abbrev pub stop_from_prices : Stop PricesFault → Stop FileFault
+stop_from_prices stop = mapped Prices stop
+
 -- Why adding a file of groups is stopped by a fault of the reader of such files.
 abbrev pub stop_from_text : GroupTextFault → Stop FileFault
 stop_from_text f = if is_failed_read f then ReadFailed else (if is_environmental f then OutOfMemory else Fault (Groups (groups.Text f)))
@@ -116,10 +145,13 @@ is_failed_read_at n e = (e.file == n) && stops.is_failed_read e.stop
 abbrev pub HoldsNoStop : FileFault → Type 0
 HoldsNoStop (Proof f) = checks.HoldsNoStop f
 HoldsNoStop (Groups f) = IsOfFile f
+HoldsNoStop (Prices f) = prices.HoldsNoStop f
 HoldsNoStop (ClaimedElsewhere i e) = ⊤
+HoldsNoStop (TargetClaimedElsewhere name e) = ⊤
 HoldsNoStop TooLarge = ⊤
 
--- The check of a group's claim wasn't finished, so it may be right.
+-- The check of a group wasn't finished, so the file may be right.
 abbrev pub IsUnfinished : FileFault → Type 0
 IsUnfinished (Groups f) = IsLeftOpen f
+IsUnfinished (Prices f) = prices.IsLeftOpen f
 IsUnfinished _ = ⊥

@@ -1,7 +1,7 @@
--- The targets that the Cost leaves of trees and the groups of files claim, and files whose bounds add up.
-use Rattle.std.specs.Prelude.{◌≡◌, ℕ, ◌+◌, ◌≤◌, Bool, true, not, List, [], ◌∷◌, ◌++◌, map, flat_map, sum_by, All}
+-- The targets that the Cost leaves of trees, the groups of files and the groups with prices claim, and files whose bounds add up.
+use Rattle.std.specs.Prelude.{◌≡◌, ℕ, ◌+◌, ◌≤◌, Bool, true, not, List, [], ◌∷◌, ◌++◌, length, map, flat_map, sum_by, All, if◌then◌else◌}
 use Rattle.std.specs.List.{list_any, list_all, AllZip}
-use Rattle.tt_list_laws.specs.Words.{each_two}
+use Rattle.tt_list_laws.specs.Words.{each_two, range_below}
 use Rattle.tt_instance.specs.Problem.{Problem}
 use Rattle.tt_instance.specs.Cells.{all_courses, all_curricula}
 use Rattle.tt_instance.specs.declared.cell.Cell.{Cell}
@@ -21,7 +21,16 @@ use Rattle.tt_proof_check.specs.Derives.{Derives}
 use Rattle.tt_groups.specs.Group.{Group, IsGroupBound}
 use Rattle.tt_groups_read.specs.Spelling.{IsClaim, SpellsGroups}
 use Rattle.tt_groups_read.specs.declared.claim.GroupClaim.{GroupClaim}
-use Rattle.tt_text_peek.specs.Fronts.{is_groups}
+use Rattle.tt_prices_read.specs.Readers.{IsHeader}
+use Rattle.tt_prices_read.specs.Reading as text
+use Rattle.tt_prices_read.specs.Spelling as prices
+use Rattle.tt_prices_read.specs.Spelling.{SpellsFile}
+use Rattle.tt_prices_read.specs.declared.header.Header.{Header}
+use Rattle.tt_prices_file.specs.Files.{curricula_in, courses_in, IsRight}
+use Rattle.tt_prices_file.specs.declared.claim.PricesClaim.{PricesClaim}
+use Rattle.tt_proof_check.specs.Streams.{sizes_of}
+use Rattle.tt_text_peek.specs.Fronts.{kind_of}
+use Rattle.tt_text_peek.specs.declared.kind.FileKind.TheVariants as kind
 
 -- ---- targets
 
@@ -99,41 +108,82 @@ pub record GroupsPart : Type 0 where
   pub bound : ℕ
   pub claims : List GroupClaim
 
+-- The contents of a file of groups with prices, and the number of the instance's courses.
+pub record PricesPart : Type 0 where
+  pub header : Header
+  pub parts : List text.Part
+  pub courses : ℕ
+
+-- The targets of all rooms: the capacity and the stability of each of so many courses.
+abbrev pub room_targets : ℕ → List Target
+room_targets n = map RoomCapacity (range_below n) ++ map Stability (range_below n)
+
+-- The compactness of curricula, the working days of courses, and if the rooms are claimed, the targets of all rooms of n courses.
+abbrev pub targets_with : List ℕ → List ℕ → Bool → ℕ → List Target
+targets_with curricula courses has_rooms n =
+    map Compactness curricula ++ (map WorkingDays courses ++ (if has_rooms then room_targets n else []))
+
+-- The targets of groups with prices.
+abbrev pub prices_targets : PricesPart → List Target
+prices_targets k = targets_with (curricula_in k.parts) (courses_in k.parts) k.header.has_rooms k.courses
+
+-- The targets of a claim of groups with prices, of an instance with n courses.
+abbrev pub targets_of_claim : ℕ → PricesClaim → List Target
+targets_of_claim n k = targets_with k.curricula.items k.courses.items k.has_rooms n
+
 -- The contents of a file.
 pub data Part : Type 0 where
   TreeProof : TreePart → Part
   GroupsFile : GroupsPart → Part
+  PricesFile : PricesPart → Part
 
 -- The bytes spell a tree that derives its bound.
 pub record IsTreePart (p : Problem) (bytes : List ℕ) (k : TreePart) : Type 0 where
   pub spelled : SpellsProof p bytes k.version k.bound k.tree
   pub derives : Derives p k.bound [] k.tree
 
--- The bytes, which begin with `CTTG`, spell claims that are right.
+-- The bytes, which are a file of groups, spell claims that are right.
 pub record IsGroupsPart (p : Problem) (bytes : List ℕ) (k : GroupsPart) : Type 0 where
-  pub kind : is_groups bytes ≡ true
+  pub kind : kind_of bytes ≡ kind.Groups
   pub spelled : SpellsGroups p bytes k.bound k.claims
   pub right : AreRight p k.bound k.claims
+
+-- The header, the groups and the rents are within their limits, and the file is right.
+pub record ArePricesRight (p : Problem) (k : PricesPart) : Type 0 where
+  pub courses : k.courses ≡ length p.courses
+  pub header : IsHeader k.header
+  pub each : All (prices.IsPart (sizes_of p) k.header.has_rooms) k.parts
+  pub right : IsRight p k.header k.parts
+
+-- The bytes, which are a file of groups with prices, spell groups and rents that are right.
+pub record IsPricesPart (p : Problem) (bytes : List ℕ) (k : PricesPart) : Type 0 where
+  pub kind : kind_of bytes ≡ kind.Prices
+  pub spelled : SpellsFile (sizes_of p) bytes k.header k.parts
+  pub right : ArePricesRight p k
 
 -- The bytes spell the part, and it is right.
 abbrev pub IsPart : Problem → List ℕ → Part → Type 0
 IsPart p bytes (TreeProof k) = IsTreePart p bytes k
 IsPart p bytes (GroupsFile k) = IsGroupsPart p bytes k
+IsPart p bytes (PricesFile k) = IsPricesPart p bytes k
 
--- The part is right on a path: a tree that derives its bound there, or claims that are right on each path.
+-- The part is right on a path: a tree that derives its bound there, or claims or prices that are right on each path.
 abbrev pub ShowsOn : Problem → List Fact → Part → Type 0
 ShowsOn p path (TreeProof k) = Derives p k.bound path k.tree
 ShowsOn p path (GroupsFile k) = All (IsClaim p) k.claims × AreRight p k.bound k.claims
+ShowsOn p path (PricesFile k) = ArePricesRight p k
 
 -- The bound that a file gives.
 abbrev pub bound_of : Part → Bound
 bound_of (TreeProof k) = k.bound
 bound_of (GroupsFile k) = AtLeast k.bound
+bound_of (PricesFile k) = AtLeast k.header.bound
 
 -- The targets that a tree's leaves or the groups of a file claim.
 abbrev pub claims_of : Part → List Target
 claims_of (TreeProof k) = claimed_by k.tree
 claims_of (GroupsFile k) = targets_of_claims k.claims
+claims_of (PricesFile k) = prices_targets k
 
 -- No target is claimed by two of the files.
 abbrev pub AreApart : List Part → Type 0
@@ -149,8 +199,8 @@ abbrev pub sum_of : List Part → Bound
 sum_of [] = AtLeast 0
 sum_of (k ∷ ks) = both_bounds (bound_of k) (sum_of ks)
 
--- Each of the files spells a tree that derives its bound, or claims about groups that are right; no target is claimed by two of them, and s is
--- the sum of the bounds.
+-- Each of the files spells a tree that derives its bound, or groups that are right, with prices or without; no target is claimed by two of
+-- them, and s is the sum of the bounds.
 pub record IsSum (p : Problem) (files : List (List ℕ)) (s : Bound) : Type 0 where
   pub parts : List Part
   pub each : AllZip (IsPart p) files parts

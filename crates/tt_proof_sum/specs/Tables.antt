@@ -9,7 +9,8 @@ use Rattle.tt_proof_read.specs.declared.node.Node.TheVariants.{Split, Leaf}
 use Rattle.tt_proof_sum.specs.declared.table.Clash.{Clash}
 use Rattle.tt_proof_sum.specs.declared.table.TheConstants.{PLACES}
 use Rattle.tt_groups.specs.Group.{Group}
-use Rattle.tt_proof_sum.specs.Sums.{claimed_in, group_targets, Part, claims_of}
+use Rattle.tt_prices_file.specs.declared.claim.PricesClaim.{PricesClaim}
+use Rattle.tt_proof_sum.specs.Sums.{claimed_in, group_targets, targets_of_claim, Part, claims_of}
 
 -- For each place of a target, the number of the file that claimed it first, 0 for none; the number of the newest file, counted from 1,
 -- and 0 before the first; and the first claim of a node of that file whose target another file had claimed.
@@ -58,6 +59,10 @@ places_in node = map place (claims_at node)
 -- The places of a group's targets: those of its curricula, and then those of its courses.
 abbrev pub group_places : Group → List ℕ
 group_places g = map place (group_targets g)
+
+-- The places of the targets of groups with prices, of an instance with n courses.
+abbrev pub claim_places : ℕ → PricesClaim → List ℕ
+claim_places n k = map place (targets_of_claim n k)
 
 -- The owner of the first of these places that has an owner.
 abbrev pub first_owner : State → List ℕ → Option ℕ

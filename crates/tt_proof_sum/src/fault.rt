@@ -2,13 +2,15 @@
 
 ghost use Rattle.std.specs.Prelude.{◌≡◌, false};
 ghost use Rattle.tt_groups_read.specs.Faults.{is_failed_read, is_environmental};
-ghost use Rattle.tt_proof_sum.specs.Faults.{stop_from_check, stop_from_text};
+ghost use Rattle.tt_proof_sum.specs.Faults.{stop_from_check, stop_from_prices, stop_from_text};
 
+use crate::claimed::ClaimedTarget;
 use crate::groups_fault::GroupsFault;
 use std::alloc::AllocError;
 use std::error::Error;
 use std::fmt;
 use tt_groups_read::GroupTextFault;
+use tt_prices_file::PricesFault;
 use tt_proof_check::CheckFault;
 use tt_proof_read::TextFault;
 use tt_stop::Stop;
@@ -21,8 +23,12 @@ pub enum FileFault {
     Proof(CheckFault),
     /// The file of groups has this fault.
     Groups(GroupsFault),
+    /// The file of groups with prices has this fault.
+    Prices(PricesFault),
     /// This node of the proof is its first that claims a target which an earlier file claims.
     ClaimedElsewhere { node: u32, earlier: u64 },
+    /// This target of the groups with prices is their first that an earlier file claims.
+    TargetClaimedElsewhere { target: ClaimedTarget, earlier: u64 },
     /// With this file the bounds add up to 2^64 or more.
     TooLarge,
 }
@@ -32,8 +38,12 @@ impl fmt::Display for FileFault {
         match self {
             FileFault::Proof(fault) => write!(f, "{fault}"),
             FileFault::Groups(fault) => write!(f, "{fault}"),
+            FileFault::Prices(fault) => write!(f, "{fault}"),
             FileFault::ClaimedElsewhere { node, earlier } => {
                 write!(f, "ClaimedElsewhere at node {node}, by proof {earlier}")
+            }
+            FileFault::TargetClaimedElsewhere { target, earlier } => {
+                write!(f, "ClaimedElsewhere at {target}, by proof {earlier}")
             }
             FileFault::TooLarge => write!(f, "TooLarge"),
         }
@@ -69,6 +79,17 @@ pub fn stop_from_check(stop: Stop<CheckFault>) -> Stop<FileFault>
 {
     match stop {
         Stop::Fault(fault) => Stop::Fault(FileFault::Proof(fault)),
+        Stop::ReadFailed => Stop::ReadFailed,
+        Stop::OutOfMemory => Stop::OutOfMemory,
+    }
+}
+
+/// Returns why adding a file is stopped after the check of its groups with prices was.
+pub fn stop_from_prices(stop: Stop<PricesFault>) -> Stop<FileFault>
+    ensures { result ≡ stop_from_prices stop }
+{
+    match stop {
+        Stop::Fault(fault) => Stop::Fault(FileFault::Prices(fault)),
         Stop::ReadFailed => Stop::ReadFailed,
         Stop::OutOfMemory => Stop::OutOfMemory,
     }

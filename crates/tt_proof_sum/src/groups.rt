@@ -6,7 +6,8 @@ ghost use Rattle.std.specs.declared.option.Option.{Option};
 ghost use Rattle.tt_groups.specs.Group.{IsGroupBound};
 ghost use Rattle.tt_groups_check.specs.Limits.{IsGroupOf};
 ghost use Rattle.tt_leaf.specs.declared.leaf.Bound.TheVariants.{AtLeast};
-ghost use Rattle.tt_text_peek.specs.Fronts.{is_groups};
+ghost use Rattle.tt_text_peek.specs.Fronts.{kind_of};
+ghost use Rattle.tt_text_peek.specs.declared.kind.FileKind.TheVariants as kind;
 ghost use Rattle.tt_proof_check.specs.FailedReads.{HoldsOfGiven};
 ghost use Rattle.tt_proof_sum.specs.Added.{Joins, IsOfKind};
 ghost use Rattle.tt_proof_sum.specs.Inner.Claiming.{ExplainsClaim};
@@ -95,10 +96,10 @@ pub fn take_groups<R: Source>(
 ) -> Result<Bound, Stop<FileFault>>
     requires { 0 < table.old.proof }
     ensures joins { IfOk result (λ b. (before : State) (parts : List Part) (known : Option (List ℕ)) → IsTableOf before parts → table.old ≡ begun before →
-        Keeps known (R.remaining source.old) → IsOfKind true known → Joins instance.now known parts table.new b) }
+        Keeps known (R.remaining source.old) → IsOfKind kind.Groups known → Joins instance.now known parts table.new b) }
     ensures proof { OnOk result (table.new.proof ≡ table.old.proof) }
     ensures fault { IfFault result (λ f. (before : State) (parts : List Part) (bytes : List ℕ) → IsTableOf before parts → table.old ≡ begun before →
-        R.remaining source.old ≡ Some bytes → is_groups bytes ≡ true → ExplainsAdded instance.now parts bytes f) }
+        R.remaining source.old ≡ Some bytes → kind_of bytes ≡ kind.Groups → ExplainsAdded instance.now parts bytes f) }
     ensures lower { IfFault result HoldsNoStop }
     ensures failed { R.has_failed source.new ≡ (if is_read_failed result then true else R.has_failed source.old) }
     ensures up_to_failed_read { result ≡ Err Stop.ReadFailed → (bytes : List ℕ) → R.remaining source.old ≡ Some bytes →

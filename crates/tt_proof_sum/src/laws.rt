@@ -33,7 +33,7 @@ pub fn bounds_hold_over_all()
     ensures holds { (p : Problem) (b : Bound) (path : List Fact) (tree : Tree) → Derives p b path tree → HoldsOver p b path (every_target p) }
 {}
 
-/// Bounds of trees and of groups that claim distinct targets add up.
+/// Bounds of trees, of groups and of groups with prices that claim distinct targets add up.
 pub fn apart_bounds_add()
     ensures { (p : Problem) (path : List Fact) (parts : List Part) →
         All (ShowsOn p path) parts → AreApart parts → HoldsOn p (sum_of parts) path }

@@ -1,15 +1,18 @@
-//! Tree proofs and claims about groups whose bounds add up.
+//! Tree proofs, claims about groups, and groups with prices whose bounds add up.
 #![tactic(auto)]
 
+mod claimed;
 mod fault;
 mod groups;
 mod groups_fault;
 mod laws;
 mod one_more;
+mod prices;
 mod several;
 mod summed;
 mod table;
 
+pub use claimed::ClaimedTarget;
 pub use fault::{FileFault, SumStop};
 pub use groups_fault::GroupsFault;
 pub use laws::{

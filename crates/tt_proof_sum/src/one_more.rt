@@ -1,7 +1,8 @@
 //! Adding a file, whose claims are added to the table of owners.
 
 ghost use Rattle.std.specs.Prelude.{◌≡◌, ◌+◌, ◌<◌, ℕ, List, Some, Err, true, false, if◌then◌else◌, IfOk, OnOk};
-ghost use Rattle.tt_text_peek.specs.Fronts.{is_groups};
+ghost use Rattle.tt_text_peek.specs.Fronts.{kind_of};
+ghost use Rattle.tt_text_peek.specs.declared.kind.FileKind.TheVariants as kind;
 ghost use Rattle.tt_stop.specs.Stops.{IfFault, is_read_failed};
 ghost use Rattle.tt_proof_check.specs.FailedReads.{IsCheckedUpToFailedRead};
 ghost use Rattle.tt_proof_sum.specs.Added.{Joins};
@@ -12,6 +13,7 @@ ghost use Rattle.tt_proof_sum.specs.UpToFailedRead.{IsFileCheckedUpToFailedRead}
 
 use crate::fault::{FileFault, stop_from_check};
 use crate::groups::take_groups;
+use crate::prices::take_prices;
 use crate::table::Table;
 use std::alloc::Global;
 use tt_instance::Instance;
@@ -19,7 +21,7 @@ use tt_leaf::Bound;
 use tt_proof_check::check_proof_with;
 use tt_stop::Stop;
 use tt_text::Source;
-use tt_text_peek::{Peek, PeekFault};
+use tt_text_peek::{FileKind, Peek, PeekFault};
 
 /// Checks a tree proof, as the file that has begun, and returns its bound if it claims no target that an earlier file claims.
 fn take_proof<R: Source>(
@@ -33,7 +35,7 @@ fn take_proof<R: Source>(
         Joins instance.now (R.remaining source.old) parts table.new b) }
     ensures proof { OnOk result (table.new.proof ≡ table.old.proof) }
     ensures fault { IfFault result (λ f. (before : State) (parts : List Part) (bytes : List ℕ) → IsTableOf before parts → table.old ≡ begun before →
-        R.remaining source.old ≡ Some bytes → is_groups bytes ≡ false → ExplainsAdded instance.now parts bytes f) }
+        R.remaining source.old ≡ Some bytes → kind_of bytes ≡ kind.Tree → ExplainsAdded instance.now parts bytes f) }
     ensures lower { IfFault result HoldsNoStop }
     ensures failed { R.has_failed source.new ≡ (if is_read_failed result then true else R.has_failed source.old) }
     ensures up_to_failed_read { result ≡ Err Stop.ReadFailed → (bytes : List ℕ) → R.remaining source.old ≡ Some bytes →
@@ -72,9 +74,10 @@ pub fn take_file<R: Peek>(
         IsFileCheckedUpToFailedRead instance.now bytes (R.remaining source.new) }
 {
     table.begin();
-    match source.peek_groups() {
-        Ok(true) => take_groups(alloc, instance, table, source),
-        Ok(false) => take_proof(alloc, instance, table, source),
+    match source.peek_kind() {
+        Ok(FileKind::Tree) => take_proof(alloc, instance, table, source),
+        Ok(FileKind::Groups) => take_groups(alloc, instance, table, source),
+        Ok(FileKind::Prices) => take_prices(alloc, instance, table, source),
         Err(PeekFault::Read) => Err(Stop::ReadFailed),
         Err(PeekFault::OutOfMemory) => Err(Stop::OutOfMemory),
     }

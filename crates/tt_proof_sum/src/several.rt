@@ -17,8 +17,8 @@ use tt_instance::Instance;
 use tt_leaf::Bound;
 use tt_text_peek::Peek;
 
-/// Returns the sum of the bounds of files that claim distinct targets, tree proofs and files of groups; `Nothing` if one of them says that
-/// no timetable exists, and 0 if there is no file. The files are read in turn.
+/// Returns the sum of the bounds of files that claim distinct targets: tree proofs, files of groups, and files of groups with prices. The sum is
+/// `Nothing` if one of them says that no timetable exists, and 0 if there is no file. The files are read in turn.
 pub fn sum_proofs<R: Peek>(
     alloc: Global,
     instance: &Instance<'_>,

@@ -1,15 +1,20 @@
 //! The files that claimed each target.
 
-ghost use Rattle.std.specs.Prelude.{◌≡◌, ℕ, ◌+◌, ◌*◌, ◌<◌, ◌∷◌, [], map, flat_map, Some, IfOk};
+ghost use Rattle.std.specs.Prelude.{◌≡◌, ℕ, ◌+◌, ◌*◌, ◌<◌, ◌∷◌, [], map, flat_map, Some, None, IfOk, IfSome, IfNone};
+ghost use Rattle.tt_list_laws.specs.Words.{range_below};
 ghost use Rattle.std.specs.Option.{option_or};
 ghost use Rattle.tt_leaf_rules.specs.Inner.NumberSet.{place, places_of};
 ghost use Rattle.tt_proof_sum.specs.Sums.{claimed_in};
-ghost use Rattle.tt_proof_sum.specs.Tables.{Claims, at_node, IsTableOf, owner, first_owner, Marks, group_places};
+ghost use Rattle.tt_proof_sum.specs.Tables.{Claims, at_node, IsTableOf, owner, first_owner, Marks, group_places, claim_places};
+ghost use Rattle.tt_proof_sum.specs.Inner.Owned.{FirstOwned, FirstTarget};
+ghost use Rattle.tt_proof_sum.specs.Sums.{targets_of_claim};
 
+use crate::claimed::{ClaimedTarget, Owned};
 use std::alloc::{AllocError, Global};
 use std::marker::Model;
 use tt_groups::Group;
 use tt_leaf::{Claim, Leaf};
+use tt_prices_file::PricesClaim;
 use tt_proof_check::NodeVisitor;
 use tt_proof_read::Node;
 
@@ -19,14 +24,27 @@ pub const PLACES: usize = 32_768;
 /// The place of the working days of course 0.
 const WORKING_DAYS: usize = 1;
 
+/// The place of the room capacity of course 0.
+const CAPACITY: usize = 0;
+
 /// The place of the compactness of curriculum 0.
 const COMPACTNESS: usize = 2;
+
+/// The place of the room stability of course 0.
+const STABILITY: usize = 3;
 
 /// A node that claims a target which an earlier file claims, and the number of that file, counted from 1.
 #[derive(Clone, Copy, Debug, PartialEq, Eq)]
 pub struct Clash {
     pub node: u32,
     pub earlier: u64,
+}
+
+/// A curriculum or a course, and the number of the file that owns its target.
+#[derive(Clone, Copy, Debug, PartialEq, Eq)]
+struct Numbered {
+    number: u32,
+    owner: u64,
 }
 
 /// For each target, the number of the file that claimed it first, counted from 1, and 0 for none.
@@ -127,7 +145,7 @@ impl Table {
             Claim::Compact(curriculum) => {
                 self.claim(node, 4 * *curriculum as usize + COMPACTNESS)
             }
-            Claim::Stable(course) => self.claim(node, 4 * *course as usize + 3),
+            Claim::Stable(course) => self.claim(node, 4 * *course as usize + STABILITY),
             Claim::Prices { courses, .. } => self.claim_capacities(node, courses.as_slice()),
         }
     }
@@ -183,6 +201,66 @@ impl Table {
         }
     }
 
+    /// Returns the first of these curricula or courses whose target has an owner, with that owner.
+    fn first_owned(&self, numbers: &[u32], kind: usize) -> Option<Numbered>
+        requires { kind < 4 }
+        ensures none { IfNone result (first_owner self.now (map (λ n. 4 * n + kind) numbers.now) ≡ None) }
+        ensures some { IfSome result (λ x. FirstOwned self.now kind numbers.now x.number x.owner) }
+    {
+        for number in numbers {
+            let owner = self.owner(4 * *number as usize + kind);
+            if owner != 0 {
+                return Some(Numbered {
+                    number: *number,
+                    owner,
+                });
+            }
+        }
+        None
+    }
+
+    /// Returns the first owner of a target of a room, of so many courses.
+    fn first_owner_of_rooms(&self, courses: u32, kind: usize) -> Option<u64>
+        requires { kind < 4 }
+        ensures { result ≡ first_owner self.now (map (λ n. 4 * n + kind) (range_below courses)) }
+    {
+        for course in 0..courses {
+            let owner = self.owner(4 * course as usize + kind);
+            if owner != 0 {
+                return Some(owner);
+            }
+        }
+        None
+    }
+
+    /// Returns the first target of groups with prices that has an owner: first of their curricula, then of their courses, and then of all rooms.
+    pub fn owner_of_claim(&self, courses: u32, claim: &PricesClaim) -> Option<Owned>
+        ensures none { IfNone result (first_owner self.now (claim_places courses claim.now) ≡ None) }
+        ensures some { IfSome result (λ x. FirstTarget self.now (targets_of_claim courses claim.now) x.target x.owner) }
+    {
+        if let Some(found) = self.first_owned(&claim.curricula, COMPACTNESS) {
+            return Some(Owned {
+                target: ClaimedTarget::Curriculum(found.number),
+                owner: found.owner,
+            });
+        }
+        if let Some(found) = self.first_owned(&claim.courses, WORKING_DAYS) {
+            return Some(Owned {
+                target: ClaimedTarget::Course(found.number),
+                owner: found.owner,
+            });
+        }
+        if !claim.has_rooms {
+            return None;
+        }
+        let capacity = self.first_owner_of_rooms(courses, CAPACITY);
+        let owner = capacity.or(self.first_owner_of_rooms(courses, STABILITY))?;
+        Some(Owned {
+            target: ClaimedTarget::Rooms,
+            owner,
+        })
+    }
+
     fn mark(&mut self, place: usize)
         ensures { Marks self.old (place ∷ []) self.new }
     {
@@ -206,6 +284,28 @@ impl Table {
     {
         self.mark_each(group.curricula(), COMPACTNESS);
         self.mark_each(group.courses(), WORKING_DAYS);
+    }
+
+    /// Claims a target of the rooms of so many courses for the newest file.
+    fn mark_rooms(&mut self, courses: u32, kind: usize)
+        requires { kind < 4 }
+        ensures { Marks self.old (map (λ n. 4 * n + kind) (range_below courses)) self.new }
+    {
+        for course in 0..courses {
+            self.mark(4 * course as usize + kind);
+        }
+    }
+
+    /// Claims the targets of groups with prices for the newest file.
+    pub fn mark_claim(&mut self, courses: u32, claim: &PricesClaim)
+        ensures { Marks self.old (claim_places courses claim.now) self.new }
+    {
+        self.mark_each(&claim.curricula, COMPACTNESS);
+        self.mark_each(&claim.courses, WORKING_DAYS);
+        if claim.has_rooms {
+            self.mark_rooms(courses, CAPACITY);
+            self.mark_rooms(courses, STABILITY);
+        }
     }
 }
 

@@ -1,28 +1,49 @@
--- Texts with the first token `CTTG`, and others.
-use Rattle.std.proofs.Common.{◌≡◌, true, false, [], ◌∷◌, refl, codes}
-use Rattle.tt_text_peek.specs.Fronts.{has_groups_word, is_groups, is_settled}
+-- Texts of each kind, and bytes that settle a kind or leave it open.
+use Rattle.std.proofs.Common.{◌≡◌, true, false, [], ◌∷◌, ◌++◌, refl, codes}
+use Rattle.tt_text_peek.specs.Fronts.{kind_of, has_groups_word, has_prices_version}
+use Rattle.tt_text_peek.specs.Inner.Settled.{is_settled}
+use Rattle.tt_text_peek.specs.declared.kind.FileKind.TheVariants.{Tree, Groups, Prices}
 
-groups : is_groups (codes "CTTG 1 bound 4 end") ≡ true
+groups : kind_of (codes "CTTG 1 bound 4 end") ≡ Groups
 groups = refl
 
-after_separators : is_groups (10 ∷ 32 ∷ codes "CTTG") ≡ true
+prices : kind_of (codes "CTTG 2 bound 4 scale 10 rooms end") ≡ Prices
+prices = refl
+
+after_separators : kind_of (10 ∷ 32 ∷ codes "CTTG" ++ 10 ∷ 9 ∷ codes "2" ++ 10 ∷ []) ≡ Prices
 after_separators = refl
 
-a_proof : is_groups (codes "CTTP 2 bound 4") ≡ false
+a_proof : kind_of (codes "CTTP 2 bound 4") ≡ Tree
 a_proof = refl
 
-another_word : is_groups (codes "CTTGG 1") ≡ false
+another_word : kind_of (codes "CTTGG 2") ≡ Tree
 another_word = refl
 
-nothing : is_groups [] ≡ false
+another_version : kind_of (codes "CTTG 22 bound") ≡ Groups
+another_version = refl
+
+no_version : kind_of (codes "CTTG ") ≡ Groups
+no_version = refl
+
+nothing : kind_of [] ≡ Tree
 nothing = refl
 
 -- a token at the end of the bytes read may still go on
 may_go_on : is_settled (codes "CTTG") ≡ false
 may_go_on = refl
 
-ends : is_settled (codes "CTTG ") ≡ true
-ends = refl
+version_may_go_on : is_settled (codes "CTTG 2") ≡ false
+version_may_go_on = refl
+
+version_ends : is_settled (codes "CTTG 2 ") ≡ true
+version_ends = refl
+
+-- after another word than `CTTG` no second token is looked for
+proof_ends : is_settled (codes "CTTP ") ≡ true
+proof_ends = refl
 
 begins : has_groups_word (codes " CTTG") ≡ true
 begins = refl
+
+second : has_prices_version (codes " CTTG 2") ≡ true
+second = refl

@@ -1,48 +1,81 @@
 //! The first bytes of a source.
 
-ghost use Rattle.std.specs.Prelude.{◌≡◌, ◌≤◌, ℕ, List, true, Some, Err, length, drop, take, OnOk, if◌then◌else◌};
+ghost use Rattle.std.specs.Prelude.{◌≡◌, ◌≤◌, ℕ, List, true, Some, Err, length, drop, take, OnOk, if◌then◌else◌, codes};
 ghost use Rattle.std.specs.Io.KnownBytes.{prepend_known, Keeps};
-ghost use Rattle.tt_text.specs.CutShort.{cut_short};
 ghost use Rattle.tt_text.specs.Failures.{is_err_and};
-ghost use Rattle.tt_text.specs.Feeds.{stream_from, stopped};
-ghost use Rattle.tt_text.specs.declared.feed.FeedFault.TheVariants.{Read};
-ghost use Rattle.tt_text.specs.declared.feed.TheConstants.{MAX_BYTES};
-ghost use Rattle.tt_text_peek.specs.Fronts.{has_groups_word, is_settled, is_groups, is_failed_read};
+ghost use Rattle.tt_text.specs.Texts.{is_text};
+ghost use Rattle.tt_text_peek.specs.Fronts.{first_word, after_word, kind_of_front, kind_of, is_failed_read, IsUndecided};
+ghost use Rattle.tt_text_peek.specs.Inner.Settled.{is_word_settled, is_settled};
 
+use crate::kind::FileKind;
 use crate::peek::{PEEKED_BYTES, PeekFault};
 use tt_text::{MAX_TOKEN_BYTES, Source, Tokens};
 
-/// Returns whether the first token is `CTTG`.
-pub fn has_groups_word(bytes: &[u8]) -> bool
-    ensures { result ≡ has_groups_word bytes.now }
+/// Returns the first token, or as much of it as the bytes have, and the bytes after it.
+fn split_word(bytes: &[u8]) -> (&[u8], &[u8])
+    ensures word { result.0.now ≡ first_word bytes.now }
+    ensures rest { result.1.now ≡ after_word bytes.now }
 {
     match Tokens::new(bytes).next() {
-        Some(token) => b"CTTG".as_slice() == token.bytes,
-        None => false,
+        Some(word) => {
+            let (_, begun) = bytes.split_at(word.at);
+            begun.split_at(word.bytes.len())
+        }
+        None => (&[], &[]),
+    }
+}
+
+/// Returns whether a token is the one that files of groups begin with.
+fn is_groups_word(word: &[u8]) -> bool
+    ensures { result ≡ is_text (codes "CTTG") word.now }
+{
+    b"CTTG".as_slice() == word
+}
+
+/// Returns the kind of a file that has these bytes and no more.
+pub fn kind_of_front(bytes: &[u8]) -> FileKind
+    ensures { result ≡ kind_of_front bytes.now }
+{
+    let (word, rest) = split_word(bytes);
+    if !is_groups_word(word) {
+        return FileKind::Tree;
+    }
+    let (version, _) = split_word(rest);
+    if b"2".as_slice() == version {
+        FileKind::Prices
+    } else {
+        FileKind::Groups
     }
 }
 
 /// Returns whether further bytes leave the first token as it is, or too long.
+fn is_word_settled(bytes: &[u8]) -> bool
+    ensures { result ≡ is_word_settled bytes.now }
+{
+    let (word, rest) = split_word(bytes);
+    !rest.is_empty() || MAX_TOKEN_BYTES < word.len()
+}
+
+/// Returns whether further bytes leave the kind as it is.
 fn is_settled(bytes: &[u8]) -> bool
     ensures { result ≡ is_settled bytes.now }
 {
-    match Tokens::new(bytes).next() {
-        Some(token) => {
-            token.bytes.len() < bytes.len().saturating_sub(token.at)
-                || MAX_TOKEN_BYTES < token.bytes.len()
-        }
-        None => false,
+    let (word, rest) = split_word(bytes);
+    if is_groups_word(word) {
+        is_word_settled(rest)
+    } else {
+        is_word_settled(bytes)
     }
 }
 
-/// Reads more bytes after the first ones of a source until they settle its first token, are 4,096 bytes, or are all bytes.
+/// Reads more bytes after the first ones of a source until they settle the kind, are 4,096 bytes, or are all bytes.
 pub fn read_front<R: Source>(front: &mut Vec<u8>, source: &mut R) -> Result<(), PeekFault>
     ensures bytes { ¬ (result ≡ Err PeekFault.OutOfMemory) →
         Keeps (prepend_known front.old.items (R.remaining source.old)) (prepend_known front.new.items (R.remaining source.new)) }
-    ensures groups { OnOk result ((bytes : List ℕ) → prepend_known front.old.items (R.remaining source.old) ≡ Some bytes →
-        has_groups_word (take PEEKED_BYTES front.new.items) ≡ is_groups bytes) }
+    ensures kind { OnOk result ((bytes : List ℕ) → prepend_known front.old.items (R.remaining source.old) ≡ Some bytes →
+        kind_of_front (take PEEKED_BYTES front.new.items) ≡ kind_of bytes) }
     ensures failed { R.has_failed source.new ≡ (if is_err_and result is_failed_read then true else R.has_failed source.old) }
-    ensures no_token { result ≡ Err PeekFault.Read → cut_short (stream_from MAX_BYTES 0 front.new.items) ≡ stopped (Err Read) }
+    ensures undecided { result ≡ Err PeekFault.Read → IsUndecided front.new.items }
 {
     let mut piece = [0u8; PEEKED_BYTES];
     while front.len() < PEEKED_BYTES && !is_settled(front) {

@@ -3,7 +3,8 @@
 ghost use Rattle.std.specs.Prelude.{◌≡◌, [], ℕ, List};
 ghost use Rattle.std.specs.Io.KnownBytes.{prepend_known};
 
-use crate::front::{has_groups_word, read_front, remove_front};
+use crate::front::{kind_of_front, read_front, remove_front};
+use crate::kind::FileKind;
 use crate::peek::{PEEKED_BYTES, Peek, PeekFault};
 use std::alloc::Global;
 use tt_text::{ReadFailed, Source};
@@ -49,12 +50,12 @@ impl<R: Source> Source for Peeked<R> {
 }
 
 impl<R: Source> Peek for Peeked<R> {
-    fn peek_groups(&mut self) -> Result<bool, PeekFault> {
+    fn peek_kind(&mut self) -> Result<FileKind, PeekFault> {
         if let Err(fault) = read_front(&mut self.front, &mut self.source) {
             self.front.clear();
             return Err(fault);
         }
         let end = self.front.len().min(PEEKED_BYTES);
-        Ok(has_groups_word(&self.front[..end]))
+        Ok(kind_of_front(&self.front[..end]))
     }
 }
