@@ -6,8 +6,10 @@
 
 follows names through the `use` lines, from the clauses of a public function (all of them, or those that are named; without arguments the headline:
 clauses exactly and bounds of tt_proof_check's certify). Definitions are counted with their comments; structs and enums of src/ count with
-theirs. Names of the standard library end the search. Without arguments it also says whether docs/STATEMENT.md, which has each of the headline's
-definitions after those that it uses, is current (status 1 if it isn't); with --write it writes that file.
+theirs, and the types of their fields are followed, and so are the words of the trait Source. Names of the standard library end the search. A name
+that isn't there ends it with an error. Without arguments it also says whether docs/STATEMENT.md is current (status 1 if it isn't); with --write it
+writes that file, which has three parts, each without the definitions of those before it: the headline, what a sum rests on, and what the refusals
+of sums rest on.
 """
 import difflib
 import os
@@ -17,10 +19,22 @@ import sys
 ROOT = os.path.join(os.path.dirname(os.path.abspath(__file__)), "..", "crates")
 NAME = re.compile(r"[^\s(){}\[\],;.:λ→×⊎¬≡≤<≢∷∙+*=|&-][^\s(){}\[\],;.:]*")
 HEADLINE = ["tt_proof_check", "certify", "exactly", "bounds"]
+SUMS = [
+    (
+        "What a sum rests on",
+        "`tt_proof_sum::sum_proofs` adds up trees, files of groups, and files of groups with prices. By these clauses each file is right, no two claim one target, and the sum bounds every feasible timetable; and files that have a sum are answered with it, unless the check of a group is given up.",
+        ["tt_proof_sum", "sum_proofs", "found", "only", "holds"],
+    ),
+    (
+        "What the refusals of sums rest on",
+        "A fault is that of the first file that can't be added, and a failed read is never taken for the end of a file.",
+        ["tt_proof_sum", "sum_proofs", "fault", "failed", "lower", "up_to_failed_read"],
+    ),
+]
 STATEMENT = os.path.join(ROOT, "..", "docs", "STATEMENT.md")
 HEAD = """# The statement
 
-What the headline rests on, whole: the two clauses of `tt_proof_check::certify`, the trait by which they speak of the proof's bytes, and every definition and type that they name, each file after those that it uses. `python3 bench/statement.py --write` makes this document from the sources, and without `--write` that script says whether it is current. [HEADLINE.md](HEADLINE.md) says what it means and why it holds.
+What the headline rests on, whole: the two clauses of `tt_proof_check::certify`, the trait by which they speak of the proof's bytes, and every definition and type that they name, each file after those that it uses. [Two](#what-a-sum-rests-on) [more parts](#what-the-refusals-of-sums-rest-on) have what sums of proofs rest on besides. `python3 bench/statement.py --write` makes this document from the sources, and without `--write` that script says whether it is current. [HEADLINE.md](HEADLINE.md) says what it means and why it holds.
 
 A definition under `src/` is a type, a limit or a weight of the code, in Rust's syntax; the others are in the language of specifications, where `abbrev pub f : A → B` gives a function's type and the lines below it its values, a `record` is a conjunction of its fields, and `(x : A) × B` says that there is an x. Numbers have no upper limit, and a `-` that would fall below 0 is 0.
 """
@@ -28,11 +42,18 @@ A definition under `src/` is a type, a limit or a weight of the code, in Rust's 
 WORDS = {
     "All": "`All P xs`: P holds of each element",
     "AllPairs": "`AllPairs R xs`: R holds of each element and each later one",
+    "AllZip": "`AllZip R xs ys`: the lists are as long as each other, and R holds of the elements at each place",
     "Contains": "`Contains xs x`: x is an element",
+    "IfErr": "`IfErr r P`: P holds of the fault, if there is one",
+    "IfOk": "`IfOk r P`: P holds of the answer, if there is one",
     "IfSome": "`IfSome o P`: P holds of the value, if there is one",
+    "IsSomeAnd": "`IsSomeAnd o P`: there is a value, and P holds of it",
+    "MatchOption": "`MatchOption o P N`: P holds of the value, or N if there is none",
+    "MatchResult": "`MatchResult r P Q`: P holds of the answer, or Q of the fault",
     "all_ascii_digits": "`all_ascii_digits bs`: each byte is one of 48 to 57",
     "codes": "`codes \"text\"`: the bytes of the text",
     "count_by": "`count_by p xs`: how many elements pass the test",
+    "drop": "`drop n xs`: all but the first n elements",
     "filter": "`filter p xs`: those that pass, in order",
     "flat_map": "`flat_map f xs`: the lists of all elements, joined in order",
     "fold": "`fold f a xs`: f taken from the left, from a on",
@@ -47,12 +68,18 @@ WORDS = {
     "nat_lt": "`nat_lt m n`: whether m is below n",
     "not": "`not b`",
     "pointwise": "`pointwise t xs ys`: whether the lists are as long as each other, and the test passes at each place",
+    "pos": "`pos n`: n as an integer",
     "prefix_len": "`prefix_len p xs`: how many elements at the front pass the test",
+    "push": "`push xs x`: x after the others",
     "range_with_len": "`range_with_len a n`: n numbers, from a on",
+    "replicate": "`replicate n x`: n times x",
     "slice_get": "`slice_get xs i`: the element at i, if there is one",
+    "slice_index": "`slice_index xs i`: the element at i",
     "slice_index_or": "`slice_index_or xs i d`: the element at i, or d past the end",
     "sum_by": "`sum_by f xs`: the sum of f over the elements",
     "take": "`take n xs`: the first n elements",
+    "take_while": "`take_while p xs`: the elements at the front that pass the test",
+    "unwrap_or": "`unwrap_or o d`: the value, or d if there is none",
 }
 
 
@@ -87,6 +114,11 @@ def blocks_of(text):
     return found
 
 
+def owner_of(name, blocks):
+    """Which of the definitions of a file has this case or field."""
+    return next((owner for owner, block in blocks.items() if re.search(r"^\s+(?:pub )?" + re.escape(name) + r" :", block, re.M)), None)
+
+
 def file_of(module):
     """The file of a module of some crate's specs, and whether it is a type of src/."""
     parts = module.split(".")
@@ -107,6 +139,25 @@ def type_of(path, name):
     one = text.find(";", head.end())
     stop = one + 1 if 0 <= one < text.find("{", head.end()) else end + 2
     return text[head.start():stop].strip("\n")
+
+
+def rust_uses_of(text, crate):
+    """Which crate each type of a file of src/ comes from, by its `use` lines."""
+    found = {}
+    for root, path in re.findall(r"^use (crate|tt_\w+)::([^;]+);", text, re.M):
+        for name in re.findall(r"\b[A-Z]\w*", path):
+            found[name] = crate if root == "crate" else root
+    return found
+
+
+def home_of(crate, name):
+    """The file of src/ that declares a struct or an enum."""
+    for at, _, files in sorted(os.walk(os.path.join(ROOT, crate, "src"))):
+        for file in sorted(files):
+            path = os.path.join(at, file)
+            if re.search(r"^\s*pub(?:\(crate\))? (?:struct|enum) " + re.escape(name) + r"\b", read(path), re.M):
+                return path
+    return None
 
 
 def names_in(text):
@@ -147,9 +198,7 @@ class Closure:
             of = parts[-2] if parts[-1] == "TheVariants" else parts[-1]
             path = os.path.join(ROOT, parts[1], "src", *[it for it in parts[4:] if it not in (of, "TheVariants")]) + ".rt"
             self.files.setdefault(asker, set()).add(path)
-            block = type_of(path, of) if os.path.isfile(path) else None
-            if block:
-                self.found.setdefault((path, of), block)
+            self.declared(path, of, asker)
             return
         if (path, name) in self.found or not os.path.isfile(path):
             return
@@ -159,9 +208,32 @@ class Closure:
             again = uses_of(text).get(name)
             if again and again[1]:
                 self.follow(*again, asker)
+            elif name:
+                owner = owner_of(name, blocks_of(text))
+                if not owner:
+                    sys.exit(f"{asker} names {name} of {module}, which isn't there")
+                self.follow(module, owner, asker)
             return
         self.found[path, name] = block
         self.names(names_in(block), uses_of(text), module, blocks_of(text), path)
+
+    def declared(self, path, name, asker):
+        """A struct or an enum of src/, and the types of its fields."""
+        if (path, name) in self.found:
+            return
+        block = type_of(path, name) if os.path.isfile(path) else None
+        if block is None:
+            sys.exit(f"{asker} names {name} of {path}, which isn't there")
+        self.found[path, name] = block
+        crate = os.path.relpath(path, ROOT).split(os.sep)[0]
+        text = read(path)
+        uses = rust_uses_of(text, crate)
+        code = re.sub(r"//.*|ghost .*", "", block)
+        for field in sorted(set(re.findall(r"\b[A-Z]\w*", code)) - {name}):
+            home = home_of(uses[field], field) if field in uses else path if type_of(path, field) else None
+            if home:
+                self.files.setdefault(path, set()).add(home)
+                self.declared(home, field, path)
 
     def constant(self, path, name):
         if name and os.path.isfile(path):
@@ -227,32 +299,68 @@ def clause_texts(crate, function, wanted):
     return "\n".join("ensures " + line if re.match(r"\w+ \{", line) else line for line in lines)
 
 
+def closure_of(crate, function, wanted):
+    """What the clauses of a function rest on."""
+    text, uses = clauses_of(crate, function, wanted)
+    closure = Closure()
+    closure.names(names_in(text), uses, "", {}, None)
+    return closure
+
+
+def with_source(closure):
+    """The same with the words of the trait Source."""
+    source = os.path.join(ROOT, "tt_text", "src", "source.rt")
+    closure.names(names_in(trait_of(source, "Source")), uses_of(read(source), ghost=True), "", {}, source)
+    return closure
+
+
+def listed(closure, level, known):
+    """The definitions of each file that aren't known, with headings of this level."""
+    for path in closure.in_order():
+        blocks = [block for block in closure.blocks(path) if block not in known.get(path, ())]
+        known.setdefault(path, set()).update(blocks)
+        if blocks:
+            crate, kind, *rest = os.path.relpath(path, ROOT).split(os.sep)
+            name = "/".join(rest)
+            title = f"{crate} {name.removesuffix('.antt')}" if kind == "specs" else f"{crate}, src/{name}"
+            fence = "```" if kind == "specs" else "```rust"
+            yield f"{level} {title}\n"
+            yield fence + "\n" + "\n\n".join(blocks) + "\n```\n"
+
+
+def words_of(closure, known):
+    """The words of the standard library that aren't known."""
+    names = sorted(set().union(*closure.library.values()) - known)
+    known.update(names)
+    plain = ", ".join(f"`{name}`" for name in names if name not in WORDS)
+    rest = [f"- {WORDS[name]}" for name in names if name in WORDS]
+    yield f"Types and values: {plain}." + (" The rest:\n" if rest else "\n")
+    if rest:
+        yield "\n".join(rest) + "\n"
+
+
 def statement(closure):
     """The text of docs/STATEMENT.md."""
     source = os.path.join(ROOT, "tt_text", "src", "source.rt")
+    known, words = {}, set()
     parts = [HEAD, "## The clauses\n", "```\n" + clause_texts(HEADLINE[0], HEADLINE[1], HEADLINE[2:]) + "\n```\n"]
     parts.append("R is the type of the proof's source. `.old` and `.new` are its values before and after the call.\n")
     parts += ["## tt_text, src/source.rt\n", "```rust\n" + trait_of(source, "Source") + "\n```\n"]
-    for path in closure.in_order():
-        crate, kind, *rest = os.path.relpath(path, ROOT).split(os.sep)
-        name = "/".join(rest)
-        title = f"{crate} {name.removesuffix('.antt')}" if kind == "specs" else f"{crate}, src/{name}"
-        fence = "```" if kind == "specs" else "```rust"
-        parts += [f"## {title}\n", fence + "\n" + "\n\n".join(closure.blocks(path)) + "\n```\n"]
-    parts.append("## Words of the standard library\n")
-    names = sorted(set().union(*closure.library.values()))
-    plain = [name for name in names if name not in WORDS]
-    parts.append("Types and values: " + ", ".join(f"`{name}`" for name in plain) + ". The rest:\n")
-    parts += [f"- {WORDS[name]}" for name in names if name in WORDS]
-    return "\n".join(parts) + "\n"
+    parts += listed(closure, "##", known)
+    parts += ["## Words of the standard library\n", *words_of(closure, words)]
+    for heading, meaning, (crate, function, *wanted) in SUMS:
+        more = closure_of(crate, function, wanted)
+        parts += [f"## {heading}\n", meaning + "\n", "```\n" + clause_texts(crate, function, wanted) + "\n```\n"]
+        parts += [*listed(more, "###", known), f"### Further words: {heading.lower()}\n", *words_of(more, words)]
+    return "\n".join(parts)
 
 
 def main():
     write = sys.argv[1:] == ["--write"]
     crate, function, *wanted = HEADLINE if write else sys.argv[1:] or HEADLINE
-    text, uses = clauses_of(crate, function, wanted)
-    closure = Closure()
-    closure.names(names_in(text), uses, "", {}, None)
+    closure = closure_of(crate, function, wanted)
+    if [crate, function, *wanted] == HEADLINE:
+        closure = with_source(closure)
     files = {}
     for (path, name), block in closure.found.items():
         files.setdefault(os.path.relpath(path, ROOT), []).append((name, block.count("\n") + 1))
