@@ -35,7 +35,7 @@ pub struct BestRequest<'a> {
 const FOLDER: Argument<'static> = Argument {
     id: "OUTDIR",
     form: Form::Word,
-    help: "The folder of best.sol, page.html, groups.proof and tree.proof; it is made if it isn't there, and older files of these names are replaced, or get names that end in .old",
+    help: "The folder of best.sol, page.html, groups.proof, prices.proof and tree.proof; it is made if it isn't there, and older files of these names are replaced, or get names that end in .old",
     condition: None,
 };
 

@@ -35,7 +35,7 @@ pub struct PartsRequest<'a> {
 const FOLDER: Argument<'static> = Argument {
     id: "OUTDIR",
     form: Form::Word,
-    help: "The folder of groups.proof and rooms.proof; it is made if it isn't there, and older files of these names are replaced, or get names that end in .old",
+    help: "The folder of groups.proof, prices.proof and rooms.proof; it is made if it isn't there, and older files of these names are replaced, or get names that end in .old",
     condition: None,
 };
 

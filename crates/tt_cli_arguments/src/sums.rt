@@ -26,7 +26,7 @@ const SOLUTION: Argument<'static> = Argument {
 const PROOFS: Argument<'static> = Argument {
     id: "PROOF",
     form: Form::Words,
-    help: "Proofs of lower bounds, no two of which claim one target: tree proofs (CTTP, of either version) and files of groups (CTTG)",
+    help: "Proofs of lower bounds, no two of which claim one target: tree proofs (CTTP) and files of groups (CTTG), each of either version",
     condition: None,
 };
 

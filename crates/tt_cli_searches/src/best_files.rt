@@ -1,6 +1,6 @@
 //! The files of `best`.
 
-use crate::proof_files::{GROUPS, ProofFolder};
+use crate::proof_files::{GROUPS, PRICES, ProofFolder};
 use std::alloc::AllocError;
 use std::cell::Cell;
 use tt_call_searches::BestAnswer;
@@ -130,8 +130,9 @@ impl<'a, R: World> BestFiles<'a, R> {
             self.has_table.set(true);
         }
         if !self.has_proofs.get() {
-            batch = self.folder.retire(self.rt, batch, GROUPS)?;
-            batch = self.folder.retire(self.rt, batch, TREE)?;
+            for file in [GROUPS, PRICES, TREE] {
+                batch = self.folder.retire(self.rt, batch, file)?;
+            }
             self.has_proofs.set(true);
         }
         Ok(batch)

@@ -3,6 +3,7 @@
 use std::alloc::AllocError;
 use tt_cli_files::{Batch, Role};
 use tt_cli_saving::{Folder, FolderFile, World};
+use tt_text_peek::{FileKind, kind_of_front};
 
 /// The file of groups.
 pub const GROUPS: FolderFile = FolderFile {
@@ -10,8 +11,11 @@ pub const GROUPS: FolderFile = FolderFile {
     name: "groups.proof",
 };
 
-/// The first bytes of a file of groups.
-const GROUPS_START: &[u8] = b"CTTG";
+/// The file of groups with prices.
+pub const PRICES: FolderFile = FolderFile {
+    role: Role::Proof,
+    name: "prices.proof",
+};
 
 /// The files in which a search writes its proofs.
 #[derive(Clone, Copy)]
@@ -22,18 +26,19 @@ pub struct ProofFolder<'a> {
 }
 
 impl<'a> ProofFolder<'a> {
-    /// Returns the file of a proof, by its first bytes.
+    /// Returns the file of a proof, by its kind.
     fn file_of(self, proof: &[u8]) -> FolderFile {
-        if proof.starts_with(GROUPS_START) {
-            GROUPS
-        } else {
-            self.tree
+        match kind_of_front(proof) {
+            FileKind::Tree => self.tree,
+            FileKind::Groups => GROUPS,
+            FileKind::Prices => PRICES,
         }
     }
 
     /// Checks whether the files can be written more than once.
     pub fn can_keep<R: World>(self, rt: &R) -> Result<bool, AllocError> {
-        Ok(self.folder.can_keep(rt, GROUPS)? && self.folder.can_keep(rt, self.tree)?)
+        let groups = self.folder.can_keep(rt, GROUPS)?;
+        Ok(groups && self.folder.can_keep(rt, PRICES)? && self.folder.can_keep(rt, self.tree)?)
     }
 
     /// Adds proofs to a batch, and the files of proofs that an earlier run or an earlier step left and that aren't among them.
@@ -46,7 +51,7 @@ impl<'a> ProofFolder<'a> {
         for proof in proofs {
             batch = self.folder.write(rt, batch, self.file_of(proof), proof)?;
         }
-        for file in [GROUPS, self.tree] {
+        for file in [GROUPS, PRICES, self.tree] {
             if !proofs.iter().any(|proof| self.file_of(proof) == file) {
                 batch = self.folder.retire(rt, batch, file)?;
             }

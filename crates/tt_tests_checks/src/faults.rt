@@ -8,7 +8,7 @@ use tt_instance_read::{InstanceFault, Word};
 use tt_leaf_rules::RuleFault;
 use tt_proof_check::{CertifyFault, CheckFault, NodesFault};
 use tt_proof_read::{TextFault, Word as ProofWord};
-use tt_proof_sum::FileFault;
+use tt_proof_sum::{ClaimedTarget, FileFault};
 use tt_proof_upgrade::UpgradeFault;
 use tt_proof_write::WriteFault;
 use tt_report::ReportFault;
@@ -224,6 +224,16 @@ fn of_sums(rt: HostRuntime) -> Result<(), Fail> {
                 },
             ),
             "proof 3: ClaimedElsewhere at node 4, by proof 1",
+        ),
+        (
+            AppFault::Sum(
+                2,
+                FileFault::TargetClaimedElsewhere {
+                    target: ClaimedTarget::Rooms,
+                    earlier: 1,
+                },
+            ),
+            "proof 2: ClaimedElsewhere at rooms, by proof 1",
         ),
         (AppFault::Sum(2, FileFault::TooLarge), "proof 2: TooLarge"),
     ] {

@@ -6,6 +6,8 @@ mod checking;
 #[cfg(test)]
 mod faults;
 #[cfg(test)]
+mod prices;
+#[cfg(test)]
 mod refusing;
 #[cfg(test)]
 mod sums;

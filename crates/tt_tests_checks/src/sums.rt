@@ -28,7 +28,12 @@ const NOTHING: &str = "CTTP 1 bound 0 B ; end";
 const NAMES: [&str; 4] = ["1.proof", "2.proof", "3.proof", "4.proof"];
 
 /// Returns the outcome of `sum` for an instance and proofs, with a solution if one is given.
-fn summed(alloc: Global, instance: &str, solution: &str, proofs: &[&str]) -> Result<Outcome, Fail> {
+pub fn summed(
+    alloc: Global,
+    instance: &str,
+    solution: &str,
+    proofs: &[&str],
+) -> Result<Outcome, Fail> {
     let mut words = Vec::new(alloc);
     let mut files = Vec::new(alloc);
     words.extend_from_slice(&["sum", "a.ctt"])?;

@@ -6,6 +6,7 @@ mod kind;
 mod peek;
 mod peeked;
 
+pub use front::kind_of_front;
 pub use kind::FileKind;
 pub use peek::{PEEKED_BYTES, Peek, PeekFault};
 pub use peeked::Peeked;

@@ -2,7 +2,7 @@
 
 use crate::best_files::{BestFiles, BestShelf, PAGE, TABLE, TREE};
 use crate::best_keeper::BestKeeper;
-use crate::proof_files::GROUPS;
+use crate::proof_files::{GROUPS, PRICES};
 use crate::saving::kept_table;
 use std::alloc::AllocError;
 use std::cell::Cell;
@@ -47,7 +47,7 @@ fn search_shown<'k, R: World, E: Write>(
 /// Reads the proofs that an earlier run left in the folder; a file that can't be read is passed over.
 fn read_proofs<R: World>(rt: &R, folder: Folder<'_>) -> Result<Vec<Vec<u8>>, CommandFault> {
     let mut proofs = Vec::new(rt.alloc());
-    for file in [GROUPS, TREE] {
+    for file in [GROUPS, PRICES, TREE] {
         let path = folder.path_of(rt, file)?;
         let input = InputFile {
             input: Input::Proof,
@@ -73,7 +73,7 @@ fn find_best<R: World, E: Write>(
     let folder = Folder {
         path: &*request.folder,
     };
-    folder.check(rt, inputs, &[TABLE, PAGE, GROUPS, TREE])?;
+    folder.check(rt, inputs, &[TABLE, PAGE, GROUPS, PRICES, TREE])?;
     let found = folder.find(rt, inputs, TABLE)?;
     let is_own = match request.start {
         Some(path) => found.is_read(rt, path)?,

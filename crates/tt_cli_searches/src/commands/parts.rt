@@ -1,6 +1,6 @@
 //! The files of `parts`.
 
-use crate::proof_files::{GROUPS, ProofFolder};
+use crate::proof_files::{GROUPS, PRICES, ProofFolder};
 use std::alloc::AllocError;
 use std::io::Write;
 use tt_call_searches::{PartsAnswer, parts};
@@ -96,7 +96,7 @@ fn write_found<R: World, E: Write>(
     let folder = Folder {
         path: request.folder,
     };
-    folder.check(rt, inputs, &[GROUPS, ROOMS])?;
+    folder.check(rt, inputs, &[GROUPS, PRICES, ROOMS])?;
     let _ = folder.prepare(rt, inputs, GROUPS)?;
     let proofs = ProofFolder {
         folder,
