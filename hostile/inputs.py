@@ -6,7 +6,7 @@ from dataclasses import dataclass
 
 from program import PROGRAM
 from refusing import READ_ERROR, Refusal
-from samples import APART, CROWDED, GAP, GAP_GROUPS, GAP_PROOF, MINI, NEXT_TO_EACH_OTHER
+from samples import APART, CROWDED, GAP, GAP_GROUPS, GAP_PRICES, GAP_PROOF, MINI, NEXT_TO_EACH_OTHER
 
 SPACES = b" " * 65_536
 SPLIT = b"S c0 * d0 p0\n"
@@ -126,6 +126,45 @@ def cut_groups(desk):
             same(told, (0, b"bound 4\n", b""))
 
 
+def cut_prices(desk):
+    """What is cut off is no whole file of groups with prices."""
+    for count in range(len(GAP_PRICES) + 1):
+        desk.put(instance=GAP, prices=GAP_PRICES[:count])
+        told = desk.told("sum instance prices")
+        if count < len(GAP_PRICES) - 1:
+            at_byte(told, b"proof 1", count)
+        else:
+            same(told, (0, b"bound 5\n", b""))
+
+
+def values_of_prices(desk):
+    """Each a number at its limit and above."""
+    begun = b"CTTG 2 bound 0 scale 1 "
+    for text, wanted in [
+        (begun + b"periods end", (0, b"bound 0\n", b"")),
+        (begun + b"rooms end", (0, b"bound 0\n", b"")),
+        (b"CTTG 2 bound 1 scale 1 rooms end", (0, b"bound 1\n", b"")),
+        (b"CTTG 2 bound 1 scale 1 periods end", refused(b"proof 1: TooCheap")),
+        (b"CTTG 2 bound 0 scale 1000 periods end", (0, b"bound 0\n", b"")),
+        (b"CTTG 2 bound 0 scale 1001 periods end", refused(b"proof 1: NotANumber at byte 21")),
+        (b"CTTG 2 bound 0 scale 0 periods end", refused(b"proof 1: NotANumber at byte 21")),
+        (begun + b"seats end", refused(b"proof 1: UnknownWord at byte 23")),
+        (begun + b"periods G / / / / c0 +1000000 ; end", refused(b"proof 1: TooCheap")),
+        (begun + b"periods G / / / / c0 +1000001 ; end", refused(b"proof 1: PriceTooLarge at byte 44")),
+        (begun + b"periods G / / / / c0 -1000001 ; end", refused(b"proof 1: PriceTooLarge at byte 44")),
+        (begun + b"rooms R r0 +1000000 ; end", (0, b"bound 0\n", b"")),
+        (begun + b"rooms R r0 -1 ; end", refused(b"proof 1: UnknownWord at byte 34")),
+        (begun + b"rooms R r0 +0 x2 ; end", (0, b"bound 0\n", b"")),
+        (begun + b"rooms R r0 +0 x3 ; end", refused(b"proof 1: TooManyPrices at byte 37")),
+        (begun + b"periods G q0 / c0 / / q0 ; end", refused(b"proof 1: UnknownWord at byte 45")),
+        (begun + b"periods G q0 / c0 c0 / / / ; end", refused(b"proof 1: RepeatedIndex at byte 41")),
+        (begun + b"periods G q1 / / / / ; end", refused(b"proof 1: UnknownIndex at byte 33")),
+        (begun + b"periods end end", refused(b"proof 1: TrailingToken at byte 35")),
+    ]:
+        desk.put(instance=GAP, prices=text)
+        same(desk.told("sum instance prices"), wanted)
+
+
 def values_of_groups(desk):
     """Each a value and a bound, at its limit and above."""
     for text, wanted in [
@@ -142,7 +181,8 @@ def values_of_groups(desk):
         (b"CTTG 1 bound 0 G 0 q0 q0 / ; end", refused(b"proof 1: RepeatedIndex at byte 22")),
         (b"CTTG 1 bound 0 end end", refused(b"proof 1: TrailingToken at byte 19")),
         (b"CTTG 1 bound 1000000000001 end", refused(b"proof 1: NotANumber at byte 13")),
-        (b"CTTG 2 bound 0 end", refused(b"proof 1: Expected 1 at byte 5")),
+        (b"CTTG 2 bound 0 end", refused(b"proof 1: Expected scale at byte 15")),
+        (b"CTTG 3 bound 0 end", refused(b"proof 1: Expected 1 at byte 5")),
         (b"CTTX 1 bound 0 end", refused(b"proof 1: Expected CTTP at byte 0")),
         (b" " * 4_092 + b"CTTG 1 bound 0 end", (0, b"bound 0\n", b"")),
         (b" " * 4_093 + b"CTTG 1 bound 0 end", refused(b"proof 1: Expected CTTP at byte 4093")),
@@ -301,6 +341,8 @@ ROWS = [
     ("the same, second of two in a sum", cut_proofs_in_a_sum),
     ("a file of groups cut to each length", cut_groups),
     ("values of groups, and their lists", values_of_groups),
+    ("a file of groups with prices cut to each length", cut_prices),
+    ("values of prices and rents, and their lists", values_of_prices),
     ("each read of a proof fails", failed_reads_of_a_proof),
     ("spaces without end", endless_spaces),
     ("65,536 nested splits, and one more", nested_splits),

@@ -35,6 +35,7 @@ FREE = MINI.replace(b"Mini", b"Free").replace(b"R 11", b"R 12")
 
 # In Gap each of the two lectures is alone on its day: what the curriculum costs, whatever the rooms.
 GAP_GROUPS = b"CTTG 1 bound 4\nG 4 q0 / c0 ;\nend\n"
+GAP_PRICES = b"CTTG 2 bound 5 scale 10 rooms\nG q0 / c0 / / / c0 +5 -1 x1 ;\nR r0 +7 +0 +7 ;\nend\n"
 
 # Two courses of one teacher, and one period.
 SAME = b"""Name: Same

@@ -127,6 +127,39 @@ def many_sets(table):
     return groups(table, week, 24, 682, lambda it: " ".join(f"q{12 * it + k}" for k in range(12)))
 
 
+def prices(table, instance, items, claim="periods", scale=1):
+    """What the checker takes for a file of groups with prices."""
+    header = f"CTTG 2 bound 0 scale {scale} {claim}\n"
+    hard = "".join([header, *(f"{it} ;\n" for it in items), "end\n"]).encode()
+    table.put(instance=instance, hard=hard, easy=f"{header}end\n".encode())
+    return timed(table, "sum instance hard", len(hard), (0, 2))
+
+
+def large_tables_with_prices(table):
+    """The weeks of large_tables, with a price for each course."""
+    week = lectures_of(instance_of(10, 1, 64, 1, [range(10)] * 8_192), 3)
+    return prices(table, week, (f"G q{it} / / / / c{it % 10} +1 x63" for it in range(8_192)))
+
+
+def many_sets_with_prices(table):
+    """Twelve courses that never conflict, and eight periods a day."""
+    week = instance_of(12, 12, 64, 8, [[it % 12] for it in range(8_184)])
+    return prices(table, week, (f"G {' '.join(f'q{12 * it + k}' for k in range(12))} / / / / c0 +1" for it in range(682)))
+
+
+def many_sets_of_uncounted_courses(table):
+    """The same of courses whose lectures aren't counted, so that only the last two periods tell two mornings apart."""
+    week = instance_of(8, 12, 64, 8, [[it % 8] for it in range(8_192)])
+    listed = " ".join(f"c{it}" for it in range(8))
+    return prices(table, week, (f"G {' '.join(f'q{8 * it + k}' for k in range(8))} / / / {listed} / c0 -1 x511" for it in range(1_024)))
+
+
+def rents_of_all_rooms(table):
+    """The most cells that an instance may have, each with a rent."""
+    instance = instance_of(MOST_COURSES, 512, 8, 8, [])
+    return prices(table, instance, (f"R r{it} +{it} x63" for it in range(512)), "rooms", 1_000)
+
+
 def weeks(table, words, curricula, entries, wanted=(0, 1)):
     """Each curriculum has one course, which has all entries, in one period."""
     instance, entry = instance_of(1, 1, 1, 1, [[0]] * curricula), f"{course(0)} R0 0 0\n".encode()
@@ -177,6 +210,10 @@ ROWS = [
     ("groups: 8,192 tables of a million states", large_tables),
     ("groups: 8,192 tables of a million states and days on which nothing meets", large_tables_of_rare_days),
     ("groups: 682 with 4,096 sets of courses each", many_sets),
+    ("prices: 8,192 tables of a million states", large_tables_with_prices),
+    ("prices: 682 groups with 4,096 sets of courses each", many_sets_with_prices),
+    ("prices: 1,024 groups with 256 sets of uncounted courses each", many_sets_of_uncounted_courses),
+    ("prices: rents of 512 rooms for 2,048 courses", rents_of_all_rooms),
     ("validate: 100 curricula of all courses", curricula_of_all_courses),
     ("validate: 1,000 names of 8,000 bytes that begin alike, and as many members", names_that_begin_alike),
     ("validate: 8,192 curricula, 16,384 entries in one period", validate_of_many_entries),
