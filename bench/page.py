@@ -366,7 +366,7 @@ class Page:
         elif cost == self.proved:
             told = "proved best"
         else:
-            told = f"no timetable costs less than {self.proved} (proved), gap {max(0, cost - self.proved)}"
+            told = f"no feasible timetable costs less than {self.proved} (proved), gap {max(0, cost - self.proved)}"
         return f'<p class="proved">{told}</p>\n'
 
     def course_row(self, course):

@@ -36,7 +36,7 @@ best_text = codes "<p class=\"proved\">proved best</p>\n"
 -- The line for a feasible timetable whose cost is not the bound: the bound, and the gap between the two.
 unfoldable pub gap_text : ℕ → ℕ → List ℕ
 gap_text b gap = markup (
-    Text (codes "<p class=\"proved\">no timetable costs less than ") ∷ Number b ∷ Text (codes " (proved), gap ") ∷ Number gap ∷ Text (codes "</p>\n") ∷ [])
+    Text (codes "<p class=\"proved\">no feasible timetable costs less than ") ∷ Number b ∷ Text (codes " (proved), gap ") ∷ Number gap ∷ Text (codes "</p>\n") ∷ [])
 
 -- The line for a timetable that is not feasible: the bound of all feasible timetables.
 unfoldable pub least_text : ℕ → List ℕ

@@ -72,7 +72,7 @@ fn put_gap(out: &mut PageText, bound: u64, gap: u64)
     put(
         out,
         &[
-            Part::Text("<p class=\"proved\">no timetable costs less than "),
+            Part::Text("<p class=\"proved\">no feasible timetable costs less than "),
             Part::Count(bound),
             Part::Text(" (proved), gap "),
             Part::Count(gap),
