@@ -27,7 +27,7 @@ explains i s proof OutOfMemory h last = tt
 abbrev refused : CertifyFault → Result Verdict CertifyFault
 refused f = Err f
 
--- what is certified is refused only if memory runs out or a read fails
+-- certified files are refused only if memory runs out or a read fails
 pub yes_reported : (x : Stop CertifyFault) (c b : ℕ) (Z : Type 0) → OnFault x (λ f. (refused f ≡ Ok (Yes c b)) ↔ Z) → Z
     → AnswersYes (Err (fault_from_certify x)) c b
 yes_reported (Fault f) c b Z h z = absurd (let e = h.1 z in cc)

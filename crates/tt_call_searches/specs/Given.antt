@@ -1,4 +1,4 @@
--- Solutions that may be given beside an instance.
+-- Solutions that may be given with an instance.
 use Rattle.std.specs.Prelude.{◌≡◌, ℕ, List, Option, Some, None, Err, IfSome, ⊤}
 use Rattle.tt_instance.specs.Problem.{Problem}
 use Rattle.tt_instance_read.specs.Reading.{instance_of}

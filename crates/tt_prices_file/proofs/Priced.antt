@@ -99,7 +99,7 @@ other_row slots c d j n other inside few = elim (cases_lt d c) [
       ]
     ]
 
--- ---- the rows of a group, one after the other
+-- ---- the rows of a group in turn
 
 module _ (p : Problem) (g : PricedGroup) where
   pub grown_none : (old : PriceTable) → IsGrownBy p g [] old old

@@ -14,7 +14,7 @@ use Rattle.tt_prices_rooms.specs.Terms.{IsTerm}
 
 -- ---- the groups and the rents of a file
 
--- The group of the instance that a group of the text stands for.
+-- The group of the instance that a group of the text describes.
 abbrev pub priced : Problem → Group → PricedGroup
 priced p g = record {
   curricula = g.curricula;
@@ -30,7 +30,7 @@ groups_in [] = []
 groups_in (GroupPart g ∷ parts) = g ∷ groups_in parts
 groups_in (RentPart r ∷ parts) = groups_in parts
 
--- The groups of the instance that they stand for.
+-- The groups of the instance that the groups of a text describe.
 abbrev pub groups_of : Problem → List Part → List PricedGroup
 groups_of p parts = map (priced p) (groups_in parts)
 

@@ -5,7 +5,7 @@ use tt_instance::Instance;
 use tt_prices::{PriceRow, PricedGroup};
 use tt_prices_check::is_concerned;
 
-/// The prices of all courses in all periods, of the groups so far that concern them: the courses one after the other, and the periods of each
+/// The prices of all courses in all periods, of the groups so far that concern them: the courses in turn, and the periods of each
 /// day by day.
 #[derive(Debug, Drop)]
 pub struct PriceTable {

@@ -177,7 +177,7 @@ up_to t (x ∷ xs) =
     parts false true less other = refl
     parts false false less other = refl
 
--- what a tight sum comes to is the least
+-- the value of a tight sum is the least
 tight_least : (t : ℤ) (n : ℕ) (xs : List ℤ) (total : ℤ) → times n t ≡ (total +ℤ pos (sum_by (short t) xs)) → IsTight t n xs
     → IsLeastSum n xs total
 tight_least t n xs total is tight =

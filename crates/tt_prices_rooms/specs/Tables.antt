@@ -10,7 +10,7 @@ abbrev pub ArePricesOf : Problem → List PricedGroup → ℕ → List ℤ → T
 ArePricesOf p groups c prices = (d s : ℕ) → d < p.days → s < p.periods
     → slice_index_or prices (d * p.periods + s) (pos 0) ≡ prices_of p groups c (slot d s)
 
--- The number of each room and period is the room's rent in the period; the rooms are one after the other.
+-- The number of each room and period is the room's rent in the period; the rooms are in turn.
 abbrev pub AreRentsOf : Problem → (ℕ → Slot → ℕ) → List ℕ → Type 0
 AreRentsOf p rent rents = (r d s : ℕ) → r < length p.rooms → d < p.days → s < p.periods
     → slice_index rents (r * (p.days * p.periods) + (d * p.periods + s)) ≡ rent r (slot d s)

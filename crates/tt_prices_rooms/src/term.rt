@@ -19,7 +19,7 @@ use crate::places::list_open;
 use std::alloc::{AllocError, Global};
 use tt_instance::Instance;
 
-/// What a point costs, and the rent of each room in each period: the rooms one after the other, and the periods of each day by day.
+/// What a point costs, and the rent of each room in each period: the rooms in turn, and the periods of each day by day.
 #[derive(Debug, Drop)]
 pub struct RoomPrices {
     pub scale: u32,

@@ -19,7 +19,7 @@ pub record AreMovesOf (days : List PricedDay) (moves : List PricedMove) : Type 0
   pub all : (x : PricedDay) → Contains days x → (m : PricedMove) × Contains moves m × IsMoveOf x m
   pub own : (m : PricedMove) → Contains moves m → (x : PricedDay) × Contains days x × IsMoveOf x m
 
--- The move has its index and its floor, and what it pays is in range.
+-- The move has its index and its floor, and its payment is in range.
 pub record IsReady (sizes weights : List ℕ) (courses : ℕ) (m : PricedMove) : Type 0 where
   pub indexed : m.by.index ≡ index_of weights courses m.by.entry.amounts
   pub floored : m.by.floor ≡ floor_of sizes m.by.entry.amounts

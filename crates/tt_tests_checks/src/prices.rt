@@ -19,7 +19,7 @@ const RENTED: &str = "CTTG 2 bound 5 scale 10 rooms G q0 / / / / ; R r0 +7 +0 +7
 /// A course of Gap lacks a seat.
 const SEATS: &str = "CTTP 1 bound 1 B C c1 1 ; end";
 
-/// The same as Alone, as a claim about a group.
+/// A claim about a group that says the same as Alone.
 const GROUP: &str = "CTTG 1 bound 4 G 4 q0 / ; end";
 
 /// The working days of the first course.

@@ -21,7 +21,7 @@ is_open p c s = not (unavailable p c s.day s.period)
 abbrev pub cost_at : ℕ → List ℕ → List ℤ → ℕ → ℤ
 cost_at points rents prices k = pos (points + slice_index rents k) -ℤ slice_index_or prices k (pos 0)
 
--- What a lecture of the course pays in a room at a place; the rents of the rooms are one after the other.
+-- The cost of a lecture of the course in a room at a place; the rents of the rooms are in turn.
 abbrev pub room_cost : Problem → ℕ → ℕ → List ℕ → List ℤ → ℕ → ℕ → ℤ
 room_cost p c scale rents prices r k =
     pos (scale * excess p c r + slice_index rents (r * length prices + k)) -ℤ slice_index_or prices k (pos 0)
