@@ -1,0 +1,9 @@
+//! Searches for rents of rooms that prove a bound.
+#![tactic(auto)]
+
+mod finding;
+mod places;
+mod points;
+mod rents;
+
+pub use finding::{RentsProof, find_rents};
