@@ -79,9 +79,10 @@ fn find_texts<W: Watch>(
     write_all(alloc, &claims, known)
 }
 
-/// Searches for proofs that claim distinct targets: claims about groups, and one tree of a leaf about the seats of rooms. The entries are those
-/// of a known timetable, or none: a group is not tried if its value would have to be above its cost in that timetable. The watch may end the
-/// search, and take proofs on the way. It makes no promise about how much it finds and how long it takes.
+/// Searches for proofs that claim distinct targets: claims about groups, and one proof about the rooms, which is a tree of one leaf or a
+/// file of rents. The entries are those of a known timetable, or none: a group is not tried if its value would have to be above its cost
+/// in that timetable. The watch may end the search, and take proofs on the way. It makes no promise about how much it finds and how long
+/// it takes.
 pub fn find_parts<W: Watch>(
     alloc: Global,
     instance: &Instance<'_>,

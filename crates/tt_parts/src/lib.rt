@@ -1,4 +1,4 @@
-//! Searching for proofs whose bounds add up: claims about groups, and the seats that rooms lack.
+//! Searching for proofs whose bounds add up: claims about groups, and proofs about the rooms.
 #![tactic(auto)]
 
 mod finding;

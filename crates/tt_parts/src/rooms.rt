@@ -1,4 +1,4 @@
-//! A bound on the seats that rooms lack.
+//! Bounds on the seats that rooms lack.
 
 ghost use Rattle.std.specs.Prelude.{All, IfOk};
 ghost use Rattle.tt_leaf.specs.Ranges.{IsClaimOf};
@@ -8,6 +8,7 @@ use tt_instance::Instance;
 use tt_leaf::{Bound, Claim, ClaimList, Leaf};
 use tt_leaf_find::best_claims;
 use tt_leaf_rules::claim_value;
+use tt_parts_rents::find_rents;
 use tt_path::Path;
 use tt_path_trail::TrailPath;
 use tt_proof_read::Node;
@@ -44,7 +45,7 @@ fn seats_of<'i, P: Path<'i>>(
     Ok(seats)
 }
 
-/// The text of a proof about the seats that the rooms lack, and its bound in cost points.
+/// The text of a proof about the rooms, and its bound in cost points.
 #[derive(Drop)]
 pub struct RoomsProof {
     pub text: Vec<u8>,
@@ -52,10 +53,7 @@ pub struct RoomsProof {
 }
 
 /// Returns a proof of one leaf, which prices the seats that the rooms lack; `None` if its value would be 0.
-pub fn find_rooms(
-    alloc: Global,
-    instance: &Instance<'_>,
-) -> Result<Option<RoomsProof>, AllocError> {
+fn find_leaf(alloc: Global, instance: &Instance<'_>) -> Result<Option<RoomsProof>, AllocError> {
     let path = TrailPath::new(alloc, instance)?;
     let Leaf::Cost(claims) = best_claims(alloc, &path)? else {
         return Ok(None);
@@ -71,5 +69,27 @@ pub fn find_rooms(
         Ok(text) => Ok(Some(RoomsProof { text, points })),
         Err(WriteFault::OutOfMemory) => Err(AllocError),
         Err(_) => Ok(None),
+    }
+}
+
+/// Returns the bound of a proof; 0 if there is none.
+fn points_of(proof: Option<&RoomsProof>) -> u64 {
+    proof.map_or(0, |proof| proof.points)
+}
+
+/// Returns a proof about the rooms: one leaf, or a file of rents if that proves more. It is `None` if neither proves a point.
+pub fn find_rooms(
+    alloc: Global,
+    instance: &Instance<'_>,
+) -> Result<Option<RoomsProof>, AllocError> {
+    let leaf = find_leaf(alloc, instance)?;
+    let rents = find_rents(alloc, instance)?.map(|rents| RoomsProof {
+        text: rents.text,
+        points: rents.points,
+    });
+    if points_of(leaf.as_ref()) < points_of(rents.as_ref()) {
+        Ok(rents)
+    } else {
+        Ok(leaf)
     }
 }
