@@ -1,6 +1,6 @@
-//! Comparisons of bounds, and proofs of greater bounds.
+//! Proofs of greater bounds.
 
-ghost use Rattle.std.specs.Prelude.{◌≡◌, ◌⊎◌, IfOk, IfSome};
+ghost use Rattle.std.specs.Prelude.{◌≡◌, IfOk, IfSome};
 ghost use Rattle.tt_table.specs.Table.{IsTimetable};
 ghost use Rattle.tt_parts.specs.Found.{AreFound};
 ghost use Rattle.tt_best.specs.Weeks.{IsWeek};
@@ -9,30 +9,10 @@ use crate::week::Week;
 use std::alloc::{AllocError, Global};
 use tt_instance::Instance;
 use tt_leaf::Bound;
-use tt_parts::{Effort, Parts, add_up, copy_texts, find_parts};
+use tt_parts::{Effort, Parts, add_up, better_of, copy_texts, find_parts};
 use tt_rules::score;
 use tt_table::Entry;
 use tt_watch::Watch;
-
-/// Checks whether a bound says more than another one: that no timetable exists that breaks no hard rule says more than any number of points.
-fn is_stronger(one: Bound, other: Bound) -> bool {
-    match (one, other) {
-        (_, Bound::Nothing) => false,
-        (Bound::Nothing, Bound::AtLeast(_)) => true,
-        (Bound::AtLeast(points), Bound::AtLeast(others)) => points > others,
-    }
-}
-
-/// Returns the proofs with the stronger bound.
-pub fn better_of(older: Parts, newer: Parts) -> Parts
-    ensures { (result ≡ older) ⊎ (result ≡ newer) }
-{
-    if is_stronger(newer.bound, older.bound) {
-        newer
-    } else {
-        older
-    }
-}
 
 /// Checks whether nothing is left to search for: the cost of the timetable is the bound, or no timetable exists that breaks no hard rule.
 pub fn is_settled(instance: &Instance<'_>, week: &Week) -> bool

@@ -4,7 +4,10 @@ ghost use Rattle.std.specs.Prelude.{IfOk, IfSome};
 ghost use Rattle.tt_instance.specs.Problem.{Problem};
 ghost use Rattle.tt_parts.specs.Found.{AreFound};
 
+use crate::known::{cost_of, is_greatest};
+use crate::prices::find_priced;
 use crate::rooms::find_rooms;
+use crate::stronger::better_of;
 use crate::together::sum_of;
 use std::alloc::{AllocError, Global};
 use tt_instance::Instance;
@@ -16,10 +19,10 @@ use tt_watch::Watch;
 /// The number of relaxations that the search for groups may do for each node allowed.
 const RELAXATIONS_OF_NODE: u64 = 50_000;
 
-/// The amount of work that a search may do, and the seed of its random choices.
+/// The amount of work that each of the two searches may do, and the seed of their random choices.
 #[derive(Clone, Copy, Debug, PartialEq, Eq)]
 pub struct Effort {
-    /// Each node allows 50,000 relaxations.
+    /// Each node allows 50,000 relaxations of groups, and then 20,000 units of work on prices.
     pub nodes: u32,
     pub seed: u64,
 }
@@ -79,10 +82,41 @@ fn find_texts<W: Watch>(
     write_all(alloc, &claims, known)
 }
 
-/// Searches for proofs that claim distinct targets: claims about groups, and one proof about the rooms, which is a tree of one leaf or a
-/// file of rents. The entries are those of a known timetable, or none: a group is not tried if its value would have to be above its cost
-/// in that timetable. The watch may end the search, and take proofs on the way. It makes no promise about how much it finds and how long
-/// it takes.
+/// Returns proofs with the sum of their bounds; no proofs if they don't add up.
+fn sum_or_none(
+    alloc: Global,
+    instance: &Instance<'_>,
+    proofs: Vec<Vec<u8>>,
+) -> Result<Parts, AllocError>
+    ensures { IfOk result (AreFound instance.now) }
+{
+    match add_up(alloc, instance, proofs)? {
+        Some(parts) => Ok(parts),
+        None => Ok(Parts::none(alloc)),
+    }
+}
+
+/// Searches for a file of groups with prices. `known` is the cost of a known timetable.
+fn find_by_prices<W: Watch>(
+    alloc: Global,
+    instance: &Instance<'_>,
+    effort: Effort,
+    known: Option<u64>,
+    watch: &mut W,
+) -> Result<Parts, AllocError>
+    ensures { IfOk result (AreFound instance.now) }
+{
+    let mut proofs = Vec::new(alloc);
+    if let Some(text) = find_priced(alloc, instance, effort, known, watch)? {
+        proofs.push(text)?;
+    }
+    sum_or_none(alloc, instance, proofs)
+}
+
+/// Searches for proofs that claim distinct targets: claims about groups, and one proof about the rooms, which is a tree of one leaf or a file of
+/// rents; or one file of groups with prices, if that proves more. The entries are those of a known timetable, or none: a group is not tried if
+/// its value would have to be above its cost in that timetable, and nothing is tried after a bound that is the timetable's cost. The watch may
+/// end the search, and take proofs on the way. It makes no promise about how much it finds and how long it takes.
 pub fn find_parts<W: Watch>(
     alloc: Global,
     instance: &Instance<'_>,
@@ -94,8 +128,11 @@ pub fn find_parts<W: Watch>(
     ensures { IfOk result (AreFound instance.now) }
 {
     let proofs = find_texts(alloc, instance, effort, guide, watch)?;
-    match add_up(alloc, instance, proofs)? {
-        Some(parts) => Ok(parts),
-        None => Ok(Parts::none(alloc)),
+    let parts = sum_or_none(alloc, instance, proofs)?;
+    let known = cost_of(alloc, instance, guide)?;
+    if is_greatest(parts.bound, known) || watch.is_over() {
+        return Ok(parts);
     }
+    let priced = find_by_prices(alloc, instance, effort, known, watch)?;
+    Ok(better_of(parts, priced))
 }

@@ -54,7 +54,7 @@ pub struct BestAnswer {
     pub table: Option<Vec<u8>>,
     /// The text of the page that shows it with the bound of the proofs, unless it is too large.
     pub page: Option<Vec<u8>>,
-    /// The texts of the proofs. A file of groups comes first, if there is one; the others are tree proofs.
+    /// The texts of the proofs, at most one of each kind.
     pub proofs: Vec<Vec<u8>>,
 }
 

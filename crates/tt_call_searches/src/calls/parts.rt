@@ -26,7 +26,7 @@ use tt_watch::Watch;
 pub struct PartsAnswer {
     /// The text for standard output.
     pub out: Vec<u8>,
-    /// The texts of the proofs. A file of groups comes first, if there is one; the others are tree proofs.
+    /// The texts of the proofs, at most one of each kind.
     pub proofs: Vec<Vec<u8>>,
 }
 

@@ -1,0 +1,162 @@
+//! A group in a climb: its program, its prices, and the timetable that it chose.
+
+use crate::aim::{Aim, SCALE};
+use crate::draft::Draft;
+use crate::fixed::{ONE, product, rounded, whole};
+use rand_pcg::Pcg32;
+use std::alloc::{AllocError, Global};
+use tt_parts_priced::{Program, Tables};
+use tt_prices::MAX_PRICE;
+
+/// The part of a direction that stays from step to step, in tenths.
+pub const MOMENTUM: i64 = 7;
+
+/// The number of parts.
+pub const PARTS: i64 = 10;
+
+/// A group and its program. Its prices are those of all courses slot by slot: with fractions, whole, and the best ones.
+#[derive(Drop)]
+pub struct Group {
+    pub draft: Draft,
+    pub program: Program,
+    tables: Tables,
+    exact: Vec<i64>,
+    drift: Vec<i64>,
+    prices: Vec<i64>,
+    best: Vec<i64>,
+    plan: Vec<u64>,
+}
+
+/// Returns what is left of a direction, with a new one added.
+pub fn drifted(drift: i64, more: i64) -> i64 {
+    (drift.saturating_mul(MOMENTUM) / PARTS).saturating_add(more)
+}
+
+/// Returns the square of a number with a fraction.
+pub fn square(number: i64) -> i64 {
+    product(number, number)
+}
+
+/// Adds to a number in a place.
+fn add_at(numbers: &mut [i64], place: usize, more: i64) {
+    if let Some(number) = numbers.get_mut(place) {
+        *number = number.saturating_add(more);
+    }
+}
+
+/// Checks whether the course with this index is in the set of a slot.
+fn has(plan: &[u64], index: usize, slot: usize) -> bool {
+    let set = plan.get(slot).copied().unwrap_or(0);
+    (set >> (index % 64)) & 1 == 1
+}
+
+impl Group {
+    /// Returns a group without prices.
+    pub fn new(
+        alloc: Global,
+        draft: Draft,
+        program: Program,
+        slots: usize,
+    ) -> Result<Group, AllocError> {
+        let count = program.courses().len().saturating_mul(slots);
+        let tables = program.tables(alloc)?;
+        Ok(Group {
+            draft,
+            program,
+            tables,
+            exact: vec![in alloc; 0i64; count]?,
+            drift: vec![in alloc; 0i64; count]?,
+            prices: vec![in alloc; 0i64; count]?,
+            best: vec![in alloc; 0i64; count]?,
+            plan: vec![in alloc; 0u64; slots]?,
+        })
+    }
+
+    /// Rounds the prices.
+    pub fn round(&mut self) {
+        let most = i64::from(MAX_PRICE);
+        for (price, exact) in self.prices.iter_mut().zip(&self.exact) {
+            *price = rounded(*exact).min(most).max(-most);
+        }
+    }
+
+    /// Returns the least that the group pays at its prices, and chooses a timetable that pays so much.
+    pub fn value(&mut self, rng: &mut Pcg32) -> i64 {
+        let scale = i64::from(SCALE);
+        let value = self.program.evaluate(scale, &self.prices, &mut self.tables);
+        self.program.trace(scale, &self.tables, rng, &mut self.plan);
+        value
+    }
+
+    /// Keeps the prices as the best ones.
+    pub fn keep(&mut self) {
+        for (best, price) in self.best.iter_mut().zip(&self.prices) {
+            *best = *price;
+        }
+    }
+
+    /// Goes back to the best prices.
+    pub fn restore(&mut self) {
+        for (exact, best) in self.exact.iter_mut().zip(&self.best) {
+            *exact = whole(*best);
+        }
+        self.drift.fill(0);
+    }
+
+    /// Returns the best price of the course with this index in a slot.
+    pub fn best_price(&self, index: usize, slot: usize) -> i64 {
+        let width = self.program.courses().len();
+        let place = slot.wrapping_mul(width).wrapping_add(index);
+        self.best.get(place).copied().unwrap_or(0)
+    }
+
+    /// Adds the prices to those of all groups.
+    pub fn add_prices(&self, aim: &Aim<'_, '_>, totals: &mut [i64]) {
+        let width = self.program.courses().len();
+        for (index, course) in self.program.courses().iter().enumerate() {
+            for slot in 0..aim.slots {
+                let place = slot.wrapping_mul(width).wrapping_add(index);
+                let price = self.prices.get(place).copied().unwrap_or(0);
+                add_at(totals, aim.place(*course as usize, slot), price);
+            }
+        }
+    }
+
+    /// Counts a vote for each slot in which a course is taught.
+    pub fn vote(&self, aim: &Aim<'_, '_>, votes: &mut [u32]) {
+        for (index, course) in self.program.courses().iter().enumerate() {
+            for slot in 0..aim.slots {
+                if has(&self.plan, index, slot) {
+                    if let Some(count) = votes.get_mut(aim.place(*course as usize, slot)) {
+                        *count = count.saturating_add(1);
+                    }
+                }
+            }
+        }
+    }
+
+    /// Turns the direction towards what the group chose and the others didn't. Returns the sum of the squares.
+    pub fn turn(&mut self, aim: &Aim<'_, '_>, means: &[i64]) -> i64 {
+        let courses = self.program.courses();
+        let width = courses.len();
+        let mut norm: i64 = 0;
+        for (place, drift) in self.drift.iter_mut().enumerate() {
+            let index = place.checked_rem(width).unwrap_or(0);
+            let slot = place.checked_div(width).unwrap_or(0);
+            let course = courses.get(index).copied().unwrap_or(0) as usize;
+            let chosen = if has(&self.plan, index, slot) { ONE } else { 0 };
+            let mean = means.get(aim.place(course, slot)).copied().unwrap_or(0);
+            let more = chosen.wrapping_sub(mean);
+            *drift = drifted(*drift, more);
+            norm = norm.saturating_add(square(more));
+        }
+        norm
+    }
+
+    /// Goes a step in the direction.
+    pub fn advance(&mut self, step: i64) {
+        for (exact, drift) in self.exact.iter_mut().zip(&self.drift) {
+            *exact = exact.saturating_add(product(step, *drift));
+        }
+    }
+}

@@ -1,0 +1,18 @@
+//! Searches for prices between groups that share courses, and for rents of rooms.
+#![tactic(auto)]
+
+mod aim;
+mod climb;
+mod clusters;
+mod crowd;
+mod draft;
+mod drafting;
+mod finding;
+mod fixed;
+mod found;
+mod group;
+mod pace;
+mod rents;
+
+pub use finding::{PricesSearch, find_prices};
+pub use found::PricesFound;
