@@ -19,7 +19,8 @@ from concurrent.futures import ThreadPoolExecutor
 from pathlib import Path
 
 PROGRAM = Path(os.environ.get("TT") or Path(__file__).resolve().parent.parent / "crates" / "tt" / "out" / "tt")
-FILES = ("best.sol", "page.html", "groups.proof", "tree.proof")
+PROOFS = ("groups.proof", "prices.proof", "tree.proof")
+FILES = ("best.sol", "page.html", *PROOFS)
 
 
 def run(*words):
@@ -33,7 +34,7 @@ def search(options, instance, folder):
         timetable, proof = folder / "best.sol", folder / "tree.proof"
         return run("solve", instance, timetable, proof, "--nodes", options.nodes, *shared), timetable, [proof]
     done = run("best", instance, folder, "--rounds", options.rounds, *shared)
-    proofs = [folder / name for name in ("groups.proof", "tree.proof")]
+    proofs = [folder / name for name in PROOFS]
     return done, folder / "best.sol", [it for it in proofs if it.exists()]
 
 

@@ -6,7 +6,7 @@
 #
 # The seeds are 1 to N, where N is 16 if it isn't given. An instance like02.ctt needs a solution like02.sol next to it, from which improve
 # begins. OUTDIR/like02.sol is the timetable with the least cost by tt validate. OUTDIR/like02.proofs has the proof with the greatest bound of
-# each kind, groups.proof and rooms.proof, which add up by tt sum. A line for each instance says which seeds made them. The log of a run is
+# each kind, groups.proof, prices.proof and rooms.proof, if these add up by tt sum, and otherwise those of the best seed. A line for each instance says which seeds made them. The log of a run is
 # OUTDIR/like02/SEED.improve.log or SEED.parts.log, and what an earlier call left gets a name that ends in .old.
 #
 # With --hosts the runs are made on these hosts over ssh, and on no others; each needs rsync and this repository, built, at the same path.
@@ -158,8 +158,20 @@ sort_bounds() {
   awk '{ print ($2 == "none" ? 1e15 : $2), $0 }' | sort -k2,2 -k1,1gr -k4,4n | cut -d ' ' -f 2-
 }
 
-# Keeps of each kind of proof the one with the greatest bound, and of equal ones that of the first seed. Groups and prices of rooms claim
-# different parts of the cost, so the two kinds add up, also if two seeds made them.
+# Adds up the proofs of a folder.
+add_up() {
+  find "$2" -name '*.proof' -print0 | sort -z | xargs -0 "$TT" sum "$1/instance.ctt" --quiet
+}
+
+# Prints the first seed whose proofs have the greatest sum of bounds.
+best_seed() {
+  awk '{ sum[$3] += $2 == "none" ? 1e15 : $2 }
+    END { for (it in sum) if (best == "" || sum[it] > sum[best] || sum[it] == sum[best] && it + 0 < best + 0) best = it; print best }' "$1/bounds"
+}
+
+# Keeps of each kind of proof the one with the greatest bound, and of equal ones that of the first seed. Groups and proofs about rooms claim
+# different parts of the cost, so they add up, also if two seeds made them; groups with prices may claim all of it. If the proofs don't add up,
+# those of the seed with the greatest sum are kept.
 keep_proofs() {
   local proof bound seed sum said= status=0
   if [ -z "$(seeds_of "$1")" ]; then echo "$1: no run left proofs" >&2; return 1; fi
@@ -172,9 +184,12 @@ keep_proofs() {
     cp "$1/$seed.proofs/$proof" "$1.proofs/" || return 1
     said="$said${said:+,} $proof $bound by seed $seed"
   done <"$1/bounds"
-  sum=$(find "$1.proofs" -name '*.proof' -print0 | sort -z | xargs -0 "$TT" sum "$1/instance.ctt" --quiet) || {
-    echo "$1: the proofs in $1.proofs don't add up" >&2
-    return 1
+  sum=$(add_up "$1" "$1.proofs" 2>/dev/null) || {
+    seed=$(best_seed "$1")
+    rm -f "$1.proofs"/*
+    cp "$1/$seed.proofs"/*.proof "$1.proofs/" || return 1
+    said=" all by seed $seed"
+    sum=$(add_up "$1" "$1.proofs") || { echo "$1: the proofs in $1.proofs don't add up" >&2; return 1; }
   }
   echo "$1: $sum${said:+:$said}, the best of $(seeds_of "$1" | wc -l)"
   return "$status"
