@@ -23,6 +23,13 @@ pub struct Program {
     steps: u64,
 }
 
+/// A day, and the word of the week that it has.
+#[derive(Clone, Copy)]
+struct DayWord {
+    day: usize,
+    word: usize,
+}
+
 /// Returns the programs of all days, or `None` if one is too large; days with the same availability share a program.
 fn days_of(
     alloc: Global,
@@ -209,11 +216,11 @@ impl Program {
         &self,
         scale: i64,
         tables: &Tables,
-        day: usize,
-        word: usize,
+        at: DayWord,
         rng: &mut Pcg32,
         plan: &mut [u64],
     ) {
+        let DayWord { day, word } = at;
         let (Some(program), Some(rows)) = (self.days.program(day), tables.days.get(day)) else {
             return;
         };
@@ -252,7 +259,8 @@ impl Program {
                 return;
             };
             state = edge.from as usize;
-            self.trace_day(scale, tables, day, edge.label as usize, rng, plan);
+            let word = edge.label as usize;
+            self.trace_day(scale, tables, DayWord { day, word }, rng, plan);
         }
     }
 }

@@ -44,6 +44,9 @@ const CALMER: i64 = 6;
 /// The first share below which no stretch begins.
 const LAST: i64 = 3_000;
 
+/// The maximum number of curricula of a week for which prices are searched.
+const CURRICULA: u32 = 500;
+
 /// What a search for prices may do, and what is known before.
 #[derive(Clone, Copy, Debug)]
 pub struct PricesSearch {
@@ -164,14 +167,17 @@ fn finish<W: Watch>(
     Ok(())
 }
 
-/// Searches for prices and rents that prove a bound. Returns `None` if no groups could be made, or some course has no places. The same seed and
-/// effort give the same prices, unless the watch ends the search.
+/// Searches for prices and rents that prove a bound. Returns `None` if no groups could be made, some course has no places, or there are more than
+/// 500 curricula. The same seed and effort give the same prices, unless the watch ends the search.
 pub fn find_prices<W: Watch>(
     alloc: Global,
     instance: &Instance<'_>,
     search: PricesSearch,
     watch: &mut W,
 ) -> Result<Option<PricesFound>, AllocError> {
+    if CURRICULA < instance.curricula() {
+        return Ok(None);
+    }
     let Some(terms) = Terms::new(alloc, instance, i64::from(SCALE))? else {
         return Ok(None);
     };
