@@ -38,7 +38,7 @@ pub struct Sum {
     pub beyond: u64,
 }
 
-/// The counts of a packed word. A count is either never above what it may be, or it stays there, and what is beyond is paid for.
+/// The counts of a packed word. A count never passes its limit, or it stays at the limit and the further lectures are paid for.
 #[derive(Debug, Drop)]
 pub struct Fields {
     fields: Vec<Field>,
