@@ -1,7 +1,6 @@
 //! Files of rents.
 
 use crate::places::{has_places, periods_of_week};
-use crate::points::points_of;
 use crate::rents::rents_of;
 use std::alloc::{AllocError, Global};
 use tt_instance::Instance;
@@ -45,7 +44,7 @@ pub fn find_rents(
         return Ok(None);
     }
     let rents = rents_of(alloc, instance)?;
-    let points = points_of(instance, &rents).min(MAX_POINTS);
+    let points = rents.points.min(MAX_POINTS);
     if points == 0 {
         return Ok(None);
     }
@@ -54,7 +53,7 @@ pub fn find_rents(
         scale: SCALE,
         has_rooms: true,
     };
-    let list = list_rents(alloc, instance, &rents)?;
+    let list = list_rents(alloc, instance, &rents.of_rooms)?;
     let text = write_prices(alloc, header, &[], &list)?;
     Ok(Some(RentsProof { text, points }))
 }

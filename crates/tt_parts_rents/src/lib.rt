@@ -3,7 +3,6 @@
 
 mod finding;
 mod places;
-mod points;
 mod rents;
 
 pub use finding::{RentsProof, find_rents};

@@ -3,7 +3,9 @@
 //! A lecture of 30 students in a room of 20 seats costs a point for each **size** from 21 to 30: those above the seats of the room, up to
 //! the students. A size is **short** if more lectures have at least so many students than there are places in rooms with at least so many
 //! seats; the difference is what the size costs at least in each timetable. The rent of a room is the number of short sizes up to its
-//! seats. So the bound is the sum of these differences, and no rents that are the same in all periods prove more.
+//! seats. With these rents a lecture pays in each room at least a point for each short size up to its students, so the bound is the sum of
+//! all differences, and no rents that are the same in all periods prove more. Since they are the same, the lectures of a course pay least
+//! all in one room, and no stability comes in.
 
 use crate::places::periods_of_week;
 use std::alloc::{AllocError, Global};
@@ -52,6 +54,8 @@ struct Sweep {
     /// The lectures and the places in rooms that are still to come.
     lectures: u64,
     places: u64,
+    /// What the short sizes cost at least.
+    points: u64,
 }
 
 impl Sweep {
@@ -67,23 +71,34 @@ impl Sweep {
             short: 0,
             lectures,
             places,
+            points: 0,
         }
     }
 
     /// Goes on to a size.
     fn advance(&mut self, size: u32) {
-        if self.places < self.lectures {
+        let missing = self.lectures.saturating_sub(self.places);
+        if missing > 0 {
             let more = size.saturating_sub(self.size);
             self.short = self.short.saturating_add(more).min(MAX_AMOUNT);
+            let points = missing.saturating_mul(u64::from(more));
+            self.points = self.points.saturating_add(points);
         }
         self.size = size;
     }
 }
 
-/// Returns the rent of each room, the same in all periods.
-pub fn rents_of(alloc: Global, instance: &Instance<'_>) -> Result<Vec<u32>, AllocError> {
+/// The rent of each room, the same in all periods, and the bound in cost points.
+#[derive(Drop)]
+pub struct Rents {
+    pub of_rooms: Vec<u32>,
+    pub points: u64,
+}
+
+/// Returns the rents that prove most.
+pub fn rents_of(alloc: Global, instance: &Instance<'_>) -> Result<Rents, AllocError> {
     let periods = u64::from(periods_of_week(instance));
-    let mut rents = vec![in alloc; 0u32; instance.rooms() as usize]?;
+    let mut of_rooms = vec![in alloc; 0u32; instance.rooms() as usize]?;
     let mut sweep = Sweep::new(instance);
     for measured in list_measured(alloc, instance)? {
         sweep.advance(measured.size);
@@ -93,11 +108,14 @@ pub fn rents_of(alloc: Global, instance: &Instance<'_>) -> Result<Vec<u32>, Allo
             }
             Subject::Room(room) => {
                 sweep.places = sweep.places.saturating_sub(periods);
-                if let Some(rent) = rents.get_mut(room as usize) {
+                if let Some(rent) = of_rooms.get_mut(room as usize) {
                     *rent = sweep.short;
                 }
             }
         }
     }
-    Ok(rents)
+    Ok(Rents {
+        of_rooms,
+        points: sweep.points,
+    })
 }
