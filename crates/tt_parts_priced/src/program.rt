@@ -112,6 +112,29 @@ impl Program {
         self.steps
     }
 
+    /// Returns the number of sets that a check tries after some first periods, in all days.
+    pub fn tries(&self) -> u64 {
+        let mut tries: u64 = 0;
+        for day in 0..self.week.len() {
+            let more = self.days.program(day).map_or(0, |program| program.tries);
+            tries = tries.saturating_add(more);
+        }
+        tries
+    }
+
+    /// Returns the maximum number of days that a check tries after some first days.
+    pub fn relaxations(&self) -> u64 {
+        let mut words: u64 = 0;
+        for day in 0..self.week.len() {
+            let more = self
+                .days
+                .program(day)
+                .map_or(0, |program| program.words.len() as u64);
+            words = words.saturating_add(more);
+        }
+        words.saturating_mul(self.shape.states)
+    }
+
     /// Returns the number of sets in which no two courses conflict.
     pub fn sets(&self) -> usize {
         self.shape.sets.len()

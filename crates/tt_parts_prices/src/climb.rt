@@ -1,6 +1,6 @@
 //! A climb: prices of groups and rents of rooms that get better step by step.
 
-use crate::aim::Aim;
+use crate::aim::{Aim, points};
 use crate::fixed::{ONE, share};
 use crate::group::{Group, square};
 use crate::pace::{Pace, Turn};
@@ -10,7 +10,7 @@ use rand_pcg::Pcg32;
 use std::alloc::AllocError;
 use tt_parts_least::Allowance;
 use tt_parts_priced::{Offer, Placing};
-use tt_watch::Watch;
+use tt_watch::{Progress, Unit, Watch};
 
 /// The maximum number of steps of a stretch.
 const STEPS: u32 = 1_000_000;
@@ -57,6 +57,19 @@ fn row<'a, T>(aim: &Aim<'_, '_>, numbers: &'a [T], course: usize) -> &'a [T] {
     numbers
         .get(begin..begin.wrapping_add(aim.slots))
         .unwrap_or(&[])
+}
+
+/// Shows the best bound to the watch.
+fn show<W: Watch>(aim: &Aim<'_, '_>, best: i64, work: &mut Allowance<'_, W>) {
+    let progress = Progress {
+        unit: Unit::Steps,
+        done: aim.effort.saturating_sub(work.left()),
+        limit: aim.effort,
+        best: None,
+        bound: Some(points(best)),
+        tried: None,
+    };
+    work.watch.see(progress, &[]);
 }
 
 impl Climb {
@@ -234,6 +247,7 @@ impl Climb {
             let turn = self.pace.judge(bound);
             if turn == Turn::Keep {
                 self.keep();
+                show(aim, bound, work);
             }
             if aim.is_reached(self.pace.best) {
                 return Ok(End::Done);

@@ -7,24 +7,49 @@ use crate::draft::Draft;
 use crate::drafting::{count_lectures, give_days};
 use crate::found::{PricesFound, found_by};
 use crate::group::Group;
+use crate::size::{Size, is_too_much};
+use crate::wide::widen;
 use std::alloc::{AllocError, Global};
 use tt_instance::Instance;
 use tt_parts_least::Allowance;
 use tt_parts_priced::{Limits, Program, Terms};
 use tt_watch::Watch;
 
-/// The maximum numbers of sets of a group's courses, one for each way to make groups.
-const SETS: [usize; 4] = [16, 32, 64, 128];
+/// A way to make groups: their courses have at most so many sets, or there are at most so many courses.
+#[derive(Clone, Copy, Debug)]
+enum Way {
+    Sets(usize),
+    Courses(usize),
+}
+
+/// The ways that are tried.
+const WAYS: [Way; 8] = [
+    Way::Sets(16),
+    Way::Sets(32),
+    Way::Sets(64),
+    Way::Sets(128),
+    Way::Courses(6),
+    Way::Courses(7),
+    Way::Courses(8),
+    Way::Courses(12),
+];
+
+/// The way that is taken if the others are too much work.
+const LAST_WAY: Way = Way::Sets(8);
 
 /// The maximum number of states up to which a group's lectures are counted at first.
 const STATES: u64 = 512;
 
-/// The limits of a group that may be checked.
-const LIMITS: Limits = Limits {
-    sets: 4_096,
-    states: 1_048_576,
-    edges: 4_194_304,
-};
+/// The maximum numbers of sets and of states of a group that may be checked.
+const MAX_SETS: usize = 4_096;
+
+const MAX_STATES: u64 = 1_048_576;
+
+/// The maximum number of edges of a layer.
+const MAX_EDGES: u64 = 4_194_304;
+
+/// The part of the work of a step that a layer may be.
+const LAYER: u64 = 8;
 
 /// The least number of steps of a climb.
 const CLIMB: u64 = 300;
@@ -61,30 +86,44 @@ fn are_same(first: &[Draft], second: &[Draft]) -> bool {
             == other.curricula.as_slice())
 }
 
+/// Returns the limits of a group, where a step takes at most so much work.
+fn limits_of(most: u64) -> Limits {
+    let edges = (most / LAYER).min(MAX_EDGES);
+    Limits {
+        sets: MAX_SETS,
+        states: MAX_STATES,
+        edges: usize::try_from(edges).unwrap_or(usize::MAX),
+    }
+}
+
 /// Returns the groups, or `None` if one is too large, or all together take more than `most` steps of work.
 fn groups_of(
     aim: &Aim<'_, '_>,
     drafts: &[Draft],
     most: u64,
 ) -> Result<Option<Vec<Group>>, AllocError> {
-    let mut groups = Vec::new(aim.alloc);
-    let mut work: u64 = 0;
+    let (alloc, limits) = (aim.alloc, limits_of(most));
+    let mut groups = Vec::new(alloc);
+    let mut size = Size::NONE;
     for draft in drafts {
-        let Some(program) = Program::new(aim.alloc, aim.instance, draft.targets(), LIMITS)? else {
+        let Some(program) = Program::new(alloc, aim.instance, draft.targets(), limits)? else {
             return Ok(None);
         };
-        work = work.saturating_add(program.steps());
-        if most < work {
+        size = size.with(&program);
+        if is_too_much(&program) || !size.is_within(most) {
             return Ok(None);
         }
-        groups.push(Group::new(aim.alloc, draft.copy(aim.alloc)?, program, aim.slots)?)?;
+        groups.push(Group::new(alloc, draft.copy(alloc)?, program, aim.slots)?)?;
     }
     Ok(Some(groups))
 }
 
 /// Returns the curricula in groups, with the working days and the counted lectures of each.
-fn drafts_of(aim: &Aim<'_, '_>, sets: usize) -> Result<Vec<Draft>, AllocError> {
-    let mut drafts = join_curricula(aim.alloc, aim.instance, sets)?;
+fn drafts_of(aim: &Aim<'_, '_>, way: Way) -> Result<Vec<Draft>, AllocError> {
+    let mut drafts = match way {
+        Way::Sets(most) => join_curricula(aim.alloc, aim.instance, most)?,
+        Way::Courses(most) => widen(aim.alloc, aim.instance, most)?,
+    };
     give_days(aim.alloc, aim.instance, &mut drafts)?;
     for draft in drafts.iter_mut() {
         count_lectures(aim.alloc, aim.instance, draft, STATES)?;
@@ -92,7 +131,7 @@ fn drafts_of(aim: &Aim<'_, '_>, sets: usize) -> Result<Vec<Draft>, AllocError> {
     Ok(drafts)
 }
 
-/// Returns a climb for each way to make groups that isn't too much work.
+/// Returns a climb for each way to make groups that isn't too much work, or for one if all are.
 fn climbs_of<W: Watch>(
     aim: &Aim<'_, '_>,
     search: PricesSearch,
@@ -100,18 +139,23 @@ fn climbs_of<W: Watch>(
 ) -> Result<Vec<Climb>, AllocError> {
     let mut climbs = Vec::new(aim.alloc);
     let mut seen: Vec<Vec<Draft>> = Vec::new(aim.alloc);
-    for sets in SETS {
-        let drafts = drafts_of(aim, sets)?;
+    for way in WAYS {
+        let drafts = drafts_of(aim, way)?;
         if work.is_ended() || seen.iter().any(|other| are_same(other, &drafts)) {
             continue;
         }
-        let most = search.effort / CLIMB;
-        if let Some(groups) = groups_of(aim, &drafts, most)? {
+        if let Some(groups) = groups_of(aim, &drafts, search.effort / CLIMB)? {
             let climb = Climb::new(aim, groups, search.seed)?;
             work.spend(climb.work(aim).saturating_mul(ROUND));
             climbs.push(climb)?;
         }
         seen.push(drafts)?;
+    }
+    if climbs.is_empty() {
+        let drafts = drafts_of(aim, LAST_WAY)?;
+        if let Some(groups) = groups_of(aim, &drafts, u64::MAX)? {
+            climbs.push(Climb::new(aim, groups, search.seed)?)?;
+        }
     }
     Ok(climbs)
 }
@@ -123,7 +167,7 @@ fn race<W: Watch>(
     mut climbs: Vec<Climb>,
     work: &mut Allowance<'_, W>,
 ) -> Result<Option<Climb>, AllocError> {
-    for _ in SETS {
+    for _ in WAYS {
         let count = climbs.len();
         if count < 2 {
             break;
@@ -181,6 +225,7 @@ pub fn find_prices<W: Watch>(
         instance,
         terms: &terms,
         target: search.target,
+        effort: search.effort,
         courses: instance.courses() as usize,
         slots: days.saturating_mul(periods),
         rooms: instance.rooms() as usize,

@@ -13,6 +13,8 @@ mod found;
 mod group;
 mod pace;
 mod rents;
+mod size;
+mod wide;
 
 pub use finding::{PricesSearch, find_prices};
 pub use found::PricesFound;
