@@ -35,7 +35,9 @@ pub fn units(points: u64) -> i64 {
 
 /// Returns units of price as points, rounded up; 0 if there are none.
 pub fn points(units: i64) -> u64 {
-    u64::try_from(units).unwrap_or(0).div_ceil(u64::from(SCALE))
+    u64::try_from(units)
+        .unwrap_or(0)
+        .div_ceil(u64::from(SCALE))
 }
 
 impl Aim<'_, '_> {

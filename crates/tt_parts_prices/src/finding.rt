@@ -7,12 +7,14 @@ use crate::draft::Draft;
 use crate::drafting::{count_lectures, give_days};
 use crate::found::{PricesFound, found_by};
 use crate::group::Group;
+use crate::growing::grow_groups;
+use crate::limit::limits_of;
 use crate::size::{Size, is_too_much};
 use crate::wide::widen;
 use std::alloc::{AllocError, Global};
 use tt_instance::Instance;
 use tt_parts_least::Allowance;
-use tt_parts_priced::{Limits, Program, Terms};
+use tt_parts_priced::{Program, Terms};
 use tt_watch::Watch;
 
 /// A way to make groups: their courses have at most so many sets, or there are at most so many courses.
@@ -40,17 +42,6 @@ const LAST_WAY: Way = Way::Sets(8);
 /// The maximum number of states up to which a group's lectures are counted at first.
 const STATES: u64 = 512;
 
-/// The maximum numbers of sets and of states of a group that may be checked.
-const MAX_SETS: usize = 4_096;
-
-const MAX_STATES: u64 = 1_048_576;
-
-/// The maximum number of edges of a layer.
-const MAX_EDGES: u64 = 4_194_304;
-
-/// The part of the work of a step that a layer may be.
-const LAYER: u64 = 8;
-
 /// The least number of steps of a climb.
 const CLIMB: u64 = 300;
 
@@ -62,6 +53,12 @@ const THIRD: usize = 3;
 
 /// The maximum number of stretches.
 const STRETCHES: u32 = 100;
+
+/// The factor by which a step may take more work after a stretch.
+const DEARER: u64 = 2;
+
+/// The least number of steps that the whole effort has to allow after groups have grown.
+const GROWN: u64 = 60;
 
 /// What is left of the first share from stretch to stretch, in tenths.
 const CALMER: i64 = 6;
@@ -84,16 +81,6 @@ fn are_same(first: &[Draft], second: &[Draft]) -> bool {
     first.len() == second.len()
         && first.iter().zip(second).all(|(one, other)| one.curricula.as_slice()
             == other.curricula.as_slice())
-}
-
-/// Returns the limits of a group, where a step takes at most so much work.
-fn limits_of(most: u64) -> Limits {
-    let edges = (most / LAYER).min(MAX_EDGES);
-    Limits {
-        sets: MAX_SETS,
-        states: MAX_STATES,
-        edges: usize::try_from(edges).unwrap_or(usize::MAX),
-    }
 }
 
 /// Returns the groups, or `None` if one is too large, or all together take more than `most` steps of work.
@@ -187,7 +174,7 @@ fn race<W: Watch>(
     Ok(climbs.pop())
 }
 
-/// Goes up in stretches, until the work is used up or nothing is gained.
+/// Goes up in stretches, between which groups grow, until the work is used up or nothing is gained.
 fn finish<W: Watch>(
     aim: &Aim<'_, '_>,
     climb: &mut Climb,
@@ -199,7 +186,14 @@ fn finish<W: Watch>(
         }
         match climb.go(aim, u64::MAX, work)? {
             End::Work | End::Agreed | End::Done => break,
-            End::Stale => climb.pace.restart(CALMER),
+            End::Stale => {}
+        }
+        let dearer = climb.work(aim).saturating_mul(DEARER);
+        let gain = grow_groups(aim, climb, dearer.min(aim.effort / GROWN), work)?;
+        if gain > 0 {
+            climb.pace.gain(gain);
+        } else {
+            climb.pace.restart(CALMER);
         }
         if climb.pace.first() < LAST {
             break;

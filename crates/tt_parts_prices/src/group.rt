@@ -88,6 +88,30 @@ impl Group {
         value
     }
 
+    /// Returns the best prices of all courses slot by slot.
+    pub fn best(&self) -> &[i64] {
+        &self.best
+    }
+
+    /// Returns the least that the group pays at its best prices.
+    pub fn value_at_best(&mut self) -> i64 {
+        self.program
+            .evaluate(i64::from(SCALE), &self.best, &mut self.tables)
+    }
+
+    /// Replaces the program by one of the same courses.
+    pub fn replace(
+        &mut self,
+        alloc: Global,
+        draft: Draft,
+        program: Program,
+    ) -> Result<(), AllocError> {
+        self.tables = program.tables(alloc)?;
+        self.draft = draft;
+        self.program = program;
+        Ok(())
+    }
+
     /// Keeps the prices as the best ones.
     pub fn keep(&mut self) {
         for (best, price) in self.best.iter_mut().zip(&self.prices) {

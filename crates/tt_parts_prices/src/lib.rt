@@ -11,6 +11,8 @@ mod finding;
 mod fixed;
 mod found;
 mod group;
+mod growing;
+mod limit;
 mod pace;
 mod rents;
 mod size;

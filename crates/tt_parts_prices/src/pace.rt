@@ -72,6 +72,13 @@ impl Pace {
         self.phase = i64::MIN;
     }
 
+    /// Begins a stretch of groups that have grown and gain this much at the best prices.
+    pub fn gain(&mut self, gain: i64) {
+        self.best = self.best.saturating_add(gain);
+        self.first = FIRST / 2;
+        self.restart(PARTS);
+    }
+
     /// Returns the first share of the stretch.
     pub fn first(&self) -> i64 {
         self.first

@@ -94,8 +94,7 @@ impl Wide {
         }
         let inside = free
             .iter()
-            .filter(|other| !self.curricula.contains(*other)
-                && is_inside(instance, **other, &courses))
+            .filter(|other| !self.curricula.contains(*other) && is_inside(instance, **other, &courses))
             .count() as u64;
         Ok(inside.saturating_mul(UNITS).checked_div(new as u64))
     }
