@@ -82,7 +82,7 @@ def same(told, wanted):
 
 def at_byte(told, what, most):
     """A refusal of a text, at one of its first bytes or at its end."""
-    found = re.fullmatch(rb"refused: " + what + rb": [A-Za-z]+( [A-Za-z_]+[:.]| CTTP| 1| bound| end)? at byte (\d+)\n", told[2])
+    found = re.fullmatch(rb"refused: " + what + rb": [A-Za-z]+( [A-Za-z_]+[:.]| CTTP| 1| 2| bound| scale| end)? at byte (\d+)\n", told[2])
     assert told[:2] == (2, b"") and found and int(found[2]) <= most, f"{told}"
 
 
@@ -152,7 +152,8 @@ def values_of_prices(desk):
         (begun + b"periods G / c0 / / / c0 +1000000 ; end", refused(b"proof 1: TooCheap")),
         (begun + b"periods G / c0 / / / c0 +1000001 ; end", refused(b"proof 1: PriceTooLarge at byte 47")),
         (begun + b"periods G / c0 / / / c0 -1000001 ; end", refused(b"proof 1: PriceTooLarge at byte 47")),
-        (begun + b"rooms R r0 +1000000 ; end", (0, b"bound 0\n", b"")),
+        (begun + b"rooms R r0 +1000000 ; end", refused(b"proof 1: TooCheap")),
+        (begun + b"rooms R r0 +1000001 ; end", refused(b"proof 1: PriceTooLarge at byte 34")),
         (begun + b"rooms R r0 -1 ; end", refused(b"proof 1: UnknownWord at byte 34")),
         (begun + b"rooms R r0 +0 x2 ; end", (0, b"bound 0\n", b"")),
         (begun + b"rooms R r0 +0 x3 ; end", refused(b"proof 1: TooManyPrices at byte 37")),
