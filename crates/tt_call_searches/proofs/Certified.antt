@@ -14,6 +14,7 @@ use Rattle.tt_moves.specs.Changes.{IsLower}
 use Rattle.tt_leaf.specs.declared.leaf.Bound.{Bound}
 use Rattle.tt_leaf.specs.declared.leaf.Bound.TheVariants.{AtLeast}
 use Rattle.tt_page.specs.Pages.{page_text}
+use Rattle.tt_page.specs.declared.proved.Proved.TheVariants as proved
 use Rattle.tt_page_text.specs.Labels.{no_labels}
 use Rattle.tt_proof_check.specs.Derives.{HoldsOfAll}
 use Rattle.tt_proof_check.specs.Headline.{BoundsAll}
@@ -30,12 +31,12 @@ pub record IsWhole {A : Type 0} (instance solution : List ℕ) (files : List (Li
   pub certified : CertifiesSum instance solution files c b
   pub bounds : BoundsAll instance b
   pub within : b ≤ c
-  pub shown : ShowsPage page (page_text certified.solves.problem certified.solves.table no_labels (Some (AtLeast b)) style)
+  pub shown : ShowsPage page (page_text certified.solves.problem certified.solves.table no_labels (proved.AtLeast b) style)
 
 -- they certify them if the solution spells a feasible timetable of this cost, and the bound is the sum
 pub whole : {A : Type 0} (i s : List ℕ) (p : Problem) (t : List Cell) (files : List (List ℕ)) (page : Option (Vec ℕ A)) (style : List ℕ)
     (sum : Bound) (c b : ℕ) → Spells i p → SpellsTable p s t → IsFeasible p t → c ≡ cost p t → IsSum p files sum → HoldsOfAll p sum
-    → sum ≡ AtLeast b → ShowsPage page (page_text p t no_labels (Some (AtLeast b)) style) → IsWhole i s files page style c b
+    → sum ≡ AtLeast b → ShowsPage page (page_text p t no_labels (proved.AtLeast b) style) → IsWhole i s files page style c b
 whole i s p t files page style sum c b spells solved feasible costs is holds e shown =
     let here : HoldsOfAll p (AtLeast b) = subst (λ (x : Bound). HoldsOfAll p x) e holds in
     record {

@@ -1,11 +1,20 @@
 -- The answer of `best` for the bytes of an instance.
-use Rattle.std.specs.Prelude.{◌≡◌, ◌≤◌, ◌⊎◌, ℕ, List, Vec, Option, Some, None, IsSomeAnd, IfSome}
+use Rattle.std.specs.Prelude.{◌≡◌, ◌≤◌, ◌⊎◌, ℕ, List, [], Vec, Option, Some, None, IsSomeAnd, IfSome}
 use Rattle.tt_instance.specs.Problem.{Problem}
 use Rattle.tt_instance.specs.Spelling.{Spells}
+use Rattle.tt_instance.specs.declared.cell.Cell.{Cell}
+use Rattle.tt_table.specs.Spelling.{solution_text}
+use Rattle.tt_table.specs.Table.{IsTimetable}
+use Rattle.tt_rules.specs.Score.{IsFeasible}
 use Rattle.tt_leaf.specs.declared.leaf.Bound.{Bound}
-use Rattle.tt_leaf.specs.declared.leaf.Bound.TheVariants.{AtLeast}
+use Rattle.tt_leaf.specs.declared.leaf.Bound.TheVariants.{Nothing}
+use Rattle.tt_leaf.specs.declared.leaf.Leaf.TheVariants as leaf
+use Rattle.tt_leaf_rules.specs.Leaves.{IsRight}
 use Rattle.tt_page.specs.Limits.{IsWithinLimit}
 use Rattle.tt_page.specs.Pages.{page_text}
+use Rattle.tt_page.specs.Proofs.{proved_of}
+use Rattle.tt_page.specs.declared.proved.Proved.{Proved}
+use Rattle.tt_page.specs.declared.proved.Proved.TheVariants.{AtLeast, Clique, Slots}
 use Rattle.tt_page_text.specs.Labels.{no_labels}
 use Rattle.tt_page_text.specs.Puts.{IsTooLarge}
 use Rattle.tt_proof_check.specs.Derives.{HoldsOfAll}
@@ -32,25 +41,39 @@ pub record IsBestFound (instance style : List ℕ) (a : BestAnswer) : Type 0 whe
   pub bounds : BoundsAll instance bound
   pub within : bound ≤ cost
   pub file : IsSomeAnd a.table (λ v. v.items ≡ solution)
-  pub page : ShowsPage a.page (page_text certified.solves.problem certified.solves.table no_labels (Some (AtLeast bound)) style)
+  pub page : ShowsPage a.page (page_text certified.solves.problem certified.solves.table no_labels (AtLeast bound) style)
+  pub no_partial : a.partial ≡ None
   pub text : a.out.items ≡ best_line cost bound
   pub status : a.status ≡ 0
 
--- The answer has no timetable. The proofs add up to the bound in the line, which holds for every timetable that breaks no hard rule.
-pub record IsNoneFound (instance : List ℕ) (a : BestAnswer) : Type 0 where
+-- A page says this if the bound holds: the bound, or courses of which all lectures can't be placed, by the rule of their leaf.
+abbrev pub IsProvedBy : Problem → Bound → Proved → Type 0
+IsProvedBy p Nothing (Clique cs) = IsRight p [] Nothing (leaf.Clique cs)
+IsProvedBy p Nothing (Slots cs) = IsRight p [] Nothing (leaf.Slots cs)
+IsProvedBy p b proved = proved ≡ proved_of b
+
+-- The answer has no timetable that breaks no hard rule. The proofs add up to the bound in the line, which holds for every such timetable. There
+-- is a timetable that breaks hard rules, and the page shows it and what is proved, in this style, unless it would be too large.
+pub record IsNoneFound (instance style : List ℕ) (a : BestAnswer) : Type 0 where
   pub problem : Problem
   pub spelled : Spells instance problem
+  pub table : List Cell
+  pub fits : IsTimetable problem table
+  pub broken : ¬ IsFeasible problem table
   pub bound : Bound
   pub sum : IsSum problem (texts_of a.proofs.items) bound
   pub holds : HoldsOfAll problem bound
+  pub proved : Proved
+  pub proved_by : IsProvedBy problem bound proved
   pub no_file : a.table ≡ None
-  pub no_page : a.page ≡ None
+  pub partial : IsSomeAnd a.partial (λ v. v.items ≡ solution_text problem table)
+  pub page : ShowsPage a.page (page_text problem table no_labels proved style)
   pub text : a.out.items ≡ none_line bound
   pub status : a.status ≡ 1
 
--- The answer of `best` has a timetable with a proved bound, or no timetable and a proved bound.
+-- The answer of `best` has a timetable with a proved bound, or one that breaks hard rules and a proved bound.
 abbrev pub IsBest : List ℕ → List ℕ → BestAnswer → Type 0
-IsBest i style a = IsBestFound i style a ⊎ IsNoneFound i a
+IsBest i style a = IsBestFound i style a ⊎ IsNoneFound i style a
 
 -- The answer has a timetable with a proved bound that costs at most this much.
 pub record CostsAtMost (instance style : List ℕ) (most : ℕ) (a : BestAnswer) : Type 0 where

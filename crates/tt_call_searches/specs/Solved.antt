@@ -1,10 +1,11 @@
 -- The answer of `solve` for the bytes of an instance.
-use Rattle.std.specs.Prelude.{◌≡◌, ℕ, ◌⊎◌, Bool, List, Option, Err, All, option_map, if◌then◌else◌, is_some, IsSomeAnd, ⊤}
+use Rattle.std.specs.Prelude.{◌≡◌, ℕ, ◌⊎◌, Bool, List, Option, Some, None, Err, All, if◌then◌else◌, is_some, IsSomeAnd, ⊤}
 use Rattle.tt_instance.specs.Problem.{Problem}
 use Rattle.tt_instance_read.specs.Reading.{instance_of}
 use Rattle.tt_instance.specs.Spelling.{Spells}
 use Rattle.tt_instance.specs.declared.cell.Cell.{Cell}
 use Rattle.tt_table.specs.Spelling.{solution_text}
+use Rattle.tt_table.specs.Table.{IsTimetable}
 use Rattle.tt_leaf.specs.declared.leaf.Bound.{Bound}
 use Rattle.tt_proof_read.specs.declared.node.Node.{Node}
 use Rattle.tt_proof_write.specs.Within.{FitsFile, IsNodeIn}
@@ -30,11 +31,16 @@ pub record IsOverLong (b : Bound) (nodes : List Node) : Type 0 where
   pub version : ℕ
   pub large : ¬ FitsFile version b nodes
 
--- the line of a search, its status, and its files: the file of the best timetable, if there is one, and the file of the proof
+-- the text of the best timetable; if there is none, that of a timetable which may break hard rules
+abbrev pub IsTableText : Problem → Option (List Cell) → List ℕ → Type 0
+IsTableText p (Some t) bytes = bytes ≡ solution_text p t
+IsTableText p None bytes = (t : List Cell) × IsTimetable p t × (bytes ≡ solution_text p t)
+
+-- the line of a search, its status, and its files: that of a timetable, and that of the proof
 pub record IsSearchAnswer (p : Problem) (best : Option (List Cell)) (b : Bound) (nodes : List Node) (finished : Bool) (a : Answer) : Type 0 where
   pub text : a.out.items ≡ solve_line p best b finished
   pub status : a.status ≡ (if is_some best then 0 else 1)
-  pub table : option_map (λ v. v.items) a.table ≡ option_map (solution_text p) best
+  pub table : IsSomeAnd a.table (λ v. IsTableText p best v.items)
   pub proof : IsSomeAnd a.proof (λ v. IsProofFile b nodes v.items)
 
 -- The answer is that of a search on the spelled instance that opens at most this many nodes; it opens all of them, unless each is closed before

@@ -1,5 +1,5 @@
 -- The answers of `page` and `proved_page`, from the results of their steps.
-use Rattle.std.proofs.Common.{◌≡◌, ℕ, List, Option, None, Some, Ok, refl, subst}
+use Rattle.std.proofs.Common.{◌≡◌, ℕ, List, Option, Ok, refl, subst}
 use Rattle.tt_text.specs.Reading.{FailsUnless}
 use Rattle.tt_text.specs.Sinks.{TakesPart}
 use Rattle.tt_instance.specs.Problem.{Problem}
@@ -9,6 +9,9 @@ use Rattle.tt_table.specs.Spelling.{SpellsBoth, SpellsTable}
 use Rattle.tt_leaf.specs.declared.leaf.Bound.{Bound}
 use Rattle.tt_page.specs.Faults.{ExplainsSize}
 use Rattle.tt_page.specs.Pages.{page_text}
+use Rattle.tt_page.specs.Proofs.{proved_of}
+use Rattle.tt_page.specs.declared.proved.Proved.{Proved}
+use Rattle.tt_page.specs.declared.proved.Proved.TheVariants.{Unproved}
 use Rattle.tt_page.specs.declared.fault.PageFault.{PageFault}
 use Rattle.tt_page.specs.declared.fault.PageFault.TheVariants as page
 use Rattle.tt_page_text.specs.Labelled.{Labelled}
@@ -87,7 +90,7 @@ module _ (i s : List ℕ) (p : Problem) (t : List Cell) (names : PageNames) (spe
 
   -- an error of the page's output is reported
   pub plain_page_tells : (style : List ℕ) (l : Labelled) (before after : Option (List ℕ)) (f : PageFault) → labels_for p names ≡ Ok l
-      → (f ≡ page.Write → TakesPart before after (page_text p t l None style)) → ExplainsSize f (page_text p t l None style)
+      → (f ≡ page.Write → TakesPart before after (page_text p t l Unproved style)) → ExplainsSize f (page_text p t l Unproved style)
       → IsPageRefusal i s names style before after (fault_from_page f)
   plain_page_tells style l before after page.Write named part size =
       record { problem = p; table = t; labels = l; both = both; named = named; within = size; part = part refl }
@@ -98,7 +101,7 @@ module _ (i s : List ℕ) (p : Problem) (t : List Cell) (names : PageNames) (spe
   pub page_tells : (style : List ℕ) (l : Labelled) (b : Bound) (gives : List (List ℕ) → Type 0) (before after : Option (List ℕ))
       (f : PageFault) → labels_for p names ≡ Ok l
       → ((proofs : List (List ℕ)) → gives proofs → IsSum p proofs b) → HoldsOfAll p b
-      → (f ≡ page.Write → TakesPart before after (page_text p t l (Some b) style)) → ExplainsSize f (page_text p t l (Some b) style)
+      → (f ≡ page.Write → TakesPart before after (page_text p t l (proved_of b) style)) → ExplainsSize f (page_text p t l (proved_of b) style)
       → IsProvedPageRefusal i s names style gives before after (fault_from_page f)
   page_tells style l b gives before after page.Write named sum holds part size = record {
     bound = b;
@@ -115,7 +118,7 @@ module _ (i s : List ℕ) (p : Problem) (t : List Cell) (names : PageNames) (spe
   page_tells style l b gives before after page.OutOfMemory named sum holds part size = tt
 
 -- the page of the instance and the timetable that were read is that of those that the bytes spell
-pub page_same : (i s : List ℕ) (p read : Problem) (t found : List Cell) (names : PageNames) (l m : Labelled) (a c : Option Bound)
+pub page_same : (i s : List ℕ) (p read : Problem) (t found : List Cell) (names : PageNames) (l m : Labelled) (a c : Proved)
     (style : List ℕ) → SpellsBoth i s p t → Spells i read → SpellsTable read s found
     → labels_for p names ≡ Ok l → labels_for read names ≡ Ok m → c ≡ a → page_text read found m c style ≡ page_text p t l a style
 page_same i s p read t found names l m a c style both spells solved named given e =

@@ -1,5 +1,5 @@
 -- The bytes that `page` and `proved_page` write for the bytes of an instance, of a solution and of proofs.
-use Rattle.std.specs.Prelude.{◌≡◌, ◌⊎◌, ℕ, List, Option, Some, None, Result, Ok, Err, ⊤}
+use Rattle.std.specs.Prelude.{◌≡◌, ◌⊎◌, ℕ, List, Option, Result, Ok, Err, ⊤}
 use Rattle.std.specs.Io.KnownBytes.{Appends}
 use Rattle.std.specs.Option.{option_copied}
 use Rattle.tt_instance.specs.Problem.{Problem}
@@ -8,6 +8,9 @@ use Rattle.tt_instance.specs.declared.cell.Cell.{Cell}
 use Rattle.tt_leaf.specs.declared.leaf.Bound.{Bound}
 use Rattle.tt_page.specs.Limits.{IsWithinLimit}
 use Rattle.tt_page.specs.Pages.{page_text}
+use Rattle.tt_page.specs.Proofs.{proved_of}
+use Rattle.tt_page.specs.declared.proved.Proved.{Proved}
+use Rattle.tt_page.specs.declared.proved.Proved.TheVariants.{Unproved}
 use Rattle.tt_page_text.specs.Labelled.{Labelled}
 use Rattle.tt_page_text.specs.Labels.{labels_of}
 use Rattle.tt_page_text.specs.Puts.{IsTooLarge}
@@ -50,8 +53,8 @@ IsBeforeProofs _ = ⊥
 
 -- ---- the page
 
--- the page of the timetable was written, with the labels that the names spell and this bound, and the status reports it
-pub record IsPagedWith (proved : Option Bound) (instance solution : List ℕ) (names : PageNames) (style : List ℕ) (before after : Option (List ℕ)) (status : ℕ) : Type 0 where
+-- the page of the timetable was written, with the labels that the names spell and what is proved, and the status reports it
+pub record IsPagedWith (proved : Proved) (instance solution : List ℕ) (names : PageNames) (style : List ℕ) (before after : Option (List ℕ)) (status : ℕ) : Type 0 where
   pub problem : Problem
   pub table : List Cell
   pub labels : Labelled
@@ -62,7 +65,7 @@ pub record IsPagedWith (proved : Option Bound) (instance solution : List ℕ) (n
   pub done : status ≡ 0
 
 -- a write failed on the way
-pub record IsPagedPartlyWith (proved : Option Bound) (instance solution : List ℕ) (names : PageNames) (style : List ℕ) (before after : Option (List ℕ)) : Type 0 where
+pub record IsPagedPartlyWith (proved : Proved) (instance solution : List ℕ) (names : PageNames) (style : List ℕ) (before after : Option (List ℕ)) : Type 0 where
   pub problem : Problem
   pub table : List Cell
   pub labels : Labelled
@@ -72,7 +75,7 @@ pub record IsPagedPartlyWith (proved : Option Bound) (instance solution : List �
   pub part : TakesPart before after (page_text problem table labels proved style)
 
 -- the files are spelled and the names fit, but the page is too large
-pub record IsPageTooLargeWith (proved : Option Bound) (instance solution : List ℕ) (names : PageNames) (style : List ℕ) : Type 0 where
+pub record IsPageTooLargeWith (proved : Proved) (instance solution : List ℕ) (names : PageNames) (style : List ℕ) : Type 0 where
   pub problem : Problem
   pub table : List Cell
   pub labels : Labelled
@@ -82,7 +85,7 @@ pub record IsPageTooLargeWith (proved : Option Bound) (instance solution : List 
 
 -- the page shows no bound
 abbrev pub IsPaged : List ℕ → List ℕ → PageNames → List ℕ → Option (List ℕ) → Option (List ℕ) → ℕ → Type 0
-IsPaged instance solution names style before after status = IsPagedWith None instance solution names style before after status
+IsPaged instance solution names style before after status = IsPagedWith Unproved instance solution names style before after status
 
 -- a refusal reports the first error: the instance's, then the solution's, then the names', then that the page is too large, then that of a write
 abbrev pub IsPageRefusal : List ℕ → List ℕ → PageNames → List ℕ → Option (List ℕ) → Option (List ℕ) → AppFault → Type 0
@@ -91,8 +94,8 @@ IsPageRefusal instance solution names style before after (fault.Solution f) = Fa
 IsPageRefusal instance solution names style before after fault.DayNames = FailsNames instance solution names labels.Days
 IsPageRefusal instance solution names style before after fault.PeriodNames = FailsNames instance solution names labels.Periods
 IsPageRefusal instance solution names style before after fault.OutOfMemory = ⊤
-IsPageRefusal instance solution names style before after fault.PageTooLarge = IsPageTooLargeWith None instance solution names style
-IsPageRefusal instance solution names style before after fault.CannotWrite = IsPagedPartlyWith None instance solution names style before after
+IsPageRefusal instance solution names style before after fault.PageTooLarge = IsPageTooLargeWith Unproved instance solution names style
+IsPageRefusal instance solution names style before after fault.CannotWrite = IsPagedPartlyWith Unproved instance solution names style before after
 IsPageRefusal instance solution names style before after _ = ⊥
 
 -- ---- the page with a bound
@@ -100,21 +103,21 @@ IsPageRefusal instance solution names style before after _ = ⊥
 -- the page was written with the bound that the proofs derive together, if their readers give these bytes, and it holds
 pub record IsProvedPaged (instance solution : List ℕ) (names : PageNames) (style : List ℕ) (gives : List (List ℕ) → Type 0) (before after : Option (List ℕ)) (status : ℕ) : Type 0 where
   pub bound : Bound
-  pub paged : IsPagedWith (Some bound) instance solution names style before after status
+  pub paged : IsPagedWith (proved_of bound) instance solution names style before after status
   pub sum : (proofs : List (List ℕ)) → gives proofs → IsSum paged.problem proofs bound
   pub holds : HoldsOfAll paged.problem bound
 
 -- a write failed on the way
 pub record IsProvedPagedPartly (instance solution : List ℕ) (names : PageNames) (style : List ℕ) (gives : List (List ℕ) → Type 0) (before after : Option (List ℕ)) : Type 0 where
   pub bound : Bound
-  pub paged : IsPagedPartlyWith (Some bound) instance solution names style before after
+  pub paged : IsPagedPartlyWith (proved_of bound) instance solution names style before after
   pub sum : (proofs : List (List ℕ)) → gives proofs → IsSum paged.problem proofs bound
   pub holds : HoldsOfAll paged.problem bound
 
 -- the page with this bound is too large
 pub record IsProvedPageTooLarge (instance solution : List ℕ) (names : PageNames) (style : List ℕ) (gives : List (List ℕ) → Type 0) : Type 0 where
   pub bound : Bound
-  pub paged : IsPageTooLargeWith (Some bound) instance solution names style
+  pub paged : IsPageTooLargeWith (proved_of bound) instance solution names style
   pub sum : (proofs : List (List ℕ)) → gives proofs → IsSum paged.problem proofs bound
   pub holds : HoldsOfAll paged.problem bound
 

@@ -13,7 +13,13 @@ pub const TABLE: FolderFile = FolderFile {
     name: "best.sol",
 };
 
-/// The page that shows the best timetable.
+/// The file of a timetable that breaks hard rules, if no other was found.
+pub const PARTIAL: FolderFile = FolderFile {
+    role: Role::Solution,
+    name: "partial.sol",
+};
+
+/// The page that shows the timetable.
 pub const PAGE: FolderFile = FolderFile {
     role: Role::Page,
     name: "page.html",
@@ -62,8 +68,17 @@ impl<'a, R: World> BestFiles<'a, R> {
         }
     }
 
-    /// Adds the page and the proofs of an answer to a batch that has its timetable.
+    /// Adds a timetable that breaks hard rules to a batch, or the one that another run or an earlier step left, if the answer has none.
+    fn write_partial(&self, batch: Batch, partial: &Option<Vec<u8>>) -> Result<Batch, AllocError> {
+        match partial {
+            Some(text) => self.folder.write(self.rt, batch, PARTIAL, text),
+            None => self.folder.retire(self.rt, batch, PARTIAL),
+        }
+    }
+
+    /// Adds all files of an answer to a batch, except that of the best timetable.
     fn write_others(&self, batch: Batch, answer: &BestAnswer) -> Result<Batch, AllocError> {
+        let batch = self.write_partial(batch, &answer.partial)?;
         let batch = self.write_page(batch, &answer.page)?;
         self.proofs().write(self.rt, batch, &answer.proofs)
     }
@@ -85,7 +100,8 @@ impl<'a, R: World> BestFiles<'a, R> {
     /// Checks whether all files can be written more than once.
     fn can_keep(&self) -> Result<bool, AllocError> {
         let proofs = self.proofs().can_keep(self.rt)?;
-        Ok(proofs && self.folder.can_keep(self.rt, TABLE)? && self.folder.can_keep(self.rt, PAGE)?)
+        let tables = self.folder.can_keep(self.rt, TABLE)? && self.folder.can_keep(self.rt, PARTIAL)?;
+        Ok(proofs && tables && self.folder.can_keep(self.rt, PAGE)?)
     }
 
     /// Writes all files of an answer on the way.

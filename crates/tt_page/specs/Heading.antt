@@ -1,14 +1,15 @@
 -- The head of a page, and its header: the instance's name, whether the timetable breaks a hard rule, its cost, and the sizes.
-use Rattle.std.specs.Prelude.{ℕ, ◌-◌, ◌==◌, List, [], ◌∷◌, ◌++◌, length, codes, Option, Some, None, if◌then◌else◌}
+use Rattle.std.specs.Prelude.{ℕ, ◌-◌, ◌==◌, List, [], ◌∷◌, ◌++◌, length, flat_map, codes, if◌then◌else◌}
 use Rattle.tt_text.specs.Pieces.{Text, Number}
 use Rattle.tt_instance.specs.Problem.{Problem}
 use Rattle.tt_instance.specs.Courses.{teachers}
 use Rattle.tt_instance.specs.declared.cell.Cell.{Cell}
 use Rattle.tt_rules.specs.Score.{hard, cost}
-use Rattle.tt_leaf.specs.declared.leaf.Bound.{Bound}
-use Rattle.tt_leaf.specs.declared.leaf.Bound.TheVariants.{AtLeast, Nothing}
 use Rattle.tt_page_text.specs.Markup.{markup}
+use Rattle.tt_page_plan.specs.Links.{course_link}
 use Rattle.tt_page_plan.specs.Names.{name_text}
+use Rattle.tt_page.specs.declared.proved.Proved.{Proved}
+use Rattle.tt_page.specs.declared.proved.Proved.TheVariants.{Unproved, AtLeast, Infeasible, Clique, Slots}
 
 -- The head of a page up to its title.
 unfoldable pub before_title : List ℕ
@@ -43,18 +44,36 @@ unfoldable pub least_text : ℕ → List ℕ
 least_text b = markup (Text (codes "<p class=\"proved\">no feasible timetable costs less than ") ∷ Number b ∷ Text (codes " (proved)</p>\n") ∷ [])
 
 -- The line for a proof that no feasible timetable exists.
-unfoldable pub nothing_text : List ℕ
-nothing_text = codes "<p class=\"proved\">no feasible timetable exists (proved)</p>\n"
+unfoldable pub infeasible_text : List ℕ
+infeasible_text = codes "<p class=\"infeasible\">no feasible timetable exists (proved)</p>\n"
+
+-- A space and the link to the row of a course.
+unfoldable pub next_course : Problem → ℕ → List ℕ
+next_course p c = codes " " ++ course_link p c
+
+-- The line for a proof by courses any two of which conflict.
+unfoldable pub clique_text : Problem → List ℕ → List ℕ
+clique_text p cs =
+    codes "<p class=\"infeasible\">no feasible timetable exists (proved): any two of these courses conflict, and they have more lectures than open periods:"
+    ++ flat_map (next_course p) cs ++ codes "</p>\n"
+
+-- The line for a proof by courses that have too few rooms.
+unfoldable pub slots_text : Problem → List ℕ → List ℕ
+slots_text p cs =
+    codes "<p class=\"infeasible\">no feasible timetable exists (proved): these courses have more lectures than there are rooms in all their open periods:"
+    ++ flat_map (next_course p) cs ++ codes "</p>\n"
 
 -- The line for a proved bound of the cost, from the timetable's hard count, its cost and the bound.
 abbrev pub bound_text : ℕ → ℕ → ℕ → List ℕ
 bound_text h c b = if h == 0 then (if c == b then best_text else gap_text b (c - b)) else least_text b
 
--- The line for a proved bound, or nothing if there is none, from the timetable's hard count and its cost.
-unfoldable pub proved_text : Option Bound → ℕ → ℕ → List ℕ
-proved_text None h c = []
-proved_text (Some Nothing) h c = nothing_text
-proved_text (Some (AtLeast b)) h c = bound_text h c b
+-- The line for what is proved, from the timetable's hard count and its cost; nothing if nothing is proved.
+unfoldable pub proved_text : Problem → Proved → ℕ → ℕ → List ℕ
+proved_text p Unproved h c = []
+proved_text p (AtLeast b) h c = bound_text h c b
+proved_text p Infeasible h c = infeasible_text
+proved_text p (Clique cs) h c = clique_text p cs
+proved_text p (Slots cs) h c = slots_text p cs
 
 -- The sizes of the instance, and the number of entries of the timetable.
 unfoldable pub sizes_text : Problem → List Cell → List ℕ
@@ -64,10 +83,10 @@ sizes_text p t = markup (
     ∷ Text (codes ", curricula ") ∷ Number (length p.curricula) ∷ Text (codes ", days ") ∷ Number p.days
     ∷ Text (codes ", periods a day ") ∷ Number p.periods ∷ Text (codes "</p>\n</header>\n<div class=\"tables\">\n") ∷ [])
 
--- The header of a page: the contents, the instance's name, the verdict, the proved bound and the sizes.
-unfoldable pub header_text : Problem → List Cell → Option Bound → List ℕ
+-- The header of a page: the contents, the instance's name, the verdict, what is proved, and the sizes.
+unfoldable pub header_text : Problem → List Cell → Proved → List ℕ
 header_text p t proved =
-    contents_text ++ name_text p ++ verdict_text (hard p t) (cost p t) ++ proved_text proved (hard p t) (cost p t) ++ sizes_text p t
+    contents_text ++ name_text p ++ verdict_text (hard p t) (cost p t) ++ proved_text p proved (hard p t) (cost p t) ++ sizes_text p t
 
 -- The legend: the marks in the grids, the rules that are not shown, and how the files count.
 unfoldable pub legend_text : List ℕ

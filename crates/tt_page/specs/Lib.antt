@@ -3,3 +3,4 @@ pub mod Faults
 pub mod Heading
 pub mod Limits
 pub mod Pages
+pub mod Proofs

@@ -1,18 +1,18 @@
 -- The text of a page.
-use Rattle.std.specs.Prelude.{ℕ, List, ◌++◌, codes, Option}
+use Rattle.std.specs.Prelude.{ℕ, List, ◌++◌, codes}
 use Rattle.tt_instance.specs.Problem.{Problem}
 use Rattle.tt_instance.specs.declared.cell.Cell.{Cell}
-use Rattle.tt_leaf.specs.declared.leaf.Bound.{Bound}
 use Rattle.tt_page_text.specs.Labelled.{Labelled}
 use Rattle.tt_page.specs.Heading.{head_text, header_text, legend_text}
 use Rattle.tt_page_lists.specs.Lists.{hard_table, cost_table, lists_text}
 use Rattle.tt_page_weeks.specs.Grids.{section_text}
 use Rattle.tt_page_days.specs.Days.{days_text}
 use Rattle.tt_page.specs.Courses.{courses_text}
+use Rattle.tt_page.specs.declared.proved.Proved.{Proved}
 use Rattle.tt_table.specs.declared.kind.Kind.TheVariants.{Room, Teacher, Curriculum}
 
 -- The counts of the timetable, and a list for each count above 0.
-unfoldable pub counts_text : Problem → List Cell → Labelled → Option Bound → List ℕ
+unfoldable pub counts_text : Problem → List Cell → Labelled → Proved → List ℕ
 counts_text p t labels proved = header_text p t proved ++ hard_table p t ++ cost_table p t ++ legend_text ++ lists_text p t labels
 
 -- A grid for each room, teacher and curriculum, a table for each day, and a row for each course.
@@ -20,6 +20,6 @@ unfoldable pub weeks_text : Problem → List Cell → Labelled → List ℕ
 weeks_text p t labels =
     section_text p t labels Room ++ section_text p t labels Teacher ++ section_text p t labels Curriculum ++ days_text p t labels ++ courses_text p t
 
--- One page of HTML, with its style in it: for a timetable, names of days and periods, and what was proved about its cost.
-unfoldable pub page_text : Problem → List Cell → Labelled → Option Bound → List ℕ → List ℕ
+-- One page of HTML, with its style in it: for a timetable, names of days and periods, and what was proved.
+unfoldable pub page_text : Problem → List Cell → Labelled → Proved → List ℕ → List ℕ
 page_text p t labels proved style = head_text p style ++ counts_text p t labels proved ++ weeks_text p t labels ++ codes "</main>\n</body>\n</html>\n"

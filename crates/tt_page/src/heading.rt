@@ -1,13 +1,15 @@
 //! The head of a page, and its header.
 
-ghost use Rattle.std.specs.Prelude.{◌≡◌};
+ghost use Rattle.std.specs.Prelude.{◌≡◌, ◌<◌, length, flat_map};
 ghost use Rattle.tt_rules.specs.Score.{IsScore};
 ghost use Rattle.tt_page_text.specs.Puts.{put_text};
-ghost use Rattle.tt_page.specs.Heading.{head_text, contents_text, verdict_text, best_text, gap_text, least_text, nothing_text, bound_text, proved_text, sizes_text, header_text, legend_text};
+ghost use Rattle.tt_leaf.specs.Ranges.{AreBelow};
+ghost use Rattle.tt_page.specs.Heading.{head_text, contents_text, verdict_text, best_text, gap_text, least_text, infeasible_text, next_course, clique_text, slots_text, bound_text, proved_text, sizes_text, header_text, legend_text};
+ghost use Rattle.tt_page.specs.Proofs.{IsProvedOf};
 
+use crate::proved::Proved;
 use tt_instance::Instance;
-use tt_leaf::Bound;
-use tt_page_plan::{Plan, put_name};
+use tt_page_plan::{Plan, put_course_link, put_name};
 use tt_page_text::{PageText, Part, put, put_token};
 use tt_rules::Score;
 
@@ -109,18 +111,83 @@ fn put_bound(out: &mut PageText, hard: u64, cost: u64, bound: u64)
     }
 }
 
-/// Appends what was proved about the timetable.
-#[tactic(auto, using(tt_page_text::proofs::Growing::puts), unfolding(crate::specs::Heading::proved_text, crate::specs::Heading::nothing_text))]
-fn put_proved(out: &mut PageText, proved: Option<Bound>, hard: u64, cost: u64)
-    ensures { out.new ≡ put_text out.old (proved_text proved hard cost) }
+#[tactic(auto, unfolding(crate::specs::Heading::infeasible_text))]
+fn put_infeasible(out: &mut PageText)
+    ensures { out.new ≡ put_text out.old infeasible_text }
+{
+    put_token(
+        out,
+        b"<p class=\"infeasible\">no feasible timetable exists (proved)</p>\n",
+    );
+}
+
+/// Appends a space and a link to the row of a course.
+#[tactic(auto, using(tt_page_text::proofs::Growing::puts), unfolding(crate::specs::Heading::next_course))]
+fn put_next_course(out: &mut PageText, instance: &Instance<'_>, course: u32)
+    requires { course < length instance.now.courses }
+    ensures { out.new ≡ put_text out.old (next_course instance.now course) }
+{
+    put_token(out, b" ");
+    put_course_link(out, instance, course);
+}
+
+/// Appends links to the rows of courses.
+#[tactic(auto, using(tt_page_text::proofs::Growing::puts))]
+fn put_courses(out: &mut PageText, instance: &Instance<'_>, courses: &[u32])
+    requires { AreBelow (length instance.now.courses) courses.now }
+    ensures { out.new ≡ put_text out.old (flat_map (next_course instance.now) courses.now) }
+{
+    for course in courses {
+        put_next_course(out, instance, *course);
+    }
+}
+
+/// Appends that courses any two of which conflict have too few periods.
+#[tactic(auto, using(tt_page_text::proofs::Growing::puts), unfolding(crate::specs::Heading::clique_text))]
+fn put_clique(out: &mut PageText, instance: &Instance<'_>, courses: &[u32])
+    requires { AreBelow (length instance.now.courses) courses.now }
+    ensures { out.new ≡ put_text out.old (clique_text instance.now courses.now) }
+{
+    put_token(
+        out,
+        b"<p class=\"infeasible\">no feasible timetable exists (proved): any two of these courses conflict, and they have more lectures than open periods:",
+    );
+    put_courses(out, instance, courses);
+    put_token(out, b"</p>\n");
+}
+
+/// Appends that courses have too few rooms in their periods.
+#[tactic(auto, using(tt_page_text::proofs::Growing::puts), unfolding(crate::specs::Heading::slots_text))]
+fn put_slots(out: &mut PageText, instance: &Instance<'_>, courses: &[u32])
+    requires { AreBelow (length instance.now.courses) courses.now }
+    ensures { out.new ≡ put_text out.old (slots_text instance.now courses.now) }
+{
+    put_token(
+        out,
+        b"<p class=\"infeasible\">no feasible timetable exists (proved): these courses have more lectures than there are rooms in all their open periods:",
+    );
+    put_courses(out, instance, courses);
+    put_token(out, b"</p>\n");
+}
+
+/// Appends what was proved, for a timetable's hard count and its cost.
+#[tactic(auto, using(tt_page_text::proofs::Growing::puts), unfolding(crate::specs::Heading::proved_text))]
+fn put_proved(
+    out: &mut PageText,
+    instance: &Instance<'_>,
+    proved: &Proved,
+    hard: u64,
+    cost: u64,
+)
+    requires { IsProvedOf instance.now proved.now }
+    ensures { out.new ≡ put_text out.old (proved_text instance.now proved.now hard cost) }
 {
     match proved {
-        None => {}
-        Some(Bound::Nothing) => put_token(
-            out,
-            b"<p class=\"proved\">no feasible timetable exists (proved)</p>\n",
-        ),
-        Some(Bound::AtLeast(bound)) => put_bound(out, hard, cost, bound),
+        Proved::Unproved => {}
+        Proved::AtLeast(bound) => put_bound(out, hard, cost, *bound),
+        Proved::Infeasible => put_infeasible(out),
+        Proved::Clique(courses) => put_clique(out, instance, courses.as_slice()),
+        Proved::Slots(courses) => put_slots(out, instance, courses.as_slice()),
     }
 }
 
@@ -161,16 +228,17 @@ fn put_sizes(out: &mut PageText, plan: &Plan<'_, '_>)
 
 /// Appends the header: name, verdict, what was proved, and sizes.
 #[tactic(auto, using(tt_page_text::proofs::Growing::puts), unfolding(crate::specs::Heading::header_text))]
-pub fn put_header(out: &mut PageText, plan: &Plan<'_, '_>, proved: Option<Bound>, score: &Score)
-    requires { IsScore plan.now.problem plan.now.table score.now }
-    ensures { out.new ≡ put_text out.old (header_text plan.now.problem plan.now.table proved) }
+pub fn put_header(out: &mut PageText, plan: &Plan<'_, '_>, proved: &Proved, score: &Score)
+    requires score { IsScore plan.now.problem plan.now.table score.now }
+    requires proved { IsProvedOf plan.now.problem proved.now }
+    ensures { out.new ≡ put_text out.old (header_text plan.now.problem plan.now.table proved.now) }
 {
     let hard = score.hard();
     let cost = score.cost();
     put_contents(out);
     put_name(out, plan.instance());
     put_verdict(out, hard, cost);
-    put_proved(out, proved, hard, cost);
+    put_proved(out, plan.instance(), proved, hard, cost);
     put_sizes(out, plan);
 }
 

@@ -12,14 +12,15 @@ ghost use Rattle.tt_page_text.specs.declared.fault.TextFault.TheVariants as text
 ghost use Rattle.tt_page.specs.Faults.{ExplainsSize, is_failed_write};
 ghost use Rattle.tt_page.specs.Limits.{IsWithinLimit};
 ghost use Rattle.tt_page.specs.Pages.{counts_text, weeks_text, page_text};
+ghost use Rattle.tt_page.specs.Proofs.{IsProvedOf};
 ghost use Rattle.tt_page.specs.declared.fault.PageFault.TheVariants as fault;
 
 use crate::courses::put_courses;
 use crate::fault::PageFault;
 use crate::heading::{put_head, put_header, put_legend};
+use crate::proved::Proved;
 use std::alloc::Global;
 use tt_instance::Instance;
-use tt_leaf::Bound;
 use tt_page_days::put_days;
 use tt_page_lists::{put_cost_table, put_hard_table, put_lists};
 use tt_page_plan::Plan;
@@ -35,11 +36,12 @@ fn put_counts(
     out: &mut PageText,
     plan: &Plan<'_, '_>,
     labels: &Labels,
-    proved: Option<Bound>,
+    proved: &Proved,
     score: &Score,
 )
-    requires { IsScore plan.now.problem plan.now.table score.now }
-    ensures { out.new ≡ put_text out.old (counts_text plan.now.problem plan.now.table labels.now proved) }
+    requires score { IsScore plan.now.problem plan.now.table score.now }
+    requires proved { IsProvedOf plan.now.problem proved.now }
+    ensures { out.new ≡ put_text out.old (counts_text plan.now.problem plan.now.table labels.now proved.now) }
 {
     put_header(out, plan, proved, score);
     put_hard_table(out, plan, score);
@@ -66,12 +68,13 @@ fn put_page(
     out: &mut PageText,
     plan: &Plan<'_, '_>,
     labels: &Labels,
-    proved: Option<Bound>,
+    proved: &Proved,
     score: &Score,
     style: &str,
 )
-    requires { IsScore plan.now.problem plan.now.table score.now }
-    ensures { out.new ≡ put_text out.old (page_text plan.now.problem plan.now.table labels.now proved style.now) }
+    requires score { IsScore plan.now.problem plan.now.table score.now }
+    requires proved { IsProvedOf plan.now.problem proved.now }
+    ensures { out.new ≡ put_text out.old (page_text plan.now.problem plan.now.table labels.now proved.now style.now) }
 {
     put_head(out, plan.instance(), style);
     put_counts(out, plan, labels, proved, score);
@@ -85,13 +88,14 @@ pub fn text_of(
     instance: &Instance<'_>,
     table: &Timetable,
     labels: &Labels,
-    proved: Option<Bound>,
+    proved: &Proved,
     style: &str,
 ) -> Result<Vec<u8>, TextFault>
-    requires { IsTimetable instance.now table.now }
-    ensures text { IfOk result (λ v. v.items ≡ page_text instance.now table.now labels.now proved style.now) }
+    requires table { IsTimetable instance.now table.now }
+    requires proved { IsProvedOf instance.now proved.now }
+    ensures text { IfOk result (λ v. v.items ≡ page_text instance.now table.now labels.now proved.now style.now) }
     // It is refused as too large exactly if it has more bytes than a page may have, unless memory runs out.
-    ensures size { let text = page_text instance.now table.now labels.now proved style.now in
+    ensures size { let text = page_text instance.now table.now labels.now proved.now style.now in
         MatchResult result (λ _. IsWithinLimit text) (λ f. f ≡ text_fault.TooLarge → IsTooLarge text) }
 {
     let plan = Plan::new(alloc, instance, table)?;
@@ -114,18 +118,19 @@ fn write_pieces<W: Sink>(
     out: &mut PageText,
     plan: &Plan<'_, '_>,
     labels: &Labels,
-    proved: Option<Bound>,
+    proved: &Proved,
     score: &Score,
     style: &str,
     total: usize,
     sink: &mut W,
 ) -> Result<(), WriteFailed>
     requires score { IsScore plan.now.problem plan.now.table score.now }
-    requires first { out.old ≡ put_text (window 0 PAGE_PIECE_BYTES too_many) (page_text plan.now.problem plan.now.table labels.now proved style.now) }
-    requires total { total ≡ length (page_text plan.now.problem plan.now.table labels.now proved style.now) }
+    requires proved { IsProvedOf plan.now.problem proved.now }
+    requires first { out.old ≡ put_text (window 0 PAGE_PIECE_BYTES too_many) (page_text plan.now.problem plan.now.table labels.now proved.now style.now) }
+    requires total { total ≡ length (page_text plan.now.problem plan.now.table labels.now proved.now style.now) }
     requires within { total ≤ MAX_PAGE_BYTES }
-    ensures written { OnOk result (Appends (W.contents sink.old) (W.contents sink.new) (page_text plan.now.problem plan.now.table labels.now proved style.now)) }
-    ensures part { OnErr result (TakesPart (W.contents sink.old) (W.contents sink.new) (page_text plan.now.problem plan.now.table labels.now proved style.now)) }
+    ensures written { OnOk result (Appends (W.contents sink.old) (W.contents sink.new) (page_text plan.now.problem plan.now.table labels.now proved.now style.now)) }
+    ensures part { OnErr result (TakesPart (W.contents sink.old) (W.contents sink.new) (page_text plan.now.problem plan.now.table labels.now proved.now style.now)) }
     ensures failed { W.has_failed sink.new ≡ (if is_ok result then W.has_failed sink.old else true) }
 {
     let mut from = 0;
@@ -140,24 +145,25 @@ fn write_pieces<W: Sink>(
     }
 }
 
-/// Writes the page of a timetable's week, with names of days and periods, and a style (`STYLE` is the program's). If a bound is proved, the
-/// header says so: the caller has to have checked its proof. All bytes are counted before the first is written.
+/// Writes the page of a timetable's week, with names of days and periods, and a style (`STYLE` is the program's). The header says
+/// what is proved: the caller has to have checked its proof. All bytes are counted before the first is written.
 pub fn page<W: Sink>(
     alloc: Global,
     instance: &Instance<'_>,
     table: &Timetable,
     labels: &Labels,
-    proved: Option<Bound>,
+    proved: &Proved,
     style: &str,
     sink: &mut W,
 ) -> Result<(), PageFault>
-    requires { IsTimetable instance.now table.now }
-    ensures written { OnOk result (Appends (W.contents sink.old) (W.contents sink.new) (page_text instance.now table.now labels.now proved style.now)) }
+    requires table { IsTimetable instance.now table.now }
+    requires proved { IsProvedOf instance.now proved.now }
+    ensures written { OnOk result (Appends (W.contents sink.old) (W.contents sink.new) (page_text instance.now table.now labels.now proved.now style.now)) }
     // After a failed write, a part from the front of the text was taken.
-    ensures part { result ≡ Err fault.Write → TakesPart (W.contents sink.old) (W.contents sink.new) (page_text instance.now table.now labels.now proved style.now) }
+    ensures part { result ≡ Err fault.Write → TakesPart (W.contents sink.old) (W.contents sink.new) (page_text instance.now table.now labels.now proved.now style.now) }
     ensures failed { W.has_failed sink.new ≡ (if is_err_and result is_failed_write then true else W.has_failed sink.old) }
     // The page is refused as too large exactly if it has more bytes than a page may have, unless memory runs out.
-    ensures size { let text = page_text instance.now table.now labels.now proved style.now in
+    ensures size { let text = page_text instance.now table.now labels.now proved.now style.now in
         MatchResult result (λ _. IsWithinLimit text) (λ f. ExplainsSize f text) }
     // If the page is too large, nothing was written.
     ensures refused { result ≡ Err fault.TooLarge → sink.new ≡ sink.old }

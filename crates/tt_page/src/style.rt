@@ -51,6 +51,7 @@ h3 b { color: var(--ink); font-size: 1.05rem; font-weight: 650; }
 .verdict strong { font-size: 1rem; }
 h2 strong, h2 mark { font-size: .9rem; }
 .proved { margin: 0 0 .25rem; color: var(--goodink); font-weight: 650; }
+.infeasible { margin: 0 0 .25rem; color: var(--ink); border-left: 4px solid var(--badline); padding-left: .6rem; font-weight: 650; }
 .size { margin: 0; color: var(--soft); }
 
 strong, mark { display: inline-block; padding: 0 .35em; font-size: .75rem; line-height: 1.35; }

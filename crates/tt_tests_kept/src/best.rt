@@ -52,12 +52,48 @@ fn no_timetable_at_all(rt: HostRuntime) -> Result<(), Fail> {
     let packed = edited(rt.alloc(), FLAT, "x t 4 1 1", "x t 5 1 1")?;
     memory.put("a.ctt", packed.as_str())?;
     let outcome = best_of(rt.alloc(), &memory)?;
-    assert_eq!(rt; outcome.answer(), (1, "cost none bound none\n", ""));
+    let (status, line, reason) = outcome.answer();
+    assert_eq!(rt; (status, line), (1, "cost none bound none\n"));
+    assert!(rt; reason.contains("5 lectures"));
     assert_eq!(rt; memory.text("found/best.sol")?, None);
-    assert_eq!(rt; memory.text("found/page.html")?, None);
     let words = ["sum", "a.ctt", "found/tree.proof"];
     let sum = run_on(rt.alloc(), &words, &memory)?;
     assert_eq!(rt; sum.answer(), (0, "bound none\n", ""));
+    Ok(())
+}
+
+#[test]
+fn the_page_of_no_timetable(rt: HostRuntime) -> Result<(), Fail> {
+    let memory = MemoryFiles::new(rt.alloc(), Refusal::Nothing);
+    let packed = edited(rt.alloc(), FLAT, "x t 4 1 1", "x t 5 1 1")?;
+    memory.put("a.ctt", packed.as_str())?;
+    best_of(rt.alloc(), &memory)?;
+    let page = memory.text("found/page.html")?;
+    for part in [
+        "<strong>not feasible</strong>",
+        "<p class=\"infeasible\">no feasible timetable exists (proved): any two of these courses conflict",
+        "open periods: <a href=\"#course0\">x</a></p>",
+    ] {
+        assert!(rt; page.as_deref().is_some_and(|text| text.contains(part)));
+    }
+    let words = ["validate", "a.ctt", "found/partial.sol"];
+    let counts = run_on(rt.alloc(), &words, &memory)?;
+    assert_eq!(rt; counts.status, 1);
+    Ok(())
+}
+
+#[test]
+fn a_timetable_after_none(rt: HostRuntime) -> Result<(), Fail> {
+    let memory = MemoryFiles::new(rt.alloc(), Refusal::Nothing);
+    let packed = edited(rt.alloc(), FLAT, "x t 4 1 1", "x t 5 1 1")?;
+    memory.put("a.ctt", packed.as_str())?;
+    best_of(rt.alloc(), &memory)?;
+    memory.put("a.ctt", FLAT)?;
+    let outcome = best_of(rt.alloc(), &memory)?;
+    assert_eq!(rt; outcome.status, 0);
+    assert!(rt; memory.text("found/best.sol")?.is_some());
+    assert_eq!(rt; memory.text("found/partial.sol")?, None);
+    assert!(rt; memory.text("found/partial.sol.old")?.is_some());
     Ok(())
 }
 

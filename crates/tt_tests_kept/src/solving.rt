@@ -45,10 +45,37 @@ fn searches_that_end(rt: HostRuntime) -> Result<(), Fail> {
     ] {
         let memory = filled(rt.alloc(), instance, Refusal::Nothing)?;
         let outcome = solved(rt.alloc(), &memory, nodes)?;
-        assert_eq!(rt; outcome.answer(), (status, line, ""));
-        // The file of the best timetable exists only if there is one.
+        let (found, out, reason) = outcome.answer();
+        assert_eq!(rt; (found, out), (status, line));
+        // The file of the best timetable exists only if there is one; otherwise there are another timetable and a reason.
         assert_eq!(rt; memory.text("a.out")?.is_some(), status == 0);
+        assert_eq!(rt; memory.text("a.out.partial")?.is_some(), status == 1);
+        assert_eq!(rt; reason.is_empty(), status == 0);
         assert_eq!(rt; bounded(rt.alloc(), &memory)?.answer(), (0, bound, ""));
+    }
+    Ok(())
+}
+
+/// Five courses in a circle, of which neighbours conflict, in two periods.
+const CIRCLE: &str =
+    "Name: circle\nCourses: 5\nRooms: 3\nDays: 1\nPeriods_per_day: 2\nCurricula: 5\nConstraints: 0\n\nCOURSES:\na s 1 1 1\nb t 1 1 1\nc u 1 1 1\nd v 1 1 1\ne w 1 1 1\n\nROOMS:\nR 1\nS 1\nT 1\n\nCURRICULA:\nq 2 a b\nr 2 b c\ns 2 c d\nt 2 d e\nu 2 e a\n\nUNAVAILABILITY_CONSTRAINTS:\n\nEND.\n";
+
+#[test]
+fn a_circle_of_conflicts(rt: HostRuntime) -> Result<(), Fail> {
+    for (nodes, line, reason) in [
+        ("1", "cost none bound 0 unfinished\n", "not known: "),
+        ("100", "cost none bound none finished\n", "no timetable: "),
+    ] {
+        let memory = filled(rt.alloc(), CIRCLE, Refusal::Nothing)?;
+        memory.put("a.out", "kept")?;
+        let outcome = solved(rt.alloc(), &memory, nodes)?;
+        let (status, out, said) = outcome.answer();
+        assert_eq!(rt; (status, out), (1, line));
+        assert!(rt; said.starts_with(reason));
+        // An older timetable stays.
+        assert_eq!(rt; memory.text("a.out")?.as_deref(), Some("kept"));
+        let partial = memory.text("a.out.partial")?;
+        assert!(rt; partial.as_deref().is_some_and(|text| !text.is_empty()));
     }
     Ok(())
 }

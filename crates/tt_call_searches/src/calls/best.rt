@@ -1,17 +1,20 @@
 //! The call `best`.
 
-ghost use Rattle.std.specs.Prelude.{◌≡◌, ℕ, List, Some, IfOk, IfErr, MatchResult, ⊤};
+ghost use Rattle.std.specs.Prelude.{◌≡◌, ℕ, List, [], IfOk, IfErr, MatchResult, ⊤};
 ghost use Rattle.std.specs.Option.{option_copied};
 ghost use Rattle.tt_instance.specs.Problem.{Problem};
 ghost use Rattle.tt_instance.specs.Spelling.{Spells};
 ghost use Rattle.tt_table.specs.Table.{IsTimetable};
 ghost use Rattle.tt_rules.specs.Score as score;
 ghost use Rattle.tt_rules.specs.Score.{IsFeasible};
+ghost use Rattle.tt_leaf.specs.declared.leaf.Bound.TheVariants.{Nothing};
+ghost use Rattle.tt_leaf_find.specs.Found.{Closes};
 ghost use Rattle.tt_page.specs.Pages.{page_text};
+ghost use Rattle.tt_page.specs.Proofs.{IsProvedOf};
 ghost use Rattle.tt_page_text.specs.Labels.{no_labels};
 ghost use Rattle.tt_parts.specs.Found.{AreFound};
 ghost use Rattle.tt_best.specs.Weeks.{IsWeek};
-ghost use Rattle.tt_call_searches.specs.Best.{IsBest, IsNoneFound, CostsAtMost, CostsNoMore, ShowsPage};
+ghost use Rattle.tt_call_searches.specs.Best.{IsBest, IsNoneFound, IsProvedBy, CostsAtMost, CostsNoMore, ShowsPage};
 ghost use Rattle.tt_call_searches.specs.Given.{SpellsGiven, IsGivenRefusal};
 ghost use Rattle.tt_call_answers.specs.Lines.{best_line, none_line};
 ghost use Rattle.tt_call_answers.specs.declared.fault.AppFault.TheVariants as fault;
@@ -20,10 +23,12 @@ use crate::calls::given::read_given;
 use crate::calls::solve::put_bound;
 use std::alloc::{AllocError, Global};
 use tt_best::{Rounds, Start, WatchRounds, Week, find_best};
+use tt_branch::find_reason;
 use tt_call_answers::AppFault;
 use tt_instance::Instance;
 use tt_instance_read::read_instance;
-use tt_leaf::Bound;
+use tt_leaf::{Bound, Leaf};
+use tt_page::Proved;
 use tt_page_text::{Labels, TextFault};
 use tt_parts::{Parts, copy_texts};
 use tt_rules::score;
@@ -50,9 +55,11 @@ pub struct BestAnswer {
     pub status: u8,
     /// The text for standard output.
     pub out: Vec<u8>,
-    /// The text of the best timetable's file.
+    /// The text of the best timetable's file, if one was found that breaks no hard rule.
     pub table: Option<Vec<u8>>,
-    /// The text of the page that shows it with the bound of the proofs, unless it is too large.
+    /// The text of the file of a timetable that breaks hard rules, if no other was found.
+    pub partial: Option<Vec<u8>>,
+    /// The text of the page that shows the timetable with what the proofs say, unless it is too large.
     pub page: Option<Vec<u8>>,
     /// The texts of the proofs, at most one of each kind.
     pub proofs: Vec<Vec<u8>>,
@@ -163,19 +170,20 @@ fn missing_line(alloc: Global, bound: Bound) -> Result<Vec<u8>, AllocError>
     Ok(out)
 }
 
-/// Returns the page of a timetable with a bound, unless it is too large.
+/// Returns the page of a timetable with what is proved, unless it is too large.
 fn page_of(
     alloc: Global,
     instance: &Instance<'_>,
     table: &Timetable,
-    bound: Bound,
+    proved: &Proved,
     style: &str,
 ) -> Result<Option<Vec<u8>>, AllocError>
-    requires { IsTimetable instance.now table.now }
-    ensures { IfOk result (λ page. ShowsPage page (page_text instance.now table.now no_labels (Some bound) style.now)) }
+    requires table { IsTimetable instance.now table.now }
+    requires proved { IsProvedOf instance.now proved.now }
+    ensures { IfOk result (λ page. ShowsPage page (page_text instance.now table.now no_labels proved.now style.now)) }
 {
     let labels = Labels::none(alloc);
-    match tt_page::text_of(alloc, instance, table, &labels, Some(bound), style) {
+    match tt_page::text_of(alloc, instance, table, &labels, proved, style) {
         Ok(text) => Ok(Some(text)),
         Err(TextFault::TooLarge) => Ok(None),
         Err(TextFault::OutOfMemory) => Err(AllocError),
@@ -196,34 +204,76 @@ fn found_answer(
     requires parts { AreFound instance.now parts.now }
     ensures { IfOk result (λ a. (i : List ℕ) → Spells i instance.now → CostsAtMost i style.now cost a) }
 {
-    let bound = parts.bound;
-    let Bound::AtLeast(points) = bound else {
+    let Bound::AtLeast(points) = parts.bound else {
         unreachable!();
     };
     Ok(BestAnswer {
         status: 0,
         out: found_line(alloc, cost, points)?,
         table: Some(write_solution(alloc, instance, table)?),
-        page: page_of(alloc, instance, table, bound, style)?,
+        partial: None,
+        page: page_of(alloc, instance, table, &Proved::AtLeast(points), style)?,
         proofs: copy_texts(alloc, &parts.proofs)?,
     })
 }
 
-/// Returns the answer with proofs alone.
+/// Returns what a leaf of the path without facts says.
+fn reason_of(leaf: Leaf) -> Proved
+    ensures by { (p : Problem) → Closes p [] Nothing leaf → IsProvedBy p Nothing result }
+    ensures within { (p : Problem) → Closes p [] Nothing leaf → IsProvedOf p result }
+{
+    match leaf {
+        Leaf::Clique(courses) => Proved::Clique(courses),
+        Leaf::Slots(courses) => Proved::Slots(courses),
+        Leaf::Empty(_) | Leaf::Many(_) | Leaf::Cost(_) => Proved::Infeasible,
+    }
+}
+
+/// Returns why there is no feasible timetable, if a plain reason is found.
+fn reason_for(alloc: Global, instance: &Instance<'_>) -> Result<Proved, AllocError>
+    ensures by { IfOk result (IsProvedBy instance.now Nothing) }
+    ensures within { IfOk result (IsProvedOf instance.now) }
+{
+    match find_reason(alloc, instance)? {
+        Some(leaf) => Ok(reason_of(leaf)),
+        None => Ok(Proved::Infeasible),
+    }
+}
+
+/// Returns what a page says if a bound holds.
+fn proved_by(
+    alloc: Global,
+    instance: &Instance<'_>,
+    bound: Bound,
+) -> Result<Proved, AllocError>
+    ensures by { IfOk result (IsProvedBy instance.now bound) }
+    ensures within { IfOk result (IsProvedOf instance.now) }
+{
+    match bound {
+        Bound::AtLeast(points) => Ok(Proved::AtLeast(points)),
+        Bound::Nothing => reason_for(alloc, instance),
+    }
+}
+
+/// Returns the answer with a timetable that breaks hard rules, its page, and proofs.
 fn missing_answer(
     alloc: Global,
     instance: &Instance<'_>,
-    parts: &Parts,
+    week: &Week,
+    style: &str,
 ) -> Result<BestAnswer, AllocError>
-    requires { AreFound instance.now parts.now }
-    ensures { IfOk result (λ a. (i : List ℕ) → Spells i instance.now → IsNoneFound i a) }
+    requires week { IsWeek instance.now week.now }
+    requires broken { ¬ IsFeasible instance.now week.now.table }
+    ensures { IfOk result (λ a. (i : List ℕ) → Spells i instance.now → IsNoneFound i style.now a) }
 {
+    let proved = proved_by(alloc, instance, week.parts.bound)?;
     Ok(BestAnswer {
         status: 1,
-        out: missing_line(alloc, parts.bound)?,
+        out: missing_line(alloc, week.parts.bound)?,
         table: None,
-        page: None,
-        proofs: copy_texts(alloc, &parts.proofs)?,
+        partial: Some(write_solution(alloc, instance, &week.table)?),
+        page: page_of(alloc, instance, &week.table, &proved, style)?,
+        proofs: copy_texts(alloc, &week.parts.proofs)?,
     })
 }
 
@@ -250,7 +300,7 @@ fn answer_of(
             style,
         )
     } else {
-        missing_answer(alloc, instance, &week.parts)
+        missing_answer(alloc, instance, week, style)
     }
 }
 

@@ -1,15 +1,14 @@
 //! The call `solve`.
 
-ghost use Rattle.std.specs.Prelude.{◌≡◌, ◌≤◌, ◌⊎◌, ◌++◌, ◌∷◌, [], Some, IfSome, IfOk, IfErr, OnOk, MatchResult, MatchOption, option_map, is_some, ⊤, if◌then◌else◌, codes};
+ghost use Rattle.std.specs.Prelude.{◌≡◌, ◌≤◌, ◌⊎◌, ◌++◌, ◌∷◌, [], Some, IfSome, IfOk, IfErr, OnOk, MatchResult, MatchOption, is_some, ⊤, if◌then◌else◌, codes};
 ghost use Rattle.tt_instance.specs.Problem.{Problem};
 ghost use Rattle.tt_instance.specs.Spelling.{Spells};
-ghost use Rattle.tt_table.specs.Spelling.{solution_text};
 ghost use Rattle.tt_table.specs.Table.{IsTimetable};
 ghost use Rattle.tt_proof_read.specs.Trees.{IsPreorder};
 ghost use Rattle.tt_proof_write.specs.Within.{Writes};
 ghost use Rattle.tt_branch.specs.declared.limit.TheConstants.{MAX_OPENED};
 ghost use Rattle.tt_call_answers.specs.Lines.{best_cost, bound_points, solve_line};
-ghost use Rattle.tt_call_searches.specs.Solved.{IsProofFile, IsOverLong, IsSolved, IsSolveRefusal};
+ghost use Rattle.tt_call_searches.specs.Solved.{IsProofFile, IsOverLong, IsTableText, IsSolved, IsSolveRefusal};
 ghost use Rattle.tt_call_answers.specs.declared.fault.AppFault.TheVariants as fault;
 
 use std::alloc::{AllocError, Global};
@@ -21,6 +20,7 @@ use tt_leaf::Bound;
 use tt_proof_read::Node;
 use tt_proof_write::{WriteFault, write_proof};
 use tt_rules::score;
+use tt_search::construct;
 use tt_table::{Timetable, write_solution};
 use tt_text::{put_line_end, put_number, put_token};
 use tt_watch::Watch;
@@ -87,18 +87,22 @@ fn line_of(
     Ok(out)
 }
 
-/// Returns the text of the best timetable, if there is one.
-fn best_text(
+/// Returns the text of the best timetable; if there is none, that of a constructed one, which may break hard rules.
+fn table_text(
     alloc: Global,
     instance: &Instance<'_>,
     best: &Option<Timetable>,
-) -> Result<Option<Vec<u8>>, AllocError>
+    seed: u64,
+) -> Result<Vec<u8>, AllocError>
     requires { IfSome best.now (IsTimetable instance.now) }
-    ensures { IfOk result (λ text. option_map (λ v. v.items) text ≡ option_map (solution_text instance.now) best.now) }
+    ensures { IfOk result (λ text. IsTableText instance.now best.now text.items) }
 {
     match best {
-        Some(table) => Ok(Some(write_solution(alloc, instance, table)?)),
-        None => Ok(None),
+        Some(table) => write_solution(alloc, instance, table),
+        None => {
+            let table = construct(alloc, instance, seed)?;
+            write_solution(alloc, instance, &table)
+        }
     }
 }
 
@@ -130,6 +134,13 @@ fn least_text(alloc: Global, bound: Bound, nodes: &[Node]) -> Result<Option<Vec<
     }
 }
 
+/// The texts of the files that a search writes.
+#[derive(Drop)]
+struct Texts {
+    table: Vec<u8>,
+    proof: Vec<u8>,
+}
+
 /// Returns the answer for a search.
 fn search_answer(
     alloc: Global,
@@ -137,25 +148,26 @@ fn search_answer(
     best: &Option<Timetable>,
     bound: Bound,
     finished: bool,
-    proof: Vec<u8>,
+    texts: Texts,
 ) -> Result<Answer, AllocError>
     requires { IfSome best.now (IsTimetable instance.now) }
     ensures text { IfOk result (λ a. a.out.items ≡ solve_line instance.now best.now bound finished) }
     ensures status { IfOk result (λ a. a.status ≡ (if is_some best.now then 0 else 1)) }
-    ensures table { IfOk result (λ a. option_map (λ v. v.items) a.table ≡ option_map (solution_text instance.now) best.now) }
-    ensures proof { IfOk result (λ a. a.proof ≡ Some proof) }
+    ensures table { IfOk result (λ a. a.table ≡ Some texts.table) }
+    ensures proof { IfOk result (λ a. a.proof ≡ Some texts.proof) }
 {
+    let Texts { table, proof } = texts;
     Ok(Answer {
         status: if best.is_some() { 0 } else { 1 },
         out: line_of(alloc, instance, best, bound, finished)?,
-        table: best_text(alloc, instance, best)?,
+        table: Some(table),
         proof: Some(proof),
     })
 }
 
 /// Searches for a best timetable by a tree, and returns it with a proof of a lower bound, of at most as many nodes as it opens if each is closed,
-/// and of fewer than twice as many if not; the status is 1 if it found no timetable. The watch may end the search. Nothing is promised about
-/// which nodes are opened.
+/// and of fewer than twice as many if not. If it found none that breaks no hard rule, it returns one that may break some, and the status is 1.
+/// The watch may end the search. Nothing is promised about which nodes are opened.
 pub fn solve<W: Watch>(
     alloc: Global,
     instance: &[u8],
@@ -184,5 +196,9 @@ pub fn solve<W: Watch>(
     let Some(text) = least_text(alloc, bound, &proof)? else {
         return Err(AppFault::ProofTooLarge);
     };
-    Ok(search_answer(alloc, &instance, &best, bound, finished, text)?)
+    let texts = Texts {
+        table: table_text(alloc, &instance, &best, seed)?,
+        proof: text,
+    };
+    Ok(search_answer(alloc, &instance, &best, bound, finished, texts)?)
 }

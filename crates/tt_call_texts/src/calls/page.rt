@@ -1,12 +1,14 @@
 //! The calls `page` and `proved_page`.
 
-ghost use Rattle.std.specs.Prelude.{◌≡◌, ◌+◌, ◌<◌, ◌^◌, ℕ, List, None, Some, Ok, Err, true, if◌then◌else◌, IfOk, IfErr, MatchResult, slice_get, slice_index_or};
+ghost use Rattle.std.specs.Prelude.{◌≡◌, ◌+◌, ◌<◌, ◌^◌, ℕ, List, Some, Ok, Err, true, if◌then◌else◌, IfOk, IfErr, MatchResult, slice_get, slice_index_or};
 ghost use Rattle.std.specs.Io.KnownBytes.{Appends};
 ghost use Rattle.tt_instance.specs.Problem.{Problem};
 ghost use Rattle.tt_instance.specs.declared.cell.Cell.{Cell};
 ghost use Rattle.tt_leaf.specs.declared.leaf.Bound.{Bound};
 ghost use Rattle.tt_page.specs.Limits.{IsWithinLimit};
 ghost use Rattle.tt_page.specs.Pages.{page_text};
+ghost use Rattle.tt_page.specs.Proofs.{proved_of};
+ghost use Rattle.tt_page.specs.declared.proved.Proved.TheVariants.{Unproved};
 ghost use Rattle.tt_page_text.specs.Labelled.{Labelled};
 ghost use Rattle.tt_page_text.specs.Labels.{Gives};
 ghost use Rattle.tt_text.specs.Failures.{is_err_and};
@@ -24,6 +26,7 @@ use std::alloc::Global;
 use tt_call_answers::AppFault;
 use tt_instance::Instance;
 use tt_instance_read::read_instance;
+use tt_page::Proved;
 use tt_page_text::{Labels, LabelsFault};
 use tt_proof_sum::sum_proofs;
 use tt_table::read_solution;
@@ -66,7 +69,7 @@ pub fn page<W: Sink>(
     ensures fault { IfErr result (IsPageRefusal instance.now solution.now names.entry style.now (W.contents sink.old) (W.contents sink.new)) }
     // If both files are spelled and the names fit, the page is written if it isn't too large, and only then, unless memory runs out or a write fails.
     ensures only { (p : Problem) (t : List Cell) (labels : Labelled) → SpellsBoth instance.now solution.now p t → labels_for p names.entry ≡ Ok labels →
-        let text = page_text p t labels None style.now in MatchResult result (λ _. IsWithinLimit text) (λ f. IsNotPut f text) }
+        let text = page_text p t labels Unproved style.now in MatchResult result (λ _. IsWithinLimit text) (λ f. IsNotPut f text) }
     // If any other error is reported, nothing is written.
     ensures unwritten { IfErr result (λ f. IsUnwritten f → sink.new ≡ sink.old) }
     // A failed write is reported exactly if a write failed.
@@ -75,7 +78,7 @@ pub fn page<W: Sink>(
     let instance = read_instance(alloc, instance)?;
     let table = read_solution(alloc, &instance, solution)?;
     let labels = labels_for(alloc, &instance, names)?;
-    tt_page::page(alloc, &instance, &table, &labels, None, style, sink)?;
+    tt_page::page(alloc, &instance, &table, &labels, &Proved::Unproved, style, sink)?;
     Ok(0)
 }
 
@@ -98,7 +101,7 @@ pub fn proved_page<R: Peek, W: Sink>(
     // only then, unless the refusal says nothing about the bytes or a write fails.
     ensures only { (p : Problem) (t : List Cell) (labels : Labelled) (files : List (List ℕ)) (b : Bound) → SpellsBoth instance.now solution.now p t →
         labels_for p names.entry ≡ Ok labels → Give R.remaining proofs.old files → (h : IsSum p files b) → all_points h.parts < 2 ^ 64 →
-        let text = page_text p t labels (Some b) style.now in
+        let text = page_text p t labels (proved_of b) style.now in
         MatchResult result (λ _. Appends (W.contents sink.old) (W.contents sink.new) text × IsWithinLimit text) (λ f. IsSilentOrNotPut f text) }
     // If the instance, the solution or the names are refused, no proof is read.
     ensures unread { IfErr result (λ f. IsBeforeProofs f → proofs.new ≡ proofs.old) }
@@ -119,6 +122,7 @@ pub fn proved_page<R: Peek, W: Sink>(
     let table = read_solution(alloc, &instance, solution)?;
     let labels = labels_for(alloc, &instance, names)?;
     let bound = sum_proofs(alloc, &instance, proofs)?;
-    tt_page::page(alloc, &instance, &table, &labels, Some(bound), style, sink)?;
+    let proved = Proved::of(bound);
+    tt_page::page(alloc, &instance, &table, &labels, &proved, style, sink)?;
     Ok(0)
 }

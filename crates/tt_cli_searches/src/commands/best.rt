@@ -1,10 +1,11 @@
 //! The files of `best`.
 
-use crate::best_files::{BestFiles, BestShelf, PAGE, TABLE, TREE};
+use crate::best_files::{BestFiles, BestShelf, PAGE, PARTIAL, TABLE, TREE};
 use crate::best_keeper::BestKeeper;
 use crate::proof_files::{GROUPS, PRICES};
+use crate::reasons::Failed;
 use crate::saving::kept_table;
-use std::alloc::AllocError;
+use std::alloc::{AllocError, Global};
 use std::cell::Cell;
 use std::io::Write;
 use tt_call_answers::AppFault;
@@ -16,6 +17,7 @@ use tt_cli_saving::{
     reply_with, ticker_of,
 };
 use tt_page::STYLE;
+use tt_text_peek::{FileKind, kind_of_front};
 
 /// The texts with which the search begins.
 #[derive(Debug, Drop)]
@@ -62,6 +64,18 @@ fn read_proofs<R: World>(rt: &R, folder: Folder<'_>) -> Result<Vec<Vec<u8>>, Com
     Ok(proofs)
 }
 
+/// Says on standard error why no timetable was found.
+fn say_why<E: Write>(alloc: Global, err: &mut E, instance: &[u8], proofs: &[Vec<u8>]) {
+    let tree = proofs
+        .iter()
+        .find(|proof| kind_of_front(proof) == FileKind::Tree);
+    let failed = Failed {
+        instance,
+        proof: tree.map(|proof| proof.as_slice()),
+    };
+    failed.say_why(alloc, err);
+}
+
 /// Searches, and writes the results.
 fn find_best<R: World, E: Write>(
     rt: &R,
@@ -73,7 +87,7 @@ fn find_best<R: World, E: Write>(
     let folder = Folder {
         path: &*request.folder,
     };
-    folder.check(rt, inputs, &[TABLE, PAGE, GROUPS, PRICES, TREE])?;
+    folder.check(rt, inputs, &[TABLE, PARTIAL, PAGE, GROUPS, PRICES, TREE])?;
     let found = folder.find(rt, inputs, TABLE)?;
     let is_own = match request.start {
         Some(path) => found.is_read(rt, path)?,
@@ -96,10 +110,15 @@ fn find_best<R: World, E: Write>(
         proofs: &texts.proofs,
     };
     let instance = texts.instance.as_slice();
-    let mut ticker = ticker_of(rt, err, "best", request.showing);
-    let answer = search_shown(&files, &mut ticker, instance, &mut table, search, request);
-    ticker.clear();
-    let answer = answer?;
+    let answer = {
+        let mut ticker = ticker_of(rt, err, "best", request.showing);
+        let answer = search_shown(&files, &mut ticker, instance, &mut table, search, request);
+        ticker.clear();
+        answer?
+    };
+    if answer.table.is_none() {
+        say_why(rt.alloc(), err, instance, &answer.proofs);
+    }
     let batch = files.write(Batch::new(rt.alloc()), &answer, &mut table)?;
     reply_with(rt, batch, answer.status, answer.out)
 }

@@ -1,7 +1,8 @@
 //! The files of `solve`.
 
+use crate::reasons::Failed;
 use crate::saving::kept_table;
-use std::alloc::AllocError;
+use std::alloc::{AllocError, Global};
 use std::io::Write;
 use tt_call_answers::{Answer, AppFault};
 use tt_call_searches::{TreeEffort, solve};
@@ -11,6 +12,9 @@ use tt_cli_saving::{
     CommandFault, Input, Inputs, Keeper, Prepared, Reply, Shelf, Target, Ticker, World, reply_with,
     ticker_of,
 };
+
+/// The end of the name of the file for a timetable that breaks hard rules.
+const PARTIAL: &str = ".partial";
 
 /// The file in which the proof of a tree is stored on the way.
 struct ProofShelf<'s, R: World> {
@@ -53,6 +57,67 @@ impl<F: Drop> Drop for Outputs<F> {
     }
 }
 
+impl<F> Outputs<F> {
+    /// Returns the path of the file for a timetable that breaks hard rules: next to that of the best timetable, so that an older one stays. There
+    /// is none if the best timetable's output is no file.
+    fn partial_path<R: World<File = F>>(&self, rt: &R) -> Result<Option<String>, AllocError> {
+        if !matches!(self.table.ready, Ready::Place(_)) {
+            return Ok(None);
+        }
+        let path = self.table.label.path.as_str();
+        Ok(Some(format!(in rt.alloc(); "{path}{PARTIAL}")?))
+    }
+
+    /// Adds a timetable that breaks hard rules to a batch; it is left out if its file can't be written.
+    fn write_partial<R: World<File = F>>(
+        &self,
+        rt: &R,
+        inputs: &Inputs<'_>,
+        text: &Option<Vec<u8>>,
+    ) -> Result<Batch, AllocError> {
+        let batch = Batch::new(rt.alloc());
+        let Some(path) = self.partial_path(rt)? else {
+            return Ok(batch);
+        };
+        let target = Target {
+            role: Role::Solution,
+            path: path.as_str(),
+        };
+        let Ok(found) = target.find(rt, inputs) else {
+            return Ok(batch);
+        };
+        match found.prepare(rt) {
+            Ok(mut partial) => partial.write_given(rt, batch, text),
+            Err(_) => Ok(batch),
+        }
+    }
+
+    /// Returns a batch with the files of an answer.
+    fn write<R: World<File = F>>(
+        &mut self,
+        rt: &R,
+        inputs: &Inputs<'_>,
+        answer: &Answer,
+    ) -> Result<Batch, AllocError> {
+        let batch = if answer.status == 0 {
+            self.table
+                .write_given(rt, Batch::new(rt.alloc()), &answer.table)?
+        } else {
+            self.write_partial(rt, inputs, &answer.table)?
+        };
+        self.proof.write_given(rt, batch, &answer.proof)
+    }
+}
+
+/// Says on standard error why no timetable was found.
+fn say_why<E: Write>(alloc: Global, err: &mut E, instance: &[u8], answer: &Answer) {
+    let failed = Failed {
+        instance,
+        proof: answer.proof.as_ref().map(|proof| proof.as_slice()),
+    };
+    failed.say_why(alloc, err);
+}
+
 /// Searches for a best timetable, shows the progress on standard error, and keeps timetables and proofs on the way if the options ask for it.
 fn solve_shown<'k, R: World, E: Write>(
     rt: &'k R,
@@ -72,7 +137,7 @@ fn solve_shown<'k, R: World, E: Write>(
     solve(rt.alloc(), instance, effort, &mut keeper)
 }
 
-/// Returns the answer of `solve`, once the best timetable and the proof are in their files.
+/// Returns the answer of `solve`, once the timetable and the proof are in their files.
 pub fn answer_solve<R: World, E: Write>(
     rt: &R,
     err: &mut E,
@@ -95,12 +160,15 @@ pub fn answer_solve<R: World, E: Write>(
         table: table.prepare(rt)?,
         proof: proof.prepare(rt)?,
     };
-    let mut ticker = ticker_of(rt, err, "solve", request.showing);
-    let answer = solve_shown(rt, &mut ticker, &instance, &mut outputs, request.search);
-    ticker.clear();
-    let answer = answer?;
-    let batch = Batch::new(rt.alloc());
-    let batch = outputs.table.write_given(rt, batch, &answer.table)?;
-    let batch = outputs.proof.write_given(rt, batch, &answer.proof)?;
+    let answer = {
+        let mut ticker = ticker_of(rt, err, "solve", request.showing);
+        let answer = solve_shown(rt, &mut ticker, &instance, &mut outputs, request.search);
+        ticker.clear();
+        answer?
+    };
+    if answer.status != 0 {
+        say_why(rt.alloc(), err, &instance, &answer);
+    }
+    let batch = outputs.write(rt, &inputs, &answer)?;
     reply_with(rt, batch, answer.status, answer.out)
 }

@@ -1,5 +1,6 @@
-use Rattle.std.proofs.Common.{None, Err, refl, ap, subst}
+use Rattle.std.proofs.Common.{Err, refl, ap, subst}
 use Rattle.tt_page.specs.Limits.{IsWithinLimit}
+use Rattle.tt_page.specs.declared.proved.Proved.TheVariants.{Unproved}
 use Rattle.std.proofs.lemmas.Result.{err_from_is_err_and}
 use Rattle.tt_call_answers.specs.FaultMaps.{fault_from_instance, fault_from_solution, fault_from_labels, fault_from_page}
 use Rattle.tt_call_texts.specs.Paged.{IsNotPut}
@@ -48,7 +49,7 @@ returns-in_err-page-clause-only g c =
     let f = c.in_err-page.field-0.0 in
     λ p t l both named.
     let same = page_same c.args.instance.now c.args.solution.now p c.in_ok-instance.instance t c.in_ok-table.table c.args.names l
-    c.in_ok-labels.labels None None c.args.style.now both c.in_ok-instance.ensures.found c.in_ok-table.ensures.found named
+    c.in_ok-labels.labels Unproved Unproved c.args.style.now both c.in_ok-instance.ensures.found c.in_ok-table.ensures.found named
     c.in_ok-labels.ensures refl in
     rw (e.1, e.2) (subst (IsNotPut (fault_from_page f)) same (output_tells f _ c.in_err-page.ensures.size))
 
@@ -77,7 +78,7 @@ returns-clause-only g c =
     λ p t l both named.
     subst IsWithinLimit
     (page_same c.args.instance.now c.args.solution.now p c.in_ok-instance.instance t c.in_ok-table.table c.args.names l
-    c.in_ok-labels.labels None None c.args.style.now both c.in_ok-instance.ensures.found c.in_ok-table.ensures.found named
+    c.in_ok-labels.labels Unproved Unproved c.args.style.now both c.in_ok-instance.ensures.found c.in_ok-table.ensures.found named
     c.in_ok-labels.ensures refl) c.in_ok-page.ensures.size
 
 pub returns-in_err-instance-clause-failed : goal.returns-in_err-instance-clause-failed

@@ -1,7 +1,8 @@
-use Rattle.std.proofs.Common.{◌+◌, ℕ, List, Some, Err, refl, ap, subst, inl, inr}
+use Rattle.std.proofs.Common.{◌+◌, ℕ, List, Err, refl, ap, subst, inl, inr}
 use Rattle.std.specs.Io.KnownBytes.{Appends}
 use Rattle.std.proofs.lemmas.Result.{err_from_is_err_and}
 use Rattle.tt_page.specs.Limits.{IsWithinLimit}
+use Rattle.tt_page.specs.Proofs.{proved_of}
 use Rattle.tt_proof_check.proofs.TextFaults.{err_same}
 use Rattle.tt_proof_sum.specs.Added.{Give}
 use Rattle.tt_call_answers.specs.FaultMaps.{fault_from_instance, fault_from_solution, fault_from_labels, fault_from_page, fault_from_sum}
@@ -99,8 +100,8 @@ returns-in_err-page-clause-fault g c =
     (page_tells c.args.instance.now c.args.solution.now c.in_ok-instance.instance c.in_ok-table.table c.args.names
     c.in_ok-instance.ensures.found c.in_ok-table.ensures.found c.args.style.now _ c.in_ok-bound.bound
     (Give g.R.Source.remaining c.args.proofs.now) _ _ c.in_err-page.field-0.0 c.in_ok-labels.ensures
-    c.in_ok-bound.ensures.found c.in_ok-bound.ensures.holds (λ is. c.in_err-page.ensures.part (ap (λ f. Err f) is))
-    c.in_err-page.ensures.size)
+    c.in_ok-bound.ensures.found c.in_ok-bound.ensures.holds (λ is. rw c.of-proved.ensures.value at (c.in_err-page.ensures.part (ap (λ f. Err f) is)))
+    (rw c.of-proved.ensures.value at c.in_err-page.ensures.size))
 
 pub returns-in_err-page-clause-only : goal.returns-in_err-page-clause-only
 returns-in_err-page-clause-only g c =
@@ -109,10 +110,11 @@ returns-in_err-page-clause-only g c =
     λ p t l files b both named given h within.
     let here = sum_here c.args.instance.now files p c.in_ok-instance.instance b both.spelled c.in_ok-instance.ensures.found h within in
     let same = page_same c.args.instance.now c.args.solution.now p c.in_ok-instance.instance t c.in_ok-table.table c.args.names l
-    c.in_ok-labels.labels (Some b) (Some c.in_ok-bound.bound) c.args.style.now both c.in_ok-instance.ensures.found
+    c.in_ok-labels.labels (proved_of b) (proved_of c.in_ok-bound.bound) c.args.style.now both c.in_ok-instance.ensures.found
     c.in_ok-table.ensures.found named c.in_ok-labels.ensures
-    (ap (λ x. Some x) (c.in_ok-bound.ensures.only files b given here.is here.within)) in
-    rw (e.1, e.2) (inr (subst (IsNotPut (fault_from_page f)) same (output_tells f _ c.in_err-page.ensures.size)))
+    (ap proved_of (c.in_ok-bound.ensures.only files b given here.is here.within)) in
+    rw (e.1, e.2)
+    (inr (subst (IsNotPut (fault_from_page f)) same (output_tells f _ (rw c.of-proved.ensures.value at c.in_err-page.ensures.size))))
 
 pub returns-clause-written : goal.returns-clause-written
 returns-clause-written g c = record {
@@ -123,8 +125,8 @@ returns-clause-written g c = record {
     labels = c.in_ok-labels.labels;
     both = record { spelled = c.in_ok-instance.ensures.found; solved = c.in_ok-table.ensures.found };
     named = c.in_ok-labels.ensures;
-    within = c.in_ok-page.ensures.size;
-    written = c.in_ok-page.ensures.written;
+    within = rw c.of-proved.ensures.value at c.in_ok-page.ensures.size;
+    written = rw c.of-proved.ensures.value at c.in_ok-page.ensures.written;
     done = refl;
   };
   sum = c.in_ok-bound.ensures.found;
@@ -136,12 +138,12 @@ returns-clause-only g c =
     λ p t l files b both named given h within.
     let here = sum_here c.args.instance.now files p c.in_ok-instance.instance b both.spelled c.in_ok-instance.ensures.found h within in
     let same = page_same c.args.instance.now c.args.solution.now p c.in_ok-instance.instance t c.in_ok-table.table c.args.names l
-    c.in_ok-labels.labels (Some b) (Some c.in_ok-bound.bound) c.args.style.now both c.in_ok-instance.ensures.found
+    c.in_ok-labels.labels (proved_of b) (proved_of c.in_ok-bound.bound) c.args.style.now both c.in_ok-instance.ensures.found
     c.in_ok-table.ensures.found named c.in_ok-labels.ensures
-    (ap (λ x. Some x) (c.in_ok-bound.ensures.only files b given here.is here.within)) in (
+    (ap proved_of (c.in_ok-bound.ensures.only files b given here.is here.within)) in (
       subst (λ (x : List ℕ). Appends (g.W.Sink.contents c.args.sink.now) (g.W.Sink.contents c.page.new.sink) x) same
-          c.in_ok-page.ensures.written,
-      subst IsWithinLimit same c.in_ok-page.ensures.size,
+          (rw c.of-proved.ensures.value at c.in_ok-page.ensures.written),
+      subst IsWithinLimit same (rw c.of-proved.ensures.value at c.in_ok-page.ensures.size),
     )
 
 pub returns-in_err-instance-clause-failed_read : goal.returns-in_err-instance-clause-failed_read

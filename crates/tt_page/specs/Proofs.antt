@@ -1,0 +1,19 @@
+-- What a page says is proved.
+use Rattle.std.specs.Prelude.{◌≡◌, length, ⊤}
+use Rattle.tt_instance.specs.Problem.{Problem}
+use Rattle.tt_leaf.specs.Ranges.{AreBelow}
+use Rattle.tt_leaf.specs.declared.leaf.Bound.{Bound}
+use Rattle.tt_leaf.specs.declared.leaf.Bound.TheVariants as bound
+use Rattle.tt_page.specs.declared.proved.Proved.{Proved}
+use Rattle.tt_page.specs.declared.proved.Proved.TheVariants.{AtLeast, Infeasible, Clique, Slots}
+
+-- The courses that are named are the instance's.
+abbrev pub IsProvedOf : Problem → Proved → Type 0
+IsProvedOf p (Clique cs) = AreBelow (length p.courses) cs
+IsProvedOf p (Slots cs) = AreBelow (length p.courses) cs
+IsProvedOf p _ = ⊤
+
+-- What a bound says.
+abbrev pub proved_of : Bound → Proved
+proved_of (bound.AtLeast b) = AtLeast b
+proved_of bound.Nothing = Infeasible
