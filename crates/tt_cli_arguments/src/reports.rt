@@ -9,6 +9,9 @@ use tt_report::By;
 /// The maximum number of minutes of a period.
 const MAX_MINUTES: u64 = 1_440;
 
+/// The maximum number of weeks of a calendar.
+const MAX_WEEKS: u64 = 520;
+
 /// The name of the room, teacher or curriculum whose week a calendar shows, and the dates and times of the week.
 #[derive(Clone, Copy, Debug)]
 pub struct CalendarWish<'a> {
@@ -17,6 +20,7 @@ pub struct CalendarWish<'a> {
     pub first_day: &'a str,
     pub times: &'a str,
     pub minutes: u32,
+    pub weeks: u32,
 }
 
 /// The files of `report`, and whose weeks are shown.
@@ -79,7 +83,18 @@ const MINUTES: Argument<'static> = Argument {
         default: Some("45"),
     }),
     help: "How long a period is in the calendar, 1 to 1440 minutes",
-    condition: None,
+    condition: Some(Condition::Requires(&["ics"])),
+};
+
+const WEEKS: Argument<'static> = Argument {
+    id: "weeks",
+    form: Form::Number(Range {
+        least: 1,
+        most: MAX_WEEKS,
+        default: Some("1"),
+    }),
+    help: "How many times the week takes place in the calendar, 1 to 520",
+    condition: Some(Condition::Requires(&["ics"])),
 };
 
 /// The command `report`.
@@ -87,7 +102,7 @@ pub const REPORT: Description<'static> = Description {
     name: "report",
     about: "Prints the week of each room, teacher or curriculum",
     example: "Example: tt report week.ctt week.sol --by teacher",
-    arguments: &[INSTANCE, SOLUTION, BY, CSV, ICS, FIRST_DAY, TIMES, MINUTES],
+    arguments: &[INSTANCE, SOLUTION, BY, CSV, ICS, FIRST_DAY, TIMES, MINUTES, WEEKS,],
 };
 
 /// Returns the kind of blocks that is given.
@@ -104,12 +119,14 @@ fn by_of(found: &ArgMatches<'_>) -> Option<By> {
 /// Returns the options of a calendar, if one is wanted.
 fn calendar_wish<'a>(found: &ArgMatches<'a>, name: &'a str) -> Option<CalendarWish<'a>> {
     let minutes: u64 = found.get_one("minutes")?;
+    let weeks: u64 = found.get_one("weeks")?;
     Some(CalendarWish {
         by: by_of(found)?,
         name,
         first_day: found.get_str("first-day")?,
         times: found.get_str("times")?,
         minutes: u32::try_from(minutes).ok()?,
+        weeks: u32::try_from(weeks).ok()?,
     })
 }
 

@@ -1,24 +1,29 @@
 -- A week as an iCalendar file (RFC 5545): an event for each entry, in local time.
-use Rattle.std.specs.Prelude.{ℕ, ◌+◌, ◌/◌, ◌%◌, ◌==◌, Bool, nat_lt, ◌||◌, List, [], ◌∷◌, ◌++◌, flat_map, codes, slice_index_or, if◌then◌else◌}
+use Rattle.std.specs.Prelude.{ℕ, ◌+◌, ◌/◌, ◌%◌, ◌==◌, Bool, nat_lt, ◌||◌, List, [], ◌∷◌, ◌++◌, length, count_by, flat_map, codes, slice_index_or, if◌then◌else◌}
 use Rattle.std.specs.Fmt.{decimal}
 use Rattle.tt_instance.specs.Problem.{Problem}
 use Rattle.tt_instance.specs.declared.cell.Cell.{Cell}
+use Rattle.tt_report_export.specs.Folding.{folded}
 use Rattle.tt_report_export.specs.Names.{course_name, teacher_name, room_name}
 use Rattle.tt_report_export.specs.Weeks.{belongs_to}
+use Rattle.tt_report_export.specs.declared.folding.TheConstants.{LINE_BYTES}
 use Rattle.tt_report_export.specs.declared.week.Week.{Week}
 
--- When a week takes place: the date of each day as the number YYYYMMDD, the minute of the day at which each period begins, and its length.
+-- When a week takes place: the date of each day as the number YYYYMMDD, the minute of the day at which each period begins, its length, how many
+-- times the week takes place, and how many days lie between two of them.
 pub record Term : Type 0 where
   pub dates : List ℕ
   pub begins : List ℕ
   pub minutes : ℕ
+  pub weeks : ℕ
+  pub interval : ℕ
 
 -- A byte of a name in a calendar: a backslash, a semicolon or a comma follows a backslash; a control character becomes a question mark, so no name
 -- contains the end of a line.
 abbrev pub escaped : ℕ → List ℕ
 escaped byte =
     if byte == 92 || byte == 59 || byte == 44 then 92 ∷ byte ∷ []
-    else (if nat_lt byte 32 then codes "?" else byte ∷ [])
+    else (if nat_lt byte 32 || byte == 127 then codes "?" else byte ∷ [])
 
 -- The text of a name in a calendar, with its bytes escaped.
 abbrev pub shown : List ℕ → List ℕ
@@ -44,21 +49,38 @@ date_of term e = slice_index_or term.dates e.day 0
 abbrev pub begin_of : Term → Cell → ℕ
 begin_of term e = slice_index_or term.begins e.period 0
 
--- The line of a text.
+-- The line of a text, folded.
 abbrev pub line : List ℕ → List ℕ → List ℕ
-line label text = label ++ (text ++ codes "\r\n")
+line label text = folded LINE_BYTES (label ++ text) ++ codes "\r\n"
 
--- The text that distinguishes an event from all others: its time, its course and its room.
-abbrev pub identity : Term → Cell → List ℕ
-identity term e =
-    moment (date_of term e) (begin_of term e) ++ (codes "-" ++ (decimal e.course ++ (codes "-" ++ (decimal e.room ++ codes "@tt"))))
+-- The number of an entry among those of its course, counted from 1, behind these entries.
+abbrev pub lecture_number : List Cell → Cell → ℕ
+lecture_number before e = count_by (λ d. d.course == e.course) before + 1
 
--- The three lines for the time of an event.
+-- The tokens of the instance's name, each behind a hyphen.
+abbrev pub instance_name : Problem → List ℕ
+instance_name p = flat_map (λ token. codes "-" ++ shown token) p.name
+
+-- The text that distinguishes an event from all others, and stays the same if the lecture moves: the number of the lecture, its course behind the
+-- length of the course's name, and the instance.
+abbrev pub identity : Problem → ℕ → Cell → List ℕ
+identity p number e =
+    decimal number ++ (codes "." ++ (decimal (length (course_name p e)) ++ (codes "."
+    ++ (shown (course_name p e) ++ (codes "@tt" ++ instance_name p)))))
+
+-- The line that repeats an event, if the week takes place more than once.
+abbrev pub repeats : Term → List ℕ
+repeats term =
+    if nat_lt 1 term.weeks
+    then line (codes "RRULE:") (codes "FREQ=DAILY;INTERVAL=" ++ (decimal term.interval ++ (codes ";COUNT=" ++ decimal term.weeks)))
+    else []
+
+-- The lines for the time of an event; the stamp is the midnight at which its day begins.
 abbrev pub times : Term → Cell → List ℕ
 times term e =
     line (codes "DTSTAMP:") (moment (date_of term e) 0 ++ codes "Z")
     ++ (line (codes "DTSTART:") (moment (date_of term e) (begin_of term e))
-    ++ line (codes "DTEND:") (moment (date_of term e) (begin_of term e + term.minutes)))
+    ++ (line (codes "DURATION:") (codes "PT" ++ (decimal term.minutes ++ codes "M")) ++ repeats term))
 
 -- The three lines for the contents of an event: the course, the room and the teacher.
 abbrev pub names : Problem → Cell → List ℕ
@@ -66,17 +88,22 @@ names p e =
     line (codes "SUMMARY:") (shown (course_name p e))
     ++ (line (codes "LOCATION:") (shown (room_name p e)) ++ line (codes "DESCRIPTION:") (shown (teacher_name p e)))
 
--- The event of an entry: its identity, its times and its names.
-abbrev pub event : Problem → Term → Cell → List ℕ
-event p term e =
-    codes "BEGIN:VEVENT\r\n" ++ (line (codes "UID:") (identity term e) ++ (times term e ++ (names p e ++ codes "END:VEVENT\r\n")))
+-- The event of an entry with this number: its identity, its times and its names.
+abbrev pub event : Problem → Term → ℕ → Cell → List ℕ
+event p term number e =
+    codes "BEGIN:VEVENT\r\n" ++ (line (codes "UID:") (identity p number e) ++ (times term e ++ (names p e ++ codes "END:VEVENT\r\n")))
 
--- The event of an entry that belongs to the week.
-abbrev pub event_in : Problem → Week → Term → Cell → List ℕ
-event_in p week term e = if belongs_to p week e then event p term e else []
+-- The event of an entry behind these entries, if it belongs to the week.
+abbrev pub event_in : Problem → Week → Term → List Cell → Cell → List ℕ
+event_in p week term before e = if belongs_to p week e then event p term (lecture_number before e) e else []
+
+-- The events of entries behind these entries.
+abbrev pub events : Problem → Week → Term → List Cell → List Cell → List ℕ
+events p week term before [] = []
+events p week term before (e ∷ es) = event_in p week term before e ++ events p week term (before ++ e ∷ []) es
 
 -- The calendar of a room, a teacher or a curriculum.
 abbrev pub calendar_text : Problem → List Cell → Week → Term → List ℕ
 calendar_text p t week term =
     codes "BEGIN:VCALENDAR\r\nVERSION:2.0\r\nPRODID:-//tt//course timetable//EN\r\n"
-    ++ (flat_map (event_in p week term) t ++ codes "END:VCALENDAR\r\n")
+    ++ (events p week term [] t ++ codes "END:VCALENDAR\r\n")

@@ -2,3 +2,4 @@ pub mod Names
 pub mod Tables
 pub mod Weeks
 pub mod Calendars
+pub mod Folding

@@ -1,13 +1,15 @@
 //! A week as a calendar.
 
-ghost use Rattle.std.specs.Prelude.{◌≡◌, ◌++◌, flat_map, codes, IfOk, OnOk};
+ghost use Rattle.std.specs.Prelude.{◌≡◌, ◌++◌, [], codes, IfOk, OnOk};
+ghost use Rattle.std.specs.Fmt.{decimal};
 ghost use Rattle.tt_instance.specs.Cells.{InRange};
 ghost use Rattle.tt_table.specs.Table.{IsTimetable};
-ghost use Rattle.tt_report_export.specs.Calendars.{two_digits, clock, moment, identity, line, shown, times, names, event, event_in, calendar_text};
+ghost use Rattle.tt_report_export.specs.Calendars.{two_digits, clock, moment, instance_name, identity, line, shown, repeats, times, names, event, lecture_number, event_in, events, calendar_text};
 ghost use Rattle.tt_report_export.specs.Weeks.{IsWeek};
 
 use crate::digits::put_digits;
 use crate::escaping::put_escaped;
+use crate::folding::put_line;
 use crate::names::{course_name, room_name, teacher_of};
 use crate::term::Term;
 use crate::week::Week;
@@ -42,76 +44,139 @@ fn put_moment(out: &mut Vec<u8>, date: u32, minute: u64) -> Result<(), AllocErro
     put_clock(out, minute)
 }
 
-/// Appends the text that distinguishes an event from all others.
-fn put_identity(out: &mut Vec<u8>, term: &Term, entry: Entry) -> Result<(), AllocError>
-    ensures { OnOk result (out.new.items ≡ out.old.items ++ identity term.now entry) }
+/// Appends the tokens of the instance's name, each behind a hyphen.
+fn put_instance_name(text: &mut Vec<u8>, instance: &Instance<'_>) -> Result<(), AllocError>
+    ensures { OnOk result (text.new.items ≡ text.old.items ++ instance_name instance.now) }
 {
-    put_moment(
-        out,
-        term.date(entry.day),
-        u64::from(term.begin(entry.period)),
-    )?;
-    put_token(out, b"-")?;
-    put_digits(out, entry.course)?;
-    put_token(out, b"-")?;
-    put_digits(out, entry.room)?;
-    put_token(out, b"@tt")
+    for index in 0..instance.name_len() {
+        put_token(text, b"-")?;
+        put_escaped(text, instance.name_token(index))?;
+    }
+    Ok(())
+}
+
+/// Appends the text that distinguishes an event from all others.
+fn put_identity(
+    text: &mut Vec<u8>,
+    instance: &Instance<'_>,
+    number: u64,
+    entry: Entry,
+) -> Result<(), AllocError>
+    requires { InRange instance.now entry }
+    ensures { OnOk result (text.new.items ≡ text.old.items ++ identity instance.now number entry) }
+{
+    let course = course_name(instance, entry.course);
+    put_number(text, number)?;
+    put_token(text, b".")?;
+    put_number(text, course.len() as u64)?;
+    put_token(text, b".")?;
+    put_escaped(text, course)?;
+    put_token(text, b"@tt")?;
+    put_instance_name(text, instance)
 }
 
 /// Appends the line with the text that distinguishes an event from all others.
-fn put_identity_line(out: &mut Vec<u8>, term: &Term, entry: Entry) -> Result<(), AllocError>
-    ensures { OnOk result (out.new.items ≡ out.old.items ++ line (codes "UID:") (identity term.now entry)) }
+fn put_identity_line(
+    out: &mut Vec<u8>,
+    instance: &Instance<'_>,
+    number: u64,
+    entry: Entry,
+) -> Result<(), AllocError>
+    requires { InRange instance.now entry }
+    ensures { OnOk result (out.new.items ≡ out.old.items ++ line (codes "UID:") (identity instance.now number entry)) }
 {
-    put_token(out, b"UID:")?;
-    put_identity(out, term, entry)?;
-    put_token(out, b"\r\n")
+    let mut text = Vec::new(*out.allocator());
+    put_token(&mut text, b"UID:")?;
+    put_identity(&mut text, instance, number, entry)?;
+    put_line(out, &text)
 }
 
 /// Appends the line of the midnight at which a day begins, as the time at which the event was written.
 fn put_stamp(out: &mut Vec<u8>, date: u32) -> Result<(), AllocError>
     ensures { OnOk result (out.new.items ≡ out.old.items ++ line (codes "DTSTAMP:") (moment date 0 ++ codes "Z")) }
 {
-    put_token(out, b"DTSTAMP:")?;
-    put_moment(out, date, 0)?;
-    put_token(out, b"Z\r\n")
+    let mut text = Vec::new(*out.allocator());
+    put_token(&mut text, b"DTSTAMP:")?;
+    put_moment(&mut text, date, 0)?;
+    put_token(&mut text, b"Z")?;
+    put_line(out, &text)
 }
 
-/// Appends a line of a date and a minute of it.
-fn put_moment_line(
+/// Appends the line of the time at which an event begins.
+fn put_start(
     out: &mut Vec<u8>,
-    label: &[u8],
     date: u32,
     minute: u64,
 ) -> Result<(), AllocError>
-    ensures { OnOk result (out.new.items ≡ out.old.items ++ line label.now (moment date minute)) }
+    ensures { OnOk result (out.new.items ≡ out.old.items ++ line (codes "DTSTART:") (moment date minute)) }
 {
-    put_token(out, label)?;
-    put_moment(out, date, minute)?;
-    put_token(out, b"\r\n")
+    let mut text = Vec::new(*out.allocator());
+    put_token(&mut text, b"DTSTART:")?;
+    put_moment(&mut text, date, minute)?;
+    put_line(out, &text)
+}
+
+/// Appends the line of the length of an event.
+fn put_duration(out: &mut Vec<u8>, minutes: u32) -> Result<(), AllocError>
+    ensures { OnOk result (out.new.items ≡ out.old.items ++ line (codes "DURATION:") (codes "PT" ++ (decimal minutes ++ codes "M"))) }
+{
+    let mut text = Vec::new(*out.allocator());
+    put_token(&mut text, b"DURATION:PT")?;
+    put_digits(&mut text, minutes)?;
+    put_token(&mut text, b"M")?;
+    put_line(out, &text)
+}
+
+/// Appends the line that repeats an event, if the week takes place more than once.
+fn put_repeats(out: &mut Vec<u8>, term: &Term) -> Result<(), AllocError>
+    ensures { OnOk result (out.new.items ≡ out.old.items ++ repeats term.now) }
+{
+    if term.weeks() <= 1 {
+        return Ok(());
+    }
+    let mut text = Vec::new(*out.allocator());
+    put_token(&mut text, b"RRULE:FREQ=DAILY;INTERVAL=")?;
+    put_digits(&mut text, term.interval())?;
+    put_token(&mut text, b";COUNT=")?;
+    put_digits(&mut text, term.weeks())?;
+    put_line(out, &text)
 }
 
 /// Appends the lines for the time of an event.
-fn put_times(out: &mut Vec<u8>, term: &Term, entry: Entry) -> Result<(), AllocError>
+fn put_times(
+    out: &mut Vec<u8>,
+    term: &Term,
+    entry: Entry,
+) -> Result<(), AllocError>
     ensures { OnOk result (out.new.items ≡ out.old.items ++ times term.now entry) }
 {
     let date = term.date(entry.day);
-    let begin = u64::from(term.begin(entry.period));
     put_stamp(out, date)?;
-    put_moment_line(out, b"DTSTART:", date, begin)?;
-    put_moment_line(out, b"DTEND:", date, begin + u64::from(term.minutes()))
+    put_start(out, date, u64::from(term.begin(entry.period)))?;
+    put_duration(out, term.minutes())?;
+    put_repeats(out, term)
 }
 
 /// Appends a line of a name.
-fn put_name_line(out: &mut Vec<u8>, label: &[u8], name: &[u8]) -> Result<(), AllocError>
+fn put_name_line(
+    out: &mut Vec<u8>,
+    label: &[u8],
+    name: &[u8],
+) -> Result<(), AllocError>
     ensures { OnOk result (out.new.items ≡ out.old.items ++ line label.now (shown name.now)) }
 {
-    put_token(out, label)?;
-    put_escaped(out, name)?;
-    put_token(out, b"\r\n")
+    let mut text = Vec::new(*out.allocator());
+    put_token(&mut text, label)?;
+    put_escaped(&mut text, name)?;
+    put_line(out, &text)
 }
 
 /// Appends the lines for the contents of an event.
-fn put_names(out: &mut Vec<u8>, instance: &Instance<'_>, entry: Entry) -> Result<(), AllocError>
+fn put_names(
+    out: &mut Vec<u8>,
+    instance: &Instance<'_>,
+    entry: Entry,
+) -> Result<(), AllocError>
     requires { InRange instance.now entry }
     ensures { OnOk result (out.new.items ≡ out.old.items ++ names instance.now entry) }
 {
@@ -120,40 +185,56 @@ fn put_names(out: &mut Vec<u8>, instance: &Instance<'_>, entry: Entry) -> Result
     put_name_line(out, b"DESCRIPTION:", teacher_of(instance, entry.course))
 }
 
-/// Appends the event of an entry.
+/// Appends the event of an entry with this number among those of its course.
 fn put_event(
     out: &mut Vec<u8>,
     instance: &Instance<'_>,
     term: &Term,
+    number: u64,
     entry: Entry,
 ) -> Result<(), AllocError>
     requires { InRange instance.now entry }
-    ensures { OnOk result (out.new.items ≡ out.old.items ++ event instance.now term.now entry) }
+    ensures { OnOk result (out.new.items ≡ out.old.items ++ event instance.now term.now number entry) }
 {
     put_token(out, b"BEGIN:VEVENT\r\n")?;
-    put_identity_line(out, term, entry)?;
+    put_identity_line(out, instance, number, entry)?;
     put_times(out, term, entry)?;
     put_names(out, instance, entry)?;
     put_token(out, b"END:VEVENT\r\n")
 }
 
-/// Appends the event of an entry, if it belongs to the week.
+/// Returns the number of an entry of a course behind other entries among those of its course, counted from 1.
+#[tactic(auto, using(std::proofs::lemmas::List::Sums::count_by_more_yes, std::proofs::lemmas::List::Sums::count_by_more_no))]
+fn lecture_number(before: &[Entry], entry: Entry) -> u64
+    ensures { result ≡ lecture_number before.now entry }
+{
+    let mut number: u64 = 1;
+    for other in before {
+        if other.course == entry.course {
+            number += 1;
+        }
+    }
+    number
+}
+
+/// Appends the event of an entry behind other entries, if it belongs to the week.
 fn put_event_in(
     out: &mut Vec<u8>,
     instance: &Instance<'_>,
     week: Week,
     term: &Term,
+    before: &[Entry],
     entry: Entry,
 ) -> Result<(), AllocError>
     requires week { IsWeek instance.now week }
     requires entry { InRange instance.now entry }
-    ensures { OnOk result (out.new.items ≡ out.old.items ++ event_in instance.now week term.now entry) }
+    ensures { OnOk result (out.new.items ≡ out.old.items ++ event_in instance.now week term.now before.now entry) }
 {
-    if week.has(instance, entry) {
-        put_event(out, instance, term, entry)
-    } else {
-        Ok(())
+    if !week.has(instance, entry) {
+        return Ok(());
     }
+    let number = lecture_number(before, entry);
+    put_event(out, instance, term, number, entry)
 }
 
 /// Appends the events of the entries that belong to the week.
@@ -166,10 +247,10 @@ fn put_events(
 ) -> Result<(), AllocError>
     requires week { IsWeek instance.now week }
     requires entries { IsTimetable instance.now entries.now }
-    ensures { OnOk result (out.new.items ≡ out.old.items ++ flat_map (event_in instance.now week term.now) entries.now) }
+    ensures { OnOk result (out.new.items ≡ out.old.items ++ events instance.now week term.now [] entries.now) }
 {
-    for entry in entries {
-        put_event_in(out, instance, week, term, *entry)?;
+    for index in 0..entries.len() {
+        put_event_in(out, instance, week, term, &entries[..index], entries[index])?;
     }
     Ok(())
 }

@@ -6,8 +6,10 @@ ghost use Rattle.tt_report_export.specs.Calendars.{escaped};
 use std::alloc::AllocError;
 use tt_text::put_token;
 
-/// The first byte that is not a control character.
+/// The first byte that is not a control character, and the control character behind the others.
 const SPACE: u8 = b' ';
+
+const DELETE: u8 = 127;
 
 /// Appends a byte, after a backslash if the calendar needs one; a control character becomes a question mark.
 fn put_escaped_byte(out: &mut Vec<u8>, byte: u8) -> Result<(), AllocError>
@@ -15,7 +17,7 @@ fn put_escaped_byte(out: &mut Vec<u8>, byte: u8) -> Result<(), AllocError>
 {
     match byte {
         b'\\' | b';' | b',' => put_token(out, &[b'\\', byte]),
-        byte if byte < SPACE => put_token(out, b"?"),
+        byte if byte < SPACE || byte == DELETE => put_token(out, b"?"),
         byte => put_token(out, &[byte]),
     }
 }

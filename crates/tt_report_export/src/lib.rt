@@ -4,6 +4,7 @@
 mod calendar;
 mod digits;
 mod escaping;
+mod folding;
 mod names;
 mod quoting;
 mod table;
@@ -12,5 +13,5 @@ mod week;
 
 pub use calendar::write_calendar;
 pub use table::write_table;
-pub use term::{Term, TermFault};
+pub use term::{Lengths, Term, TermFault};
 pub use week::Week;

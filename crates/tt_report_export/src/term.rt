@@ -13,7 +13,15 @@ const MINUTES: u32 = 60;
 
 const HOURS: u32 = 24;
 
-/// When a week takes place: the date of each day, when each period begins, and its length.
+/// The number of days of a week.
+const WEEK: u32 = 7;
+
+/// The first and the last year of four digits.
+const FIRST_YEAR: i16 = 1000;
+
+const LAST_YEAR: i16 = 9999;
+
+/// When a week takes place: the date of each day, when each period begins, and its length; how often, and how many days apart.
 #[derive(Debug, Drop)]
 pub struct Term {
     /// The dates as numbers YYYYMMDD.
@@ -21,6 +29,15 @@ pub struct Term {
     /// The minutes of the day at which the periods begin.
     begins: Vec<u32>,
     minutes: u32,
+    weeks: u32,
+    interval: u32,
+}
+
+/// The lengths of a term: how many minutes a period lasts, and how many times the week takes place.
+#[derive(Clone, Copy, Debug)]
+pub struct Lengths {
+    pub minutes: u32,
+    pub weeks: u32,
 }
 
 /// Why a term can't be created.
@@ -32,6 +49,8 @@ pub enum TermFault {
     NoTime,
     #[error("there is no time for each period")]
     TooFewTimes,
+    #[error("there are more times than periods of a day")]
+    TooManyTimes,
     #[error("out of memory")]
     OutOfMemory,
 }
@@ -53,7 +72,7 @@ impl Model for Term {
 
     ghost Value = { spec.Term };
 
-    ghost view = { λ s. record { dates = s.dates.items; begins = s.begins.items; minutes = s.minutes } };
+    ghost view = { λ s. record { dates = s.dates.items; begins = s.begins.items; minutes = s.minutes; weeks = s.weeks; interval = s.interval } };
 }
 
 /// Returns a date as the number YYYYMMDD.
@@ -77,29 +96,53 @@ fn dates_from(alloc: Global, first: Date, days: u32) -> Result<Vec<u32>, TermFau
     Ok(dates)
 }
 
+/// Returns the value of one or two digits.
+fn value_of(digits: &str) -> Option<u32> {
+    if digits.len() > 2 || !digits.bytes().all(|byte| byte.is_ascii_digit()) {
+        return None;
+    }
+    u32::from_str(digits).ok()
+}
+
+/// Returns the least number of whole weeks, in days, that has this many days.
+fn days_between(days: u32) -> u32 {
+    (days.saturating_add(WEEK - 1) / WEEK).saturating_mul(WEEK)
+}
+
 /// Returns the minute of the day of a time such as `8:00`.
 fn minute_of(time: &str) -> Option<u32> {
     let (hour, minute) = time.split_once(':')?;
-    let hour = u32::from_str(hour).ok()?;
-    let minute = u32::from_str(minute).ok()?;
+    if minute.len() != 2 {
+        return None;
+    }
+    let hour = value_of(hour)?;
+    let minute = value_of(minute)?;
     if hour >= HOURS || minute >= MINUTES {
         return None;
     }
     Some(hour * MINUTES + minute)
 }
 
+/// Returns the date that a text such as `2027-02-01` gives, if its year has four digits.
+fn date_of(text: &str) -> Result<Date, TermFault> {
+    let date = Date::from_str(text).map_err(|_| TermFault::NoDate)?;
+    if date.year() < FIRST_YEAR || date.year() > LAST_YEAR {
+        return Err(TermFault::NoDate);
+    }
+    Ok(date)
+}
+
 impl Term {
     /// Creates the term whose first day has the date `first`, such as `2027-02-01`, for this many days; its periods begin at `times`, such as
-    /// `8:00,9:00`, one for each of this many periods, and last for this many minutes.
+    /// `8:00,9:00`, one for each of this many periods. The week is repeated after so many whole weeks as its days take.
     pub fn new(
         alloc: Global,
         (days, periods): (u32, u32),
         first: &str,
         times: &str,
-        minutes: u32,
+        lengths: Lengths,
     ) -> Result<Term, TermFault> {
-        let first = Date::from_str(first).map_err(|_| TermFault::NoDate)?;
-        let dates = dates_from(alloc, first, days)?;
+        let dates = dates_from(alloc, date_of(first)?, days)?;
         let mut begins = Vec::new(alloc);
         for time in times.split(',') {
             begins.push(minute_of(time).ok_or(TermFault::NoTime)?)?;
@@ -107,10 +150,16 @@ impl Term {
         if begins.len() < periods as usize {
             return Err(TermFault::TooFewTimes);
         }
+        if begins.len() > periods as usize {
+            return Err(TermFault::TooManyTimes);
+        }
+        let Lengths { minutes, weeks } = lengths;
         Ok(Term {
             dates,
             begins,
             minutes,
+            weeks,
+            interval: days_between(days),
         })
     }
 
@@ -133,5 +182,19 @@ impl Term {
         ensures { result ≡ self.now.minutes }
     {
         self.minutes
+    }
+
+    /// Returns how many times the week takes place.
+    pub fn weeks(&self) -> u32
+        ensures { result ≡ self.now.weeks }
+    {
+        self.weeks
+    }
+
+    /// Returns how many days lie between the first days of two weeks.
+    pub fn interval(&self) -> u32
+        ensures { result ≡ self.now.interval }
+    {
+        self.interval
     }
 }

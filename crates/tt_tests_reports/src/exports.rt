@@ -4,7 +4,7 @@ use std::alloc::Global;
 use std::test::Fail;
 use tt_testing_files::StoredFile;
 use tt_testing_runs::{Outcome, run_with};
-use tt_testing_samples::{MINI, edited};
+use tt_testing_samples::{MINI, edited, repeated};
 
 /// Mini's first course in the first period, and its second course in the next.
 const SOLUTION: &str = "a R 0 0 b R 0 1";
@@ -81,8 +81,60 @@ fn a_calendar(rt: HostRuntime) -> Result<(), Fail> {
     ];
     let outcome = exported(rt.alloc(), MINI, "b R 0 1", &words)?;
     let out =
-        "BEGIN:VCALENDAR\r\nVERSION:2.0\r\nPRODID:-//tt//course timetable//EN\r\nBEGIN:VEVENT\r\nUID:20270228T090500-1-0@tt\r\nDTSTAMP:20270228T000000Z\r\nDTSTART:20270228T090500\r\nDTEND:20270228T103500\r\nSUMMARY:b\r\nLOCATION:R\r\nDESCRIPTION:t2\r\nEND:VEVENT\r\nEND:VCALENDAR\r\n";
+        "BEGIN:VCALENDAR\r\nVERSION:2.0\r\nPRODID:-//tt//course timetable//EN\r\nBEGIN:VEVENT\r\nUID:1.1.b@tt-Mini\r\nDTSTAMP:20270228T000000Z\r\nDTSTART:20270228T090500\r\nDURATION:PT90M\r\nSUMMARY:b\r\nLOCATION:R\r\nDESCRIPTION:t2\r\nEND:VEVENT\r\nEND:VCALENDAR\r\n";
     assert_eq!(rt; outcome.answer(), (0, out, ""));
+    Ok(())
+}
+
+#[test]
+fn a_calendar_of_a_term(rt: HostRuntime) -> Result<(), Fail> {
+    let words = [
+        "--by",
+        "room",
+        "--ics",
+        "R",
+        "--first-day",
+        "2027-02-28",
+        "--times",
+        "8:00,9:05,23:30",
+        "--weeks",
+        "14",
+    ];
+    let outcome = exported(rt.alloc(), MINI, "a R 0 0 b R 0 1 a R 0 2", &words)?;
+    let repeats = "\r\nDURATION:PT45M\r\nRRULE:FREQ=DAILY;INTERVAL=7;COUNT=14\r\n";
+    assert!(rt; outcome.out.as_str().contains(repeats));
+    // Two lectures of a course have identities of their own, in the order of the solution.
+    for identity in ["\r\nUID:1.1.a@tt-Mini\r\n", "\r\nUID:2.1.a@tt-Mini\r\n"] {
+        assert!(rt; outcome.out.as_str().contains(identity));
+    }
+    Ok(())
+}
+
+#[test]
+fn long_names_are_folded(rt: HostRuntime) -> Result<(), Fail> {
+    let name = repeated(rt.alloc(), "ä", 40)?;
+    let wide = edited(rt.alloc(), MINI, "R 11", &format!(in rt.alloc(); "{name} 11")?)?;
+    let solution = format!(in rt.alloc(); "a {name} 0 0")?;
+    let words = [
+        "--by",
+        "curriculum",
+        "--ics",
+        "q",
+        "--first-day",
+        "2027-02-28",
+        "--times",
+        "8:00,9:05,23:30",
+    ];
+    let outcome = exported(rt.alloc(), &wide, &solution, &words)?;
+    let out = outcome.out.as_str();
+    for line in out.split("\r\n") {
+        assert!(rt; line.len() <= 75, "{line}");
+    }
+    // The line has 9 bytes before the name, and 33 of its characters fit.
+    let first = repeated(rt.alloc(), "ä", 33)?;
+    let rest = repeated(rt.alloc(), "ä", 7)?;
+    let folded = format!(in rt.alloc(); "\r\nLOCATION:{first}\r\n {rest}\r\n")?;
+    assert!(rt; out.contains(folded.as_str()));
     Ok(())
 }
 
@@ -110,8 +162,20 @@ fn calendars_that_are_refused(rt: HostRuntime) -> Result<(), Fail> {
         (
             "R",
             "2027-02-01",
+            "8:00,9:00,+9:5",
+            "refused: the times are not of the form 8:00,9:00\n",
+        ),
+        (
+            "R",
+            "2027-02-01",
             "8:00,9:00",
             "refused: there is no time for each period\n",
+        ),
+        (
+            "R",
+            "2027-02-01",
+            "8:00,9:00,10:00,11:00",
+            "refused: there are more times than periods of a day\n",
         ),
     ] {
         let words = [

@@ -9,7 +9,7 @@ use tt_call_answers::{Answer, AppFault};
 use tt_instance::Instance;
 use tt_instance_read::read_instance;
 use tt_report::By;
-use tt_report_export::{Term, Week, write_calendar};
+use tt_report_export::{Lengths, Term, Week, write_calendar};
 use tt_table::read_solution;
 
 /// The dates and times of a calendar's week.
@@ -21,6 +21,8 @@ pub struct WeekTimes<'a> {
     pub times: &'a str,
     /// The length of a period in minutes.
     pub minutes: u32,
+    /// How many times the week takes place.
+    pub weeks: u32,
 }
 
 /// Returns the dates and times of an instance's days and periods.
@@ -32,8 +34,10 @@ fn term_of(alloc: Global, instance: &Instance<'_>, times: WeekTimes<'_>) -> Resu
         first_day,
         times,
         minutes,
+        weeks,
     } = times;
-    Ok(Term::new(alloc, sizes, first_day, times, minutes)?)
+    let lengths = Lengths { minutes, weeks };
+    Ok(Term::new(alloc, sizes, first_day, times, lengths)?)
 }
 
 /// Returns the week of the room, the teacher or the curriculum of this name under a solution of an instance as an iCalendar file; the status

@@ -17,11 +17,13 @@ pub fn answer_calendar<R: World>(
         first_day,
         times,
         minutes,
+        weeks,
     } = request.calendar;
     let times = WeekTimes {
         first_day,
         times,
         minutes,
+        weeks,
     };
     let name = name.as_bytes();
     let answer = calendar(
