@@ -40,9 +40,9 @@ pub enum Request<'a> {
 /// The version, and the toolchain with which the program was proved, as `rt version` names it.
 const VERSION: &str = "0.1 (rattle-kit-13f logic dac8208d650f15bf)";
 
-/// The commands, in the order of the help.
+/// The commands, in the order in which a user meets them.
 const COMMANDS: [Description<'static>; 12] = [
-    VALIDATE, INSPECT, PAGE, CHECK, BOUND, SUM, IMPROVE, UPGRADE, SOLVE, PARTS, BEST, REPORT,
+    INSPECT, BEST, VALIDATE, PAGE, REPORT, IMPROVE, SOLVE, PARTS, CHECK, BOUND, SUM, UPGRADE,
 ];
 
 /// Returns the program without its commands.

@@ -37,7 +37,7 @@ pub const VALIDATE: Description<'static> = Description {
     name: "validate",
     about: "Prints the eight counts of a solution",
     example: "Example: tt validate week.ctt week.sol",
-    arguments: &[INSTANCE, SOLUTION],
+    arguments: &[INSTANCE, SOLUTION, PROGRESS, QUIET],
 };
 
 /// The command `check`.

@@ -71,10 +71,10 @@ fn value_option<'a>(alloc: Global, id: &'a str, name: &'a str) -> Arg<'a> {
 }
 
 fn number_option<'a>(alloc: Global, id: &'a str, range: Range<'a>) -> Arg<'a> {
-    let number = value_option(alloc, id, "N").value_parser(ValueParser::Unsigned(
-        range.least,
-        range.most,
-    ));
+    // A negative number is a value that is refused, and no option.
+    let number = value_option(alloc, id, "N")
+        .allow_negative_numbers(true)
+        .value_parser(ValueParser::Unsigned(range.least, range.most));
     match range.default {
         Some(default) => number.default_value(default),
         None => number,

@@ -3,6 +3,7 @@
 use crate::arguments::Request;
 use crate::description::{Argument, Description, Form};
 use crate::files::INSTANCE;
+use crate::showing::{PROGRESS, QUIET};
 use clap::ArgMatches;
 
 /// The files of `inspect`.
@@ -24,7 +25,7 @@ pub const INSPECT: Description<'static> = Description {
     name: "inspect",
     about: "Says what is in an instance, what can't be, and why a file is refused",
     example: "Example: tt inspect week.ctt week.sol",
-    arguments: &[INSTANCE, SOLUTION],
+    arguments: &[INSTANCE, SOLUTION, PROGRESS, QUIET],
 };
 
 /// Returns the options given for `inspect`.

@@ -3,6 +3,7 @@
 use crate::arguments::Request;
 use crate::description::{Argument, Condition, Description, Form, Range};
 use crate::files::{INSTANCE, SOLUTION, TimetableFiles};
+use crate::showing::{PROGRESS, QUIET};
 use clap::ArgMatches;
 use tt_report::By;
 
@@ -102,7 +103,9 @@ pub const REPORT: Description<'static> = Description {
     name: "report",
     about: "Prints the week of each room, teacher or curriculum",
     example: "Example: tt report week.ctt week.sol --by teacher",
-    arguments: &[INSTANCE, SOLUTION, BY, CSV, ICS, FIRST_DAY, TIMES, MINUTES, WEEKS,],
+    arguments: &[
+        INSTANCE, SOLUTION, BY, CSV, ICS, FIRST_DAY, TIMES, MINUTES, WEEKS, PROGRESS, QUIET,
+    ],
 };
 
 /// Returns the kind of blocks that is given.
