@@ -376,6 +376,12 @@ def folders_that_are_made(desk):
     assert not (desk.folder / "new").exists()
 
 
+def none_found(desk, instance):
+    """`best` proves that there is no timetable, and says why."""
+    status, out, err = desk.told(f"best {instance} out")
+    assert (status, out) == (1, b"cost none bound none\n") and err.startswith(b"can't be: ") and err.endswith(b"\n"), (status, out, err)
+
+
 def older_folders(desk):
     """What an earlier run left in OUTDIR and this one doesn't write gets another name, and an older file of that name is replaced."""
     desk.put(gap=GAP, same=SAME)
@@ -384,16 +390,17 @@ def older_folders(desk):
     assert first.keys() == {"best.sol", "page.html", "tree.proof"}
     (desk.folder / "out" / "groups.proof").write_bytes(OLDER)
     (desk.folder / "out" / "other").write_bytes(OLDER)
-    same(desk.told("best same out"), (1, b"cost none bound none\n", b""))
+    none_found(desk, "same")
     second = texts(desk, "out")
-    assert second.keys() == {"tree.proof", "best.sol.old", "page.html.old", "groups.proof.old", "other"}, f"{sorted(second)}"
-    assert second["best.sol.old"] == first["best.sol"] and second["page.html.old"] == first["page.html"] and second["groups.proof.old"] == OLDER
+    assert second.keys() == {"tree.proof", "best.sol.old", "partial.sol", "page.html", "groups.proof.old", "other"}, f"{sorted(second)}"
+    assert second["best.sol.old"] == first["best.sol"] and second["page.html"] != first["page.html"] and second["groups.proof.old"] == OLDER
     same(desk.told("sum same out/tree.proof"), (0, b"bound none\n", b""))
     same(desk.told("best gap out"), (0, b"cost 5 bound 5 optimal\n", b""))
-    for name in ("best.sol", "page.html"):
-        (desk.folder / "out" / name).write_bytes(b"newer")
-    same(desk.told("best same out"), (1, b"cost none bound none\n", b""))
-    assert texts(desk, "out")["page.html.old"] == texts(desk, "out")["best.sol.old"] == b"newer"
+    third = texts(desk, "out")
+    assert "partial.sol" not in third and third["partial.sol.old"] == second["partial.sol"]
+    (desk.folder / "out" / "best.sol").write_bytes(b"newer")
+    none_found(desk, "same")
+    assert texts(desk, "out")["best.sol.old"] == b"newer"
     # The same of `parts`.
     same(desk.told("parts gap parts"), (0, b"bound 5 parts 2\n", b""))
     desk.put(free=MINI.replace(b"R 11", b"R 12"))

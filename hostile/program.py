@@ -133,6 +133,7 @@ FILES = {
 SOLVE_GAP = {"out": None, "out.proof": None}
 PARTS_OF_GAP = {"groups.proof": None, "rooms.proof": None}
 BEST_OF_GAP = {"best.sol": None, "page.html": None, "tree.proof": None}
+BEST_OF_NONE = {"partial.sol": None, "page.html": None, "tree.proof": None}
 
 
 def in_new(names):
@@ -173,7 +174,7 @@ COMMANDS = [
     Command("solve gap - out.proof --nodes 100", written={"out.proof": None}),
     Command("solve gap out - --nodes 100", written={"out": None}),
     Command("solve gap - -", 2, b"", not_written("proof", "-", "is also output solution")),
-    Command("solve same out out.proof", 1, b"cost none bound none finished\n", written={"out.proof": None}),
+    Command("solve same out out.proof", 1, b"cost none bound none finished\n", None, {"out.partial": None, "out.proof": None}),
     Command("report mini mini.sol --by room", out=b"room R\n0 0 a\n0 1 b\n0 2\n"),
     Command("report mini mini.sol --by teacher", out=b"teacher t1\n0 0 a R\n0 1\n0 2\nteacher t2\n0 0\n0 1 b R\n0 2\n"),
     Command("report mini mini.sol --by curriculum", out=b"curriculum q\n0 0 a R\n0 1 b R\n0 2\n"),
@@ -208,8 +209,8 @@ COMMANDS = [
     Command("best gap . --rounds 2 --from gap.sol", out=b"cost 5 bound 5 optimal\n", written=None),
     Command("best gap . --rounds 2 --keep", out=b"cost 5 bound 5 optimal\n", written=BEST_OF_GAP, hurry=HURRY),
     Command("best gap new --rounds 2 --keep", out=b"cost 5 bound 5 optimal\n", written=in_new(BEST_OF_GAP), hurry=HURRY),
-    Command("best same .", 1, b"cost none bound none\n", written={"tree.proof": None}),
-    Command("best same new", 1, b"cost none bound none\n", written=in_new({"tree.proof": None})),
+    Command("best same .", 1, b"cost none bound none\n", None, BEST_OF_NONE),
+    Command("best same new", 1, b"cost none bound none\n", None, in_new(BEST_OF_NONE)),
     Command("best bad .", 2, b"", b"refused: instance: Expected Name: at byte 0\n"),
     Command("best bad new", 2, b"", b"refused: instance: Expected Name: at byte 0\n"),
     Command("--help"),

@@ -33,10 +33,10 @@ impl<'a> Failed<'a> {
         String::from_str(alloc, UNKNOWN)
     }
 
-    /// Says the reason on standard error. A failure has no effect.
-    pub fn say_why<E: Write>(&self, alloc: Global, err: &mut E) {
-        if let Ok(text) = self.explain(alloc) {
-            let _ = err.write_all(text.as_bytes());
-        }
+    /// Says the reason on standard error. A failed write has no effect.
+    pub fn say_why<E: Write>(&self, alloc: Global, err: &mut E) -> Result<(), AllocError> {
+        let text = self.explain(alloc)?;
+        let _ = err.write_all(text.as_bytes());
+        Ok(())
     }
 }

@@ -65,7 +65,12 @@ fn read_proofs<R: World>(rt: &R, folder: Folder<'_>) -> Result<Vec<Vec<u8>>, Com
 }
 
 /// Says on standard error why no timetable was found.
-fn say_why<E: Write>(alloc: Global, err: &mut E, instance: &[u8], proofs: &[Vec<u8>]) {
+fn say_why<E: Write>(
+    alloc: Global,
+    err: &mut E,
+    instance: &[u8],
+    proofs: &[Vec<u8>],
+) -> Result<(), AllocError> {
     let tree = proofs
         .iter()
         .find(|proof| kind_of_front(proof) == FileKind::Tree);
@@ -73,7 +78,7 @@ fn say_why<E: Write>(alloc: Global, err: &mut E, instance: &[u8], proofs: &[Vec<
         instance,
         proof: tree.map(|proof| proof.as_slice()),
     };
-    failed.say_why(alloc, err);
+    failed.say_why(alloc, err)
 }
 
 /// Searches, and writes the results.
@@ -117,7 +122,7 @@ fn find_best<R: World, E: Write>(
         answer?
     };
     if answer.table.is_none() {
-        say_why(rt.alloc(), err, instance, &answer.proofs);
+        say_why(rt.alloc(), err, instance, &answer.proofs)?;
     }
     let batch = files.write(Batch::new(rt.alloc()), &answer, &mut table)?;
     reply_with(rt, batch, answer.status, answer.out)

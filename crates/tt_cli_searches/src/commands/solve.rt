@@ -110,12 +110,17 @@ impl<F> Outputs<F> {
 }
 
 /// Says on standard error why no timetable was found.
-fn say_why<E: Write>(alloc: Global, err: &mut E, instance: &[u8], answer: &Answer) {
+fn say_why<E: Write>(
+    alloc: Global,
+    err: &mut E,
+    instance: &[u8],
+    answer: &Answer,
+) -> Result<(), AllocError> {
     let failed = Failed {
         instance,
         proof: answer.proof.as_ref().map(|proof| proof.as_slice()),
     };
-    failed.say_why(alloc, err);
+    failed.say_why(alloc, err)
 }
 
 /// Searches for a best timetable, shows the progress on standard error, and keeps timetables and proofs on the way if the options ask for it.
@@ -167,7 +172,7 @@ pub fn answer_solve<R: World, E: Write>(
         answer?
     };
     if answer.status != 0 {
-        say_why(rt.alloc(), err, &instance, &answer);
+        say_why(rt.alloc(), err, &instance, &answer)?;
     }
     let batch = outputs.write(rt, &inputs, &answer)?;
     reply_with(rt, batch, answer.status, answer.out)
