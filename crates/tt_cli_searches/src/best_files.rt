@@ -100,7 +100,8 @@ impl<'a, R: World> BestFiles<'a, R> {
     /// Checks whether all files can be written more than once.
     fn can_keep(&self) -> Result<bool, AllocError> {
         let proofs = self.proofs().can_keep(self.rt)?;
-        let tables = self.folder.can_keep(self.rt, TABLE)? && self.folder.can_keep(self.rt, PARTIAL)?;
+        let tables = self.folder.can_keep(self.rt, TABLE)?
+            && self.folder.can_keep(self.rt, PARTIAL)?;
         Ok(proofs && tables && self.folder.can_keep(self.rt, PAGE)?)
     }
 

@@ -6,7 +6,8 @@ use tt_inspect::{explain_shortages, explain_tree};
 use tt_instance_read::read_instance;
 
 /// The line of a search that found neither a timetable nor a reason why there is none.
-const UNKNOWN: &str = "not known: no timetable was found that breaks no hard rule, and no proof that there is none\n";
+const UNKNOWN: &str =
+    "not known: no timetable was found that breaks no hard rule, and no proof that there is none\n";
 
 /// A search that found no timetable.
 #[derive(Clone, Copy)]

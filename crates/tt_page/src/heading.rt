@@ -172,13 +172,7 @@ fn put_slots(out: &mut PageText, instance: &Instance<'_>, courses: &[u32])
 
 /// Appends what was proved, for a timetable's hard count and its cost.
 #[tactic(auto, using(tt_page_text::proofs::Growing::puts), unfolding(crate::specs::Heading::proved_text))]
-fn put_proved(
-    out: &mut PageText,
-    instance: &Instance<'_>,
-    proved: &Proved,
-    hard: u64,
-    cost: u64,
-)
+fn put_proved(out: &mut PageText, instance: &Instance<'_>, proved: &Proved, hard: u64, cost: u64)
     requires { IsProvedOf instance.now proved.now }
     ensures { out.new ≡ put_text out.old (proved_text instance.now proved.now hard cost) }
 {

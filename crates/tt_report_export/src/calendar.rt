@@ -103,11 +103,7 @@ fn put_stamp(out: &mut Vec<u8>, date: u32) -> Result<(), AllocError>
 }
 
 /// Appends the line of the time at which an event begins.
-fn put_start(
-    out: &mut Vec<u8>,
-    date: u32,
-    minute: u64,
-) -> Result<(), AllocError>
+fn put_start(out: &mut Vec<u8>, date: u32, minute: u64) -> Result<(), AllocError>
     ensures { OnOk result (out.new.items ≡ out.old.items ++ line (codes "DTSTART:") (moment date minute)) }
 {
     let mut text = Vec::new(*out.allocator());
@@ -143,11 +139,7 @@ fn put_repeats(out: &mut Vec<u8>, term: &Term) -> Result<(), AllocError>
 }
 
 /// Appends the lines for the time of an event.
-fn put_times(
-    out: &mut Vec<u8>,
-    term: &Term,
-    entry: Entry,
-) -> Result<(), AllocError>
+fn put_times(out: &mut Vec<u8>, term: &Term, entry: Entry) -> Result<(), AllocError>
     ensures { OnOk result (out.new.items ≡ out.old.items ++ times term.now entry) }
 {
     let date = term.date(entry.day);
@@ -158,11 +150,7 @@ fn put_times(
 }
 
 /// Appends a line of a name.
-fn put_name_line(
-    out: &mut Vec<u8>,
-    label: &[u8],
-    name: &[u8],
-) -> Result<(), AllocError>
+fn put_name_line(out: &mut Vec<u8>, label: &[u8], name: &[u8]) -> Result<(), AllocError>
     ensures { OnOk result (out.new.items ≡ out.old.items ++ line label.now (shown name.now)) }
 {
     let mut text = Vec::new(*out.allocator());
@@ -172,11 +160,7 @@ fn put_name_line(
 }
 
 /// Appends the lines for the contents of an event.
-fn put_names(
-    out: &mut Vec<u8>,
-    instance: &Instance<'_>,
-    entry: Entry,
-) -> Result<(), AllocError>
+fn put_names(out: &mut Vec<u8>, instance: &Instance<'_>, entry: Entry) -> Result<(), AllocError>
     requires { InRange instance.now entry }
     ensures { OnOk result (out.new.items ≡ out.old.items ++ names instance.now entry) }
 {

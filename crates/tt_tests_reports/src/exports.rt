@@ -113,7 +113,12 @@ fn a_calendar_of_a_term(rt: HostRuntime) -> Result<(), Fail> {
 #[test]
 fn long_names_are_folded(rt: HostRuntime) -> Result<(), Fail> {
     let name = repeated(rt.alloc(), "ä", 40)?;
-    let wide = edited(rt.alloc(), MINI, "R 11", &format!(in rt.alloc(); "{name} 11")?)?;
+    let wide = edited(
+        rt.alloc(),
+        MINI,
+        "R 11",
+        &format!(in rt.alloc(); "{name} 11")?,
+    )?;
     let solution = format!(in rt.alloc(); "a {name} 0 0")?;
     let words = [
         "--by",

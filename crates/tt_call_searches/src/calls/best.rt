@@ -241,11 +241,7 @@ fn reason_for(alloc: Global, instance: &Instance<'_>) -> Result<Proved, AllocErr
 }
 
 /// Returns what a page says if a bound holds.
-fn proved_by(
-    alloc: Global,
-    instance: &Instance<'_>,
-    bound: Bound,
-) -> Result<Proved, AllocError>
+fn proved_by(alloc: Global, instance: &Instance<'_>, bound: Bound) -> Result<Proved, AllocError>
     ensures by { IfOk result (IsProvedBy instance.now bound) }
     ensures within { IfOk result (IsProvedOf instance.now) }
 {

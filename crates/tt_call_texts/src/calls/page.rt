@@ -78,7 +78,15 @@ pub fn page<W: Sink>(
     let instance = read_instance(alloc, instance)?;
     let table = read_solution(alloc, &instance, solution)?;
     let labels = labels_for(alloc, &instance, names)?;
-    tt_page::page(alloc, &instance, &table, &labels, &Proved::Unproved, style, sink)?;
+    tt_page::page(
+        alloc,
+        &instance,
+        &table,
+        &labels,
+        &Proved::Unproved,
+        style,
+        sink,
+    )?;
     Ok(0)
 }
 
