@@ -3,10 +3,9 @@ use Rattle.std.specs.Prelude.{ℕ, ◌+◌, ◌/◌, ◌%◌, ◌==◌, Bool, na
 use Rattle.std.specs.Fmt.{decimal}
 use Rattle.tt_instance.specs.Problem.{Problem}
 use Rattle.tt_instance.specs.declared.cell.Cell.{Cell}
-use Rattle.tt_report_export.specs.Folding.{folded}
+use Rattle.tt_report_export.specs.Folding.{lines_of}
 use Rattle.tt_report_export.specs.Names.{course_name, teacher_name, room_name}
 use Rattle.tt_report_export.specs.Weeks.{belongs_to}
-use Rattle.tt_report_export.specs.declared.folding.TheConstants.{LINE_BYTES}
 use Rattle.tt_report_export.specs.declared.week.Week.{Week}
 
 -- When a week takes place: the date of each day as the number YYYYMMDD, the minute of the day at which each period begins, its length, how many
@@ -49,17 +48,21 @@ date_of term e = slice_index_or term.dates e.day 0
 abbrev pub begin_of : Term → Cell → ℕ
 begin_of term e = slice_index_or term.begins e.period 0
 
--- The line of a text, folded.
+-- The line of a text behind a label, folded.
 abbrev pub line : List ℕ → List ℕ → List ℕ
-line label text = folded LINE_BYTES (label ++ text) ++ codes "\r\n"
+line label text = lines_of (label ++ text)
 
 -- The number of an entry among those of its course, counted from 1, behind these entries.
 abbrev pub lecture_number : List Cell → Cell → ℕ
 lecture_number before e = count_by (λ d. d.course == e.course) before + 1
 
+-- A hyphen and a token of the instance's name.
+abbrev pub next_token : List ℕ → List ℕ
+next_token token = codes "-" ++ shown token
+
 -- The tokens of the instance's name, each behind a hyphen.
 abbrev pub instance_name : Problem → List ℕ
-instance_name p = flat_map (λ token. codes "-" ++ shown token) p.name
+instance_name p = flat_map next_token p.name
 
 -- The text that distinguishes an event from all others, and stays the same if the lecture moves: the number of the lecture, its course behind the
 -- length of the course's name, and the instance.
@@ -68,19 +71,20 @@ identity p number e =
     decimal number ++ (codes "." ++ (decimal (length (course_name p e)) ++ (codes "."
     ++ (shown (course_name p e) ++ (codes "@tt" ++ instance_name p)))))
 
+-- The line that repeats an event.
+abbrev pub rule : Term → List ℕ
+rule term = line (codes "RRULE:FREQ=DAILY;INTERVAL=") (decimal term.interval ++ (codes ";COUNT=" ++ decimal term.weeks))
+
 -- The line that repeats an event, if the week takes place more than once.
 abbrev pub repeats : Term → List ℕ
-repeats term =
-    if nat_lt 1 term.weeks
-    then line (codes "RRULE:") (codes "FREQ=DAILY;INTERVAL=" ++ (decimal term.interval ++ (codes ";COUNT=" ++ decimal term.weeks)))
-    else []
+repeats term = if nat_lt 1 term.weeks then rule term else []
 
 -- The lines for the time of an event; the stamp is the midnight at which its day begins.
 abbrev pub times : Term → Cell → List ℕ
 times term e =
     line (codes "DTSTAMP:") (moment (date_of term e) 0 ++ codes "Z")
     ++ (line (codes "DTSTART:") (moment (date_of term e) (begin_of term e))
-    ++ (line (codes "DURATION:") (codes "PT" ++ (decimal term.minutes ++ codes "M")) ++ repeats term))
+    ++ (line (codes "DURATION:PT") (decimal term.minutes ++ codes "M") ++ repeats term))
 
 -- The three lines for the contents of an event: the course, the room and the teacher.
 abbrev pub names : Problem → Cell → List ℕ

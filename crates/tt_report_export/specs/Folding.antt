@@ -12,3 +12,7 @@ abbrev pub folded : ℕ → List ℕ → List ℕ
 folded left [] = []
 folded left (byte ∷ bytes) =
     if nat_lt left (width byte) then codes "\r\n " ++ byte ∷ folded (LINE_BYTES - 2) bytes else byte ∷ folded (left - 1) bytes
+
+-- The lines of a text, with their ends.
+unfoldable pub lines_of : List ℕ → List ℕ
+lines_of text = folded LINE_BYTES text ++ codes "\r\n"

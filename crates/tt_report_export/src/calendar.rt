@@ -4,7 +4,7 @@ ghost use Rattle.std.specs.Prelude.{◌≡◌, ◌++◌, [], codes, IfOk, OnOk};
 ghost use Rattle.std.specs.Fmt.{decimal};
 ghost use Rattle.tt_instance.specs.Cells.{InRange};
 ghost use Rattle.tt_table.specs.Table.{IsTimetable};
-ghost use Rattle.tt_report_export.specs.Calendars.{two_digits, clock, moment, instance_name, identity, line, shown, repeats, times, names, event, lecture_number, event_in, events, calendar_text};
+ghost use Rattle.tt_report_export.specs.Calendars.{two_digits, clock, moment, next_token, instance_name, identity, line, shown, rule, repeats, times, names, event, lecture_number, event_in, events, calendar_text};
 ghost use Rattle.tt_report_export.specs.Weeks.{IsWeek};
 
 use crate::digits::put_digits;
@@ -44,13 +44,20 @@ fn put_moment(out: &mut Vec<u8>, date: u32, minute: u64) -> Result<(), AllocErro
     put_clock(out, minute)
 }
 
+/// Appends a hyphen and a token of the instance's name.
+fn put_next_token(text: &mut Vec<u8>, token: &[u8]) -> Result<(), AllocError>
+    ensures { OnOk result (text.new.items ≡ text.old.items ++ next_token token.now) }
+{
+    put_token(text, b"-")?;
+    put_escaped(text, token)
+}
+
 /// Appends the tokens of the instance's name, each behind a hyphen.
 fn put_instance_name(text: &mut Vec<u8>, instance: &Instance<'_>) -> Result<(), AllocError>
     ensures { OnOk result (text.new.items ≡ text.old.items ++ instance_name instance.now) }
 {
     for index in 0..instance.name_len() {
-        put_token(text, b"-")?;
-        put_escaped(text, instance.name_token(index))?;
+        put_next_token(text, instance.name_token(index))?;
     }
     Ok(())
 }
@@ -114,7 +121,7 @@ fn put_start(out: &mut Vec<u8>, date: u32, minute: u64) -> Result<(), AllocError
 
 /// Appends the line of the length of an event.
 fn put_duration(out: &mut Vec<u8>, minutes: u32) -> Result<(), AllocError>
-    ensures { OnOk result (out.new.items ≡ out.old.items ++ line (codes "DURATION:") (codes "PT" ++ (decimal minutes ++ codes "M"))) }
+    ensures { OnOk result (out.new.items ≡ out.old.items ++ line (codes "DURATION:PT") (decimal minutes ++ codes "M")) }
 {
     let mut text = Vec::new(*out.allocator());
     put_token(&mut text, b"DURATION:PT")?;
@@ -123,19 +130,27 @@ fn put_duration(out: &mut Vec<u8>, minutes: u32) -> Result<(), AllocError>
     put_line(out, &text)
 }
 
-/// Appends the line that repeats an event, if the week takes place more than once.
-fn put_repeats(out: &mut Vec<u8>, term: &Term) -> Result<(), AllocError>
-    ensures { OnOk result (out.new.items ≡ out.old.items ++ repeats term.now) }
+/// Appends the line that repeats an event.
+fn put_rule(out: &mut Vec<u8>, term: &Term) -> Result<(), AllocError>
+    ensures { OnOk result (out.new.items ≡ out.old.items ++ rule term.now) }
 {
-    if term.weeks() <= 1 {
-        return Ok(());
-    }
     let mut text = Vec::new(*out.allocator());
     put_token(&mut text, b"RRULE:FREQ=DAILY;INTERVAL=")?;
     put_digits(&mut text, term.interval())?;
     put_token(&mut text, b";COUNT=")?;
     put_digits(&mut text, term.weeks())?;
     put_line(out, &text)
+}
+
+/// Appends the line that repeats an event, if the week takes place more than once.
+fn put_repeats(out: &mut Vec<u8>, term: &Term) -> Result<(), AllocError>
+    ensures { OnOk result (out.new.items ≡ out.old.items ++ repeats term.now) }
+{
+    if 1 < term.weeks() {
+        put_rule(out, term)
+    } else {
+        Ok(())
+    }
 }
 
 /// Appends the lines for the time of an event.

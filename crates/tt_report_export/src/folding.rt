@@ -1,7 +1,7 @@
 //! Long lines of a calendar.
 
-ghost use Rattle.std.specs.Prelude.{◌≡◌, ◌++◌, ◌∷◌, [], ℕ, List, codes, IfOk, OnOk};
-ghost use Rattle.tt_report_export.specs.Folding.{width, folded};
+ghost use Rattle.std.specs.Prelude.{◌≡◌, ◌++◌, ◌∷◌, ℕ, List, IfOk, OnOk};
+ghost use Rattle.tt_report_export.specs.Folding.{width, folded, lines_of};
 
 use std::alloc::AllocError;
 use tt_text::put_token;
@@ -56,8 +56,9 @@ fn put_folded(out: &mut Vec<u8>, text: &[u8]) -> Result<(), AllocError>
 }
 
 /// Appends a text, folded, and the end of its line.
+#[tactic(auto, unfolding(crate::specs::Folding::lines_of))]
 pub fn put_line(out: &mut Vec<u8>, text: &[u8]) -> Result<(), AllocError>
-    ensures { OnOk result (out.new.items ≡ out.old.items ++ folded LINE_BYTES text.now ++ codes "\r\n") }
+    ensures { OnOk result (out.new.items ≡ out.old.items ++ lines_of text.now) }
 {
     put_folded(out, text)?;
     put_token(out, b"\r\n")
