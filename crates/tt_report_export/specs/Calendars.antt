@@ -71,9 +71,13 @@ identity p number e =
     decimal number ++ (codes "." ++ (decimal (length (course_name p e)) ++ (codes "."
     ++ (shown (course_name p e) ++ (codes "@tt" ++ instance_name p)))))
 
+-- How often an event is repeated: after so many days, so many times.
+unfoldable pub frequency : Term → List ℕ
+frequency term = decimal term.interval ++ (codes ";COUNT=" ++ decimal term.weeks)
+
 -- The line that repeats an event.
 abbrev pub rule : Term → List ℕ
-rule term = line (codes "RRULE:FREQ=DAILY;INTERVAL=") (decimal term.interval ++ (codes ";COUNT=" ++ decimal term.weeks))
+rule term = line (codes "RRULE:FREQ=DAILY;INTERVAL=") (frequency term)
 
 -- The line that repeats an event, if the week takes place more than once.
 abbrev pub repeats : Term → List ℕ

@@ -4,7 +4,7 @@ ghost use Rattle.std.specs.Prelude.{◌≡◌, ◌++◌, [], codes, IfOk, OnOk};
 ghost use Rattle.std.specs.Fmt.{decimal};
 ghost use Rattle.tt_instance.specs.Cells.{InRange};
 ghost use Rattle.tt_table.specs.Table.{IsTimetable};
-ghost use Rattle.tt_report_export.specs.Calendars.{two_digits, clock, moment, next_token, instance_name, identity, line, shown, rule, repeats, times, names, event, lecture_number, event_in, events, calendar_text};
+ghost use Rattle.tt_report_export.specs.Calendars.{two_digits, clock, moment, next_token, instance_name, identity, line, shown, frequency, rule, repeats, times, names, event, lecture_number, event_in, events, calendar_text};
 ghost use Rattle.tt_report_export.specs.Weeks.{IsWeek};
 
 use crate::digits::put_digits;
@@ -130,15 +130,23 @@ fn put_duration(out: &mut Vec<u8>, minutes: u32) -> Result<(), AllocError>
     put_line(out, &text)
 }
 
+/// Appends how often an event is repeated.
+#[tactic(auto, unfolding(crate::specs::Calendars::frequency))]
+fn put_frequency(text: &mut Vec<u8>, term: &Term) -> Result<(), AllocError>
+    ensures { OnOk result (text.new.items ≡ text.old.items ++ frequency term.now) }
+{
+    put_digits(text, term.interval())?;
+    put_token(text, b";COUNT=")?;
+    put_digits(text, term.weeks())
+}
+
 /// Appends the line that repeats an event.
 fn put_rule(out: &mut Vec<u8>, term: &Term) -> Result<(), AllocError>
     ensures { OnOk result (out.new.items ≡ out.old.items ++ rule term.now) }
 {
     let mut text = Vec::new(*out.allocator());
     put_token(&mut text, b"RRULE:FREQ=DAILY;INTERVAL=")?;
-    put_digits(&mut text, term.interval())?;
-    put_token(&mut text, b";COUNT=")?;
-    put_digits(&mut text, term.weeks())?;
+    put_frequency(&mut text, term)?;
     put_line(out, &text)
 }
 
