@@ -10,7 +10,6 @@ mod links;
 mod live;
 mod moves;
 mod nodes;
-mod reason;
 mod rounds;
 mod search;
 mod solving;
@@ -20,5 +19,4 @@ mod watching;
 
 pub use laws::pinned_paths_leave_one_timetable;
 pub use limit::{FIRST_STEPS, MAX_OPENED};
-pub use reason::find_reason;
 pub use solving::{Outcome, solve};
