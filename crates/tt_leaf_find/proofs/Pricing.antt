@@ -4,7 +4,7 @@ use Rattle.std.proofs.lemmas.List.{map-append}
 use Rattle.std.proofs.lemmas.List.Elements.{All-push, recursion_from_All}
 use Rattle.tt_list_laws.proofs.Members.{each_of_map}
 use Rattle.tt_leaf.specs.Ranges.{ArePrices, AreBelow}
-use Rattle.tt_shortage.proofs.Numbers.{once_more}
+use Rattle.tt_shortage.proofs.Ascending.{once_more}
 
 -- no price for the next number
 pub prices_same : (prices : List (ℕ × ℕ)) (i : ℕ) → ArePrices i prices → ArePrices (i + 1) prices

@@ -1,6 +1,6 @@
 //! The search for courses that have more lectures than is open to them.
 
-ghost use Rattle.std.specs.Prelude.{◌<◌, length, All, IfOk};
+ghost use Rattle.std.specs.Prelude.{length, IfOk, IfSome};
 ghost use Rattle.tt_shortage.specs.Numbers.{AreNumbers};
 
 use crate::cliques::search_cliques;
@@ -75,17 +75,9 @@ fn search_places(
     crowds.search(alloc, openings, members, Contested::Places)
 }
 
-/// Returns sets of courses that have more lectures than is open to them, at most so many; each is a reason why there is no timetable.
-/// Searched are each course, each curriculum, each teacher, courses any two of which conflict, grown from each course, and last all courses
-/// for rooms. In a curriculum, among a teacher's courses, and among all for rooms a set is found if there is one; not all sets are. Without
-/// any one of its courses a set has enough, so none contains another.
-pub fn find_shortages(
-    alloc: Global,
-    instance: &Instance<'_>,
-    most: usize,
-) -> Result<Vec<Shortage>, AllocError>
-    ensures { IfOk result (λ found. All (λ s. AreNumbers (length instance.now.courses) s.courses.items) found.items) }
-{
+/// Searches each course, each curriculum, each teacher, courses any two of which conflict, grown from each course, and last all courses for
+/// rooms; returns the first sets that are found to be too many, at most so many.
+fn find_crowds(alloc: Global, instance: &Instance<'_>, most: usize) -> Result<Crowds, AllocError> {
     let openings = Openings::new(alloc, instance)?;
     let mut crowds = Crowds::none(alloc, &openings, most)?;
     search_courses(alloc, &openings, &mut crowds)?;
@@ -93,6 +85,29 @@ pub fn find_shortages(
     search_teachers(alloc, instance, &openings, &mut crowds)?;
     search_cliques(alloc, instance, &openings, &mut crowds)?;
     search_places(alloc, &openings, &mut crowds)?;
+    Ok(crowds)
+}
+
+/// Returns courses that have more lectures than is open to them, if some are found: a reason why there is no timetable. In a curriculum, among
+/// a teacher's courses, and among all for rooms such courses are found if there are any.
+pub fn find_shortage(alloc: Global, instance: &Instance<'_>) -> Result<Option<Shortage>, AllocError>
+    ensures { IfOk result (λ found. IfSome found (λ s. AreNumbers (length instance.now.courses) s.courses.items)) }
+{
+    let crowds = find_crowds(alloc, instance, 1)?;
+    match crowds.as_slice().first() {
+        Some(crowd) => shortage_of(alloc, instance, &crowd.members, crowd.contested),
+        None => Ok(None),
+    }
+}
+
+/// Returns sets of courses, at most so many, that have more lectures than is open to them: reasons why there is no timetable. Without any one
+/// of its courses a set has enough, so none contains another; not all such sets are found. The first is that of `find_shortage`.
+pub fn find_shortages(
+    alloc: Global,
+    instance: &Instance<'_>,
+    most: usize,
+) -> Result<Vec<Shortage>, AllocError> {
+    let crowds = find_crowds(alloc, instance, most)?;
     let mut found = Vec::new(alloc);
     for crowd in crowds.as_slice() {
         if let Some(shortage) = shortage_of(alloc, instance, &crowd.members, crowd.contested)? {

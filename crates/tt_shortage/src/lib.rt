@@ -9,5 +9,5 @@ mod openings;
 mod placement;
 mod shortage;
 
-pub use find::find_shortages;
+pub use find::{find_shortage, find_shortages};
 pub use shortage::{Contested, Shortage};

@@ -1,6 +1,6 @@
 //! Courses that have more lectures than is open to them.
 
-ghost use Rattle.std.specs.Prelude.{◌<◌, length, All, IfOk, IfSome};
+ghost use Rattle.std.specs.Prelude.{length, IfOk, IfSome};
 ghost use Rattle.tt_leaf.specs.Ranges.{AreBelow};
 ghost use Rattle.tt_shortage.specs.Numbers.{AreNumbers};
 

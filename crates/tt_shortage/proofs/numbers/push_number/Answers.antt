@@ -1,6 +1,6 @@
 use Rattle.std.proofs.Common.{◌+◌, sym, subst}
 use Rattle.tt_shortage.specs.Numbers.{AreNumbers}
-use Rattle.tt_shortage.proofs.Numbers.{numbers_same, numbers_more}
+use Rattle.tt_shortage.proofs.Ascending.{numbers_same, numbers_more}
 use Rattle.tt_shortage.proofs.numbers.push_number.Goals as goal
 
 pub returns-then-not-belongs : goal.returns-then-not-belongs
