@@ -88,8 +88,8 @@ fn find_crowds(alloc: Global, instance: &Instance<'_>, most: usize) -> Result<Cr
     Ok(crowds)
 }
 
-/// Returns courses that have more lectures than is open to them, if some are found: a reason why there is no timetable. In a curriculum, among
-/// a teacher's courses, and among all for rooms such courses are found if there are any.
+/// Returns courses that have more lectures than is open to them, if some are found: a reason why there is no timetable. In a curriculum,
+/// among a teacher's courses, and among all for rooms such courses are found if there are any.
 pub fn find_shortage(alloc: Global, instance: &Instance<'_>) -> Result<Option<Shortage>, AllocError>
     ensures { IfOk result (λ found. IfSome found (λ s. AreNumbers (length instance.now.courses) s.courses.items)) }
 {
@@ -100,8 +100,8 @@ pub fn find_shortage(alloc: Global, instance: &Instance<'_>) -> Result<Option<Sh
     }
 }
 
-/// Returns sets of courses, at most so many, that have more lectures than is open to them: reasons why there is no timetable. Without any one
-/// of its courses a set has enough, so none contains another; not all such sets are found. The first is that of `find_shortage`.
+/// Returns sets of courses, at most so many, that have more lectures than is open to them: reasons why there is no timetable. Without any
+/// one of its courses a set has enough, so none contains another; not all such sets are found. The first is that of `find_shortage`.
 pub fn find_shortages(
     alloc: Global,
     instance: &Instance<'_>,
