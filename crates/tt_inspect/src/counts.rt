@@ -7,8 +7,6 @@ use tt_instance::Instance;
 #[derive(Clone, Copy)]
 pub struct CourseCounts {
     pub lectures: u64,
-    /// The number of periods of the week in which the course can have a lecture.
-    pub open: u64,
     /// The number of curricula of the course.
     pub curricula: u64,
 }
@@ -20,22 +18,6 @@ pub struct Counts {
     courses: Vec<CourseCounts>,
     /// The courses of each teacher.
     taught: Vec<Vec<u32>>,
-}
-
-/// Counts the periods of the week in which one of the courses can have a lecture.
-pub fn open_periods(instance: &Instance<'_>, courses: &[u32]) -> u64 {
-    let mut open: u64 = 0;
-    for day in 0..instance.days() {
-        for period in 0..instance.periods() {
-            if courses
-                .iter()
-                .any(|course| !instance.unavailable(*course, day, period))
-            {
-                open = open.saturating_add(1);
-            }
-        }
-    }
-    open
 }
 
 /// Returns the courses of each teacher.
@@ -70,7 +52,6 @@ impl Counts {
         for course in 0..instance.courses() {
             courses.push(CourseCounts {
                 lectures: u64::from(instance.lectures(course)),
-                open: open_periods(instance, &[course]),
                 curricula: 0,
             })?;
         }
@@ -87,7 +68,6 @@ impl Counts {
             Some(counts) => *counts,
             None => CourseCounts {
                 lectures: 0,
-                open: 0,
                 curricula: 0,
             },
         }
@@ -109,15 +89,6 @@ impl Counts {
             lectures = lectures.saturating_add(counts.lectures);
         }
         lectures
-    }
-
-    /// Returns the maximum, over some courses, of the number of periods in which a course can have a lecture.
-    pub fn most_open(&self, courses: &[u32]) -> u64 {
-        let mut most: u64 = 0;
-        for course in courses {
-            most = most.max(self.of_course(*course).open);
-        }
-        most
     }
 
     /// Returns the courses of a teacher.

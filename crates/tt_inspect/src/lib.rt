@@ -3,8 +3,11 @@
 
 mod advice;
 mod counts;
+mod course_names;
 mod excerpt;
+mod explained;
 mod faulty_place;
+mod impossible;
 mod inspected;
 mod instance_faults;
 mod lists;
@@ -12,11 +15,13 @@ mod place;
 mod reason;
 mod rows;
 mod scored;
+mod shortages;
 mod shown;
 mod solution_faults;
 mod summary;
 mod survey;
 
+pub use explained::{explain_shortages, explain_tree};
 pub use inspected::{Inspected, inspect_instance, inspect_solution};
 pub use instance_faults::explain_instance;
 pub use place::{Place, place_of};

@@ -45,6 +45,7 @@ impl<'a> fmt::Display for Name<'a> {
 /// A thing that is counted, with its verb where a text needs one.
 #[derive(Clone, Copy)]
 pub enum Noun {
+    CaseThatWas,
     Course,
     CourseThatIs,
     Curriculum,
@@ -57,6 +58,7 @@ pub enum Noun {
     Period,
     Place,
     Room,
+    RoomThatHas,
     RoomThatIs,
     Seat,
     Student,
@@ -66,7 +68,8 @@ pub enum Noun {
 }
 
 /// The words for one thing and those for several, in the order of the nouns.
-const WORDS: [(&str, &str); 18] = [
+const WORDS: [(&str, &str); 20] = [
+    ("case was", "cases were"),
     ("course", "courses"),
     ("course is", "courses are"),
     ("curriculum", "curricula"),
@@ -79,6 +82,7 @@ const WORDS: [(&str, &str); 18] = [
     ("period", "periods"),
     ("place", "places"),
     ("room", "rooms"),
+    ("room has", "rooms have"),
     ("room is", "rooms are"),
     ("seat", "seats"),
     ("student", "students"),

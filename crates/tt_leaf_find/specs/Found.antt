@@ -1,11 +1,10 @@
 -- The properties of a leaf that was found.
 use Rattle.tt_instance.specs.Problem.{Problem}
-use Rattle.std.specs.Prelude.{◌≡◌, ℕ, true, List, All}
-use Rattle.tt_list_laws.specs.Words.{are_distinct}
+use Rattle.std.specs.Prelude.{List, All}
 use Rattle.tt_path.specs.Facts.{IsPattern}
 use Rattle.tt_path.specs.declared.facts.Fact.{Fact}
 use Rattle.tt_leaf_rules.specs.Leaves.{IsRight}
-use Rattle.tt_leaf.specs.Ranges.{AreBelow, IsClaimOf, IsLeafOf}
+use Rattle.tt_leaf.specs.Ranges.{IsClaimOf, IsLeafOf}
 use Rattle.tt_leaf.specs.declared.leaf.Claim.{Claim}
 use Rattle.tt_leaf.specs.declared.leaf.Bound.{Bound}
 use Rattle.tt_leaf.specs.declared.leaf.Leaf.{Leaf}
@@ -29,8 +28,3 @@ ArePatterns p path = All (λ f. IsPattern p f.pattern) path
 pub record IsFitClaim (p : Problem) (claim : Claim) : Type 0 where
   pub numbers : IsClaimOf p claim
   pub short : IsShortClaim claim
-
--- Distinct numbers below a bound.
-pub record AreNumbers (count : ℕ) (ns : List ℕ) : Type 0 where
-  pub within : AreBelow count ns
-  pub once : are_distinct ns ≡ true

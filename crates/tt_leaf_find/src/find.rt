@@ -118,7 +118,7 @@ fn right_one<'i, P: Path<'i>>(path: &P, found: Option<Leaf>, bound: Bound) -> Op
     }
 }
 
-/// Returns a leaf of courses that have more lectures than the week has room for, if it is right. It is tried only on the empty path.
+/// Returns a leaf of courses that have more lectures than is open to them, if it is right. It is tried only on the empty path.
 fn find_overfull<'i, P: Path<'i>>(
     alloc: Global,
     path: &P,
@@ -147,8 +147,8 @@ fn find_priced<'i, P: Path<'i>>(
 }
 
 /// Returns a leaf that is right on a path, if one of those that are tried is right. It tries: that the cells of some yes-fact are all
-/// dead, that a course has too many pinned periods or too few live ones, that the courses of a curriculum or a teacher
-/// or all courses have too many lectures on the empty path, the best claims, and the best claims with stacked days.
+/// dead, that a course has too many pinned periods or too few live ones, on the empty path that courses have more lectures than periods, or
+/// than rooms in periods, are open to them, the best claims, and the best claims with stacked days.
 /// Leaves with prices over groups of courses are tried too.
 /// If the path has each live cell's own pattern as a yes-fact, one of them is right for each bound that all
 /// feasible timetables on the path respect.

@@ -25,7 +25,7 @@ fn mini_inspected(alloc: Global, solution: &str) -> Result<Outcome, Fail> {
 const MINI_LINES: &str =
     "2 courses with 2 lectures, 2 teachers, 1 room, 1 curriculum\n1 day of 3 periods, 3 places in all rooms, 66 percent full\n1 of 1 pair of courses can't meet at the same time, 100 percent\nthe largest room has 11 seats, the largest course 12 students; 1 lecture has no room that is large enough\ncosts 1 at least: course b has 12 students, the largest room 11 seats\n";
 
-/// A curriculum, a teacher and a course with more lectures than open periods, and other remarkable data.
+/// A course with more lectures than open periods, and other remarkable data.
 const SOLO: &str =
     "Name: Solo\nCourses: 2\nRooms: 2\nDays: 2\nPeriods_per_day: 1\nCurricula: 1\nConstraints: 1\n\nCOURSES:\na t1 2 3 10\nb t2 1 1 12\n\nROOMS:\nR 11\nS 9\n\nCURRICULA:\nq 1 a\n\nUNAVAILABILITY_CONSTRAINTS:\na 0 0\n\nEND.\n";
 
@@ -46,11 +46,51 @@ fn instances_in_words(rt: HostRuntime) -> Result<(), Fail> {
         (
             SOLO,
             1,
-            "2 courses with 3 lectures, 2 teachers, 2 rooms, 1 curriculum\n2 days of 1 period, 4 places in all rooms, 75 percent full\n0 of 1 pair of courses can't meet at the same time, 0 percent\nthe largest room has 11 seats, the largest course 12 students; 1 lecture has no room that is large enough\ncan't be: curriculum q has 2 lectures, its courses can meet in 1 period\ncan't be: teacher t1 has 2 lectures, its courses can meet in 1 period\ncan't be: course a has 2 lectures and can meet in 1 period\ncosts 5 at least: course a wants 3 days, the week has 2\ncosts 1 at least: course b has 12 students, the largest room 11 seats\nlook at: 1 course is in no curriculum: b\nlook at: 1 curriculum has fewer than two courses: q\nlook at: 1 room is too small for every course: S\n",
+            "2 courses with 3 lectures, 2 teachers, 2 rooms, 1 curriculum\n2 days of 1 period, 4 places in all rooms, 75 percent full\n0 of 1 pair of courses can't meet at the same time, 0 percent\nthe largest room has 11 seats, the largest course 12 students; 1 lecture has no room that is large enough\ncan't be: course a has 2 lectures and can meet in 1 period: day 2 period 1; it lacks 1 period\ncosts 5 at least: course a wants 3 days, the week has 2\ncosts 1 at least: course b has 12 students, the largest room 11 seats\nlook at: 1 course is in no curriculum: b\nlook at: 1 curriculum has fewer than two courses: q\nlook at: 1 room is too small for every course: S\n",
         ),
     ] {
         let outcome = inspected(rt.alloc(), instance)?;
         assert_eq!(rt; outcome.answer(), (status, lines, ""));
+    }
+    Ok(())
+}
+
+/// Two of a teacher's three courses can meet only in the first period.
+const PAIR: &str =
+    "Name: Pair\nCourses: 3\nRooms: 2\nDays: 1\nPeriods_per_day: 3\nCurricula: 1\nConstraints: 4\n\nCOURSES:\na t 1 1 1\nb t 1 1 1\nc t 1 1 1\n\nROOMS:\nR 1\nS 1\n\nCURRICULA:\nq 2 b c\n\nUNAVAILABILITY_CONSTRAINTS:\na 0 1\na 0 2\nb 0 1\nb 0 2\n\nEND.\n";
+
+/// Three courses of three teachers can meet only in the last period, which has two rooms.
+const LATE: &str =
+    "Name: Late\nCourses: 3\nRooms: 2\nDays: 1\nPeriods_per_day: 2\nCurricula: 1\nConstraints: 3\n\nCOURSES:\na t1 1 1 1\nb t2 1 1 1\nc t3 1 1 1\n\nROOMS:\nR 1\nS 1\n\nCURRICULA:\nq 2 a b\n\nUNAVAILABILITY_CONSTRAINTS:\na 0 0\nb 0 0\nc 0 0\n\nEND.\n";
+
+/// Two courses of a teacher, each in a curriculum with a third course.
+const TRIANGLE: &str =
+    "Name: Triangle\nCourses: 3\nRooms: 3\nDays: 2\nPeriods_per_day: 1\nCurricula: 2\nConstraints: 0\n\nCOURSES:\na t 1 1 1\nb t 1 1 1\nc s 1 1 1\n\nROOMS:\nR 1\nS 1\nT 1\n\nCURRICULA:\nq 2 a c\nr 2 b c\n\nUNAVAILABILITY_CONSTRAINTS:\n\nEND.\n";
+
+/// Checks whether what `inspect` says of an instance has a line.
+fn has_line(alloc: Global, instance: &str, line: &str) -> Result<bool, Fail> {
+    let outcome = inspected(alloc, instance)?;
+    let (status, out, err) = outcome.answer();
+    Ok(status == 1 && err.is_empty() && out.contains(line))
+}
+
+#[test]
+fn shortages_in_words(rt: HostRuntime) -> Result<(), Fail> {
+    for (instance, line) in [
+        (
+            PAIR,
+            "can't be: a and b of teacher t have 2 lectures, and together 1 period: day 1 period 1; they lack 1 period\n",
+        ),
+        (
+            LATE,
+            "can't be: a, b and c have 3 lectures, and together 1 period: day 1 period 2; 2 rooms have 2 places there; they lack 1 place\n",
+        ),
+        (
+            TRIANGLE,
+            "can't be: no two of a, b and c can meet at the same time; they have 3 lectures, and together 2 periods, all of the week; they lack 1 period\n",
+        ),
+    ] {
+        assert!(rt; has_line(rt.alloc(), instance, line)?, "{line}");
     }
     Ok(())
 }

@@ -1,0 +1,2 @@
+pub mod Numbers
+pub use Rattle.tt_leaf.specs.Ranges
