@@ -2,13 +2,11 @@
 
 use crate::aim::{Aim, SCALE};
 use crate::climb::{Climb, End};
-use crate::clusters::join_curricula;
-use crate::draft::Draft;
-use crate::drafting::{count_lectures, give_days};
 use crate::found::{PricesFound, found_by};
 use crate::group::Group;
 use std::alloc::{AllocError, Global};
 use tt_instance::Instance;
+use tt_parts_drafts::{Draft, count_lectures, give_days, join_curricula};
 use tt_parts_least::Allowance;
 use tt_parts_priced::{Limits, Program, Terms};
 use tt_watch::Watch;

@@ -1,10 +1,10 @@
 //! A group in a climb: its program, its prices, and the timetable that it chose.
 
 use crate::aim::{Aim, SCALE};
-use crate::draft::Draft;
 use crate::fixed::{ONE, product, rounded, whole};
 use rand_pcg::Pcg32;
 use std::alloc::{AllocError, Global};
+use tt_parts_drafts::Draft;
 use tt_parts_priced::{Program, Tables};
 use tt_prices::MAX_PRICE;
 

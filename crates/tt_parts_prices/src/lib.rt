@@ -3,10 +3,6 @@
 
 mod aim;
 mod climb;
-mod clusters;
-mod crowd;
-mod draft;
-mod drafting;
 mod finding;
 mod fixed;
 mod found;
