@@ -5,7 +5,9 @@ mod clusters;
 mod crowd;
 mod draft;
 mod drafting;
+mod wide;
 
 pub use clusters::join_curricula;
 pub use draft::Draft;
 pub use drafting::{count_lectures, give_days};
+pub use wide::widen;

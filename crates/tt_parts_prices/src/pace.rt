@@ -7,6 +7,9 @@ use crate::group::{MOMENTUM, PARTS};
 /// The share of the way that a first step goes.
 const FIRST: i64 = ONE;
 
+/// The share of the way that the first step goes after groups have grown.
+const GROWN: i64 = ONE / 2;
+
 /// What becomes of the share if some steps gain nothing, in tenths.
 const SHORTER: i64 = 7;
 
@@ -70,6 +73,13 @@ impl Pace {
         self.share = self.first;
         self.stale = 0;
         self.phase = i64::MIN;
+    }
+
+    /// Begins a stretch of groups that have grown.
+    pub fn begin_again(&mut self) {
+        self.has_gained = true;
+        self.first = GROWN;
+        self.restart(PARTS);
     }
 
     /// Returns the first share of the stretch.
