@@ -153,6 +153,14 @@ impl Group {
         self.best.get(place).copied().unwrap_or(0)
     }
 
+    /// Returns the best price of a course in a slot; 0 if the group doesn't concern it.
+    pub fn best_price_of(&self, course: u32, slot: usize) -> i64 {
+        match self.index_of(course) {
+            Some(index) => self.best_price(index, slot),
+            None => 0,
+        }
+    }
+
     /// Returns the number of bits that count the lectures of the course with this index.
     pub fn bits(&self, index: usize) -> i64 {
         let lectures = self.lectures.get(index).copied().unwrap_or(0);

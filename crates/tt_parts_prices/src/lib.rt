@@ -3,6 +3,7 @@
 
 mod aim;
 mod candidates;
+mod changing;
 mod climb;
 mod finding;
 mod fixed;
