@@ -5,7 +5,7 @@ use tt_instance::Instance;
 use tt_parts_priced::Terms;
 
 /// The number of units of price in a cost point.
-pub const SCALE: u32 = 100;
+pub const SCALE: u32 = 1_000;
 
 /// The instance, what its courses need, the rents at which a climb begins, the known cost, the effort, and the numbers of courses, slots
 /// and rooms.

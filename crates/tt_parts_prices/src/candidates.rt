@@ -4,7 +4,6 @@ use crate::aim::Aim;
 use crate::fixed::ONE;
 use crate::group::Group;
 use std::alloc::AllocError;
-use tt_parts_least::members_of;
 
 /// The least distance from its lectures, on average, at which a course may be counted.
 const OFF: i64 = ONE / 50;
@@ -15,28 +14,13 @@ const APART: i64 = ONE / 10;
 /// The maximum number of courses that a group takes in with another one.
 const NEW: usize = 6;
 
-/// The maximum number of courses that a group takes in with a curriculum.
-const NEW_MOVED: usize = 1;
-
 /// A change of the groups.
 #[derive(Clone, Copy, Debug)]
 pub enum Change {
     /// A group counts the lectures of one more course.
-    Count {
-        group: usize,
-        course: u32,
-    },
+    Count { group: usize, course: u32 },
     /// A group takes in another one.
-    Join {
-        group: usize,
-        other: usize,
-    },
-    /// A group takes a curriculum from another one.
-    Move {
-        group: usize,
-        other: usize,
-        curriculum: u32,
-    },
+    Join { group: usize, other: usize },
 }
 
 /// A change, and how much hope there is that it gains something, as a number with a fraction.
@@ -52,15 +36,10 @@ impl Change {
         match self {
             Change::Count { group, course: _ } => group,
             Change::Join { group, other: _ } => group,
-            Change::Move {
-                group,
-                other: _,
-                curriculum: _,
-            } => group,
         }
     }
 
-    /// Returns the number of the group that it takes in, or takes something from.
+    /// Returns the number of the group that it takes in.
     pub fn other(self) -> Option<usize> {
         match self {
             Change::Count {
@@ -68,11 +47,6 @@ impl Change {
                 course: _,
             } => None,
             Change::Join { group: _, other } => Some(other),
-            Change::Move {
-                group: _,
-                other,
-                curriculum: _,
-            } => Some(other),
         }
     }
 }
@@ -133,60 +107,12 @@ fn score_of(one: &Group, other: &Group, slots: usize) -> i64 {
     sum.checked_div(parts).unwrap_or(0)
 }
 
-/// Returns the score of a group that takes a curriculum from another one: by how much they differ in its courses; 0 if it shouldn't.
-fn score_of_move(aim: &Aim<'_, '_>, one: &Group, other: &Group, curriculum: u32) -> i64 {
-    let mut sum: i64 = 0;
-    let mut new: usize = 0;
-    for course in members_of(aim.instance, curriculum) {
-        match (one.index_of(*course), other.index_of(*course)) {
-            (Some(first), Some(second)) => {
-                sum = sum.saturating_add(distance_in(one, first, other, second, aim.slots));
-            }
-            _ => new = new.saturating_add(1),
-        }
-    }
-    if sum < APART || NEW_MOVED < new {
-        return 0;
-    }
-    let parts = i64::try_from(new).unwrap_or(0).saturating_add(1);
-    sum.checked_div(parts).unwrap_or(0) / 2
-}
-
-/// Adds the curricula that a group could take from another one.
-fn add_moves(
-    aim: &Aim<'_, '_>,
-    groups: &[Group],
-    (group, other): (usize, usize),
-    list: &mut Vec<Candidate>,
-) -> Result<(), AllocError> {
-    let (Some(one), Some(second)) = (groups.get(group), groups.get(other)) else {
-        return Ok(());
-    };
-    for curriculum in &second.draft.curricula {
-        let score = score_of_move(aim, one, second, *curriculum);
-        if score > 0 {
-            list.push(Candidate {
-                change: Change::Move {
-                    group,
-                    other,
-                    curriculum: *curriculum,
-                },
-                score,
-            })?;
-        }
-    }
-    Ok(())
-}
-
 /// Returns the changes that may gain something, those with the most hope first.
 pub fn list_candidates(aim: &Aim<'_, '_>, groups: &[Group]) -> Result<Vec<Candidate>, AllocError> {
     let mut list = Vec::new(aim.alloc);
     for (number, group) in groups.iter().enumerate() {
         add_counts(number, group, &mut list)?;
         for (other, second) in groups.iter().enumerate() {
-            if number != other {
-                add_moves(aim, groups, (number, other), &mut list)?;
-            }
             let score = if number < other {
                 score_of(group, second, aim.slots)
             } else {

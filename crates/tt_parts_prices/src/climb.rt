@@ -85,13 +85,14 @@ impl Climb {
         let alloc = aim.alloc;
         let cells = aim.courses.saturating_mul(aim.slots);
         let places = aim.rooms.saturating_mul(aim.slots);
+        let with_rents: u32 = if aim.rents.is_empty() { 0 } else { 1 };
         let mut climb = Climb {
             groups,
             rents: Rents::new(alloc, aim.rents)?,
             pace: Pace::new(),
             rng: Pcg32::seed_from_u64(seed),
             holders: vec![in alloc; 0u32; aim.courses]?,
-            terms: vec![in alloc; 0u32; aim.courses]?,
+            terms: vec![in alloc; with_rents; aim.courses]?,
             last: vec![in alloc; NO_GROUP; aim.courses]?,
             totals: vec![in alloc; 0i64; cells]?,
             votes: vec![in alloc; 0u32; cells]?,
@@ -101,16 +102,15 @@ impl Climb {
             load: vec![in alloc; 0u32; places]?,
             placing: Placing::new(alloc),
         };
-        climb.count_holders(aim);
+        climb.count_holders();
         Ok(climb)
     }
 
-    /// Counts the groups that concern each course, and finds the terms that take part: all if rooms do, else those of courses that some
-    /// group doesn't count.
-    fn count_holders(&mut self, aim: &Aim<'_, '_>) {
+    /// Counts the groups that concern each course, and finds the terms that take part: those that do already, and those of courses that
+    /// some group doesn't count.
+    fn count_holders(&mut self) {
         self.holders.fill(0);
         self.last.fill(NO_GROUP);
-        self.terms.fill(if aim.rents.is_empty() { 0 } else { 1 });
         for (number, group) in self.groups.iter().enumerate() {
             for course in group.program.courses() {
                 let place = *course as usize;
@@ -135,9 +135,9 @@ impl Climb {
     }
 
     /// Takes groups that have the same prices together, and gain this much at them.
-    pub fn take(&mut self, aim: &Aim<'_, '_>, groups: Vec<Group>, gain: i64) {
+    pub fn take(&mut self, groups: Vec<Group>, gain: i64) {
         self.groups = groups;
-        self.count_holders(aim);
+        self.count_holders();
         self.restore();
         self.pace.best = self.pace.best.saturating_add(gain);
     }

@@ -2,6 +2,7 @@
 
 use crate::aim::{Aim, SCALE};
 use crate::climb::{Climb, End};
+use crate::fixed::ONE;
 use crate::found::{PricesFound, found_by};
 use crate::growing::grow_groups;
 use crate::racing::{climbs_of, race};
@@ -20,6 +21,15 @@ const DEARER: u64 = 2;
 
 /// The least number of steps that the whole effort has to allow after groups have grown.
 const GROWN: u64 = 60;
+
+/// The part of the effort that is kept for the last stretches.
+const CALM: u64 = 8;
+
+/// The share of the way that the first step goes after groups have grown.
+const GROWN_SHARE: i64 = ONE / 2;
+
+/// The share of the way that the first of the last steps goes.
+const CALM_SHARE: i64 = ONE * 3 / 10;
 
 /// What is left of the first share from stretch to stretch, in tenths.
 const CALMER: i64 = 6;
@@ -68,34 +78,53 @@ fn first_rents(
     Ok(start)
 }
 
-/// Goes up in stretches, between which groups grow, until the work is used up or nothing is gained.
-fn finish<W: Watch>(
+/// Goes up in stretches, between which groups grow, until so much work is left or nothing is gained.
+fn climb_and_grow<W: Watch>(
     aim: &Aim<'_, '_>,
     climb: &mut Climb,
+    kept: u64,
     work: &mut Allowance<'_, W>,
 ) -> Result<(), AllocError> {
     let most = aim.effort / GROWN;
     let mut step = climb.work(aim).saturating_mul(DEARER);
     for _ in 0..STRETCHES {
-        if aim.is_reached(climb.pace.best) || work.is_used_up() {
-            break;
-        }
-        let end = climb.go(aim, u64::MAX, work)?;
+        let left = work.left().saturating_sub(kept);
+        let end = climb.go(aim, left, work)?;
         if end == End::Work || end == End::Done {
             break;
         }
         let growth = grow_groups(aim, climb, step.min(most), work)?;
         if growth.changes > 0 {
-            climb.pace.begin_again();
+            climb.pace.begin(GROWN_SHARE);
         } else if most <= step || end == End::Agreed {
             climb.pace.restart(CALMER);
-            if climb.pace.first() < LAST {
-                break;
-            }
         } else {
             climb.pace.restart(SAME);
         }
+        if climb.pace.first() < LAST {
+            break;
+        }
         step = step.saturating_mul(DEARER).min(most);
+    }
+    Ok(())
+}
+
+/// Goes up in stretches of ever smaller steps.
+fn calm<W: Watch>(
+    aim: &Aim<'_, '_>,
+    climb: &mut Climb,
+    work: &mut Allowance<'_, W>,
+) -> Result<(), AllocError> {
+    climb.restore();
+    climb.pace.begin(CALM_SHARE);
+    for _ in 0..STRETCHES {
+        if aim.is_reached(climb.pace.best) || climb.pace.first() < LAST {
+            break;
+        }
+        if climb.go(aim, u64::MAX, work)? != End::Stale {
+            break;
+        }
+        climb.pace.restart(CALMER);
     }
     Ok(())
 }
@@ -133,6 +162,7 @@ pub fn find_prices<W: Watch>(
     let Some(mut climb) = race(&aim, climbs, &mut work)? else {
         return Ok(None);
     };
-    finish(&aim, &mut climb, &mut work)?;
+    climb_and_grow(&aim, &mut climb, search.effort / CALM, &mut work)?;
+    calm(&aim, &mut climb, &mut work)?;
     Ok(Some(found_by(&aim, &climb)?))
 }

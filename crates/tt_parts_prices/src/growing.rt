@@ -115,9 +115,6 @@ fn mark(marks: &mut [bool], place: usize) {
 /// Checks whether a file can be checked in which a trial's group is in the place of those that it changes.
 fn is_checkable(groups: &[Group], trial: &Trial) -> bool {
     let mut size = Size::NONE.with(&trial.group.program);
-    if let Some(rest) = &trial.rest {
-        size = size.with(&rest.program);
-    }
     for (number, group) in groups.iter().enumerate() {
         if number != trial.change.group() && Some(number) != trial.change.other() {
             size = size.with(&group.program);
@@ -149,23 +146,11 @@ impl Round {
         mark(&mut self.touched, trial.change.group());
         if let Some(other) = trial.change.other() {
             mark(&mut self.touched, other);
-            if trial.rest.is_none() {
-                mark(&mut self.taken, other);
-            }
+            mark(&mut self.taken, other);
         }
         self.now = self.now.saturating_add(trial.more);
         self.growth.changes = self.growth.changes.saturating_add(1);
         self.growth.gain = self.growth.gain.saturating_add(trial.gain);
-    }
-}
-
-/// Puts a group in a place, if both are given.
-fn put(groups: &mut [Group], place: Option<usize>, group: Option<Group>) {
-    let (Some(place), Some(group)) = (place, group) else {
-        return;
-    };
-    if let Some(entry) = groups.get_mut(place) {
-        *entry = group;
     }
 }
 
@@ -212,17 +197,17 @@ fn take_trials(
             let Trial {
                 change,
                 group,
-                rest,
                 gain: _,
                 more: _,
                 rate: _,
             } = trial;
-            put(&mut groups, Some(change.group()), Some(group));
-            put(&mut groups, change.other(), rest);
+            if let Some(place) = groups.get_mut(change.group()) {
+                *place = group;
+            }
         }
     }
     let rest = unmarked(aim, groups, &round.taken)?;
-    climb.take(aim, rest, round.growth.gain);
+    climb.take(rest, round.growth.gain);
     Ok(round.growth)
 }
 

@@ -3,7 +3,6 @@
 
 mod aim;
 mod candidates;
-mod changing;
 mod climb;
 mod finding;
 mod fixed;

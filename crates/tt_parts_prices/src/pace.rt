@@ -7,9 +7,6 @@ use crate::group::{MOMENTUM, PARTS};
 /// The share of the way that a first step goes.
 const FIRST: i64 = ONE;
 
-/// The share of the way that the first step goes after groups have grown.
-const GROWN: i64 = ONE / 2;
-
 /// What becomes of the share if some steps gain nothing, in tenths.
 const SHORTER: i64 = 7;
 
@@ -75,10 +72,10 @@ impl Pace {
         self.phase = i64::MIN;
     }
 
-    /// Begins a stretch of groups that have grown.
-    pub fn begin_again(&mut self) {
+    /// Begins a stretch whose first step goes this share of the way.
+    pub fn begin(&mut self, share: i64) {
         self.has_gained = true;
-        self.first = GROWN;
+        self.first = share;
         self.restart(PARTS);
     }
 
