@@ -89,6 +89,9 @@ fn climb_and_grow<W: Watch>(
     let mut step = climb.work(aim).saturating_mul(DEARER);
     for _ in 0..STRETCHES {
         let left = work.left().saturating_sub(kept);
+        if left == 0 {
+            break;
+        }
         let end = climb.go(aim, left, work)?;
         if end == End::Work || end == End::Done {
             break;
@@ -118,7 +121,8 @@ fn calm<W: Watch>(
     climb.restore();
     climb.pace.begin(CALM_SHARE);
     for _ in 0..STRETCHES {
-        if aim.is_reached(climb.pace.best) || climb.pace.first() < LAST {
+        let is_over = work.is_used_up() || aim.is_reached(climb.pace.best);
+        if is_over || climb.pace.first() < LAST {
             break;
         }
         if climb.go(aim, u64::MAX, work)? != End::Stale {

@@ -54,7 +54,8 @@ fn keep_trial(trials: &mut Vec<Trial>, trial: Trial) -> Result<(), AllocError> {
         }
         return Ok(());
     }
-    trials.push(trial)
+    trials.push(trial)?;
+    Ok(())
 }
 
 /// Returns the best trial of each group, where a step may take so much work.
