@@ -268,6 +268,17 @@ impl Climb {
         self.rents.restore();
     }
 
+    /// Goes a step from a bound. Returns `false` if there is no direction.
+    fn move_on(&mut self, aim: &Aim<'_, '_>, bound: i64) -> bool {
+        let norm = self.turn(aim);
+        if norm == 0 {
+            return false;
+        }
+        let pace = self.pace;
+        self.advance(pace.step(aim, bound, norm));
+        true
+    }
+
     /// Goes up for at most so many steps of work, or until the steps gain nothing.
     pub fn go<W: Watch>(
         &mut self,
@@ -300,16 +311,13 @@ impl Climb {
                 Turn::Back => continue,
                 Turn::Keep | Turn::Go => {}
             }
-            let norm = self.turn(aim);
-            if norm == 0 {
+            if !self.move_on(aim, bound) {
                 return Ok(if bound == self.pace.best {
                     End::Agreed
                 } else {
                     End::Stale
                 });
             }
-            let pace = self.pace;
-            self.advance(pace.step(aim, bound, norm));
         }
         Ok(End::Work)
     }
