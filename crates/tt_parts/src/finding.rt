@@ -7,7 +7,7 @@ ghost use Rattle.tt_parts.specs.Found.{AreFound};
 use crate::known::{cost_of, is_greatest};
 use crate::prices::find_priced;
 use crate::rooms::find_rooms;
-use crate::stronger::better_of;
+use crate::stronger::{better_of, is_far_above};
 use crate::together::sum_of;
 use std::alloc::{AllocError, Global};
 use tt_instance::Instance;
@@ -19,10 +19,13 @@ use tt_watch::Watch;
 /// The number of relaxations that the search for groups may do for each node allowed.
 const RELAXATIONS_OF_NODE: u64 = 50_000;
 
+/// The part of the search for groups that comes before the search for prices.
+const FIRST_PART: u32 = 8;
+
 /// The amount of work that each of the two searches may do, and the seed of their random choices.
 #[derive(Clone, Copy, Debug, PartialEq, Eq)]
 pub struct Effort {
-    /// Each node allows 50,000 relaxations of groups, and then 20,000 units of work on prices.
+    /// Each node allows 50,000 relaxations of groups, and 50,000 units of work on prices.
     pub nodes: u32,
     pub seed: u64,
 }
@@ -96,6 +99,20 @@ fn sum_or_none(
     }
 }
 
+/// Searches for claims about groups and a proof about the rooms.
+fn find_by_groups<W: Watch>(
+    alloc: Global,
+    instance: &Instance<'_>,
+    effort: Effort,
+    guide: &[Entry],
+    watch: &mut W,
+) -> Result<Parts, AllocError>
+    ensures { IfOk result (AreFound instance.now) }
+{
+    let proofs = find_texts(alloc, instance, effort, guide, watch)?;
+    sum_or_none(alloc, instance, proofs)
+}
+
 /// Searches for a file of groups with prices. `known` is the cost of a known timetable.
 fn find_by_prices<W: Watch>(
     alloc: Global,
@@ -115,8 +132,9 @@ fn find_by_prices<W: Watch>(
 
 /// Searches for proofs that claim distinct targets: claims about groups, and one proof about the rooms, which is a tree of one leaf or a file of
 /// rents; or one file of groups with prices, if that proves more. The entries are those of a known timetable, or none: a group is not tried if
-/// its value would have to be above its cost in that timetable, and nothing is tried after a bound that is the timetable's cost. The watch may
-/// end the search, and take proofs on the way. It makes no promise about how much it finds and how long it takes.
+/// its value would have to be above its cost in that timetable, and nothing is tried after a bound that is the timetable's cost. A part of the
+/// search for groups comes first, then the search for prices, and then the whole search for groups, if prices don't prove far more. The watch
+/// may end the search, and take proofs on the way. It makes no promise about how much it finds and how long it takes.
 pub fn find_parts<W: Watch>(
     alloc: Global,
     instance: &Instance<'_>,
@@ -127,12 +145,21 @@ pub fn find_parts<W: Watch>(
     // Each proof is a right file of its kind, no target is claimed by two, and the bound is the sum, which holds for every feasible timetable.
     ensures { IfOk result (AreFound instance.now) }
 {
-    let proofs = find_texts(alloc, instance, effort, guide, watch)?;
-    let parts = sum_or_none(alloc, instance, proofs)?;
     let known = cost_of(alloc, instance, guide)?;
-    if is_greatest(parts.bound, known) || watch.is_over() {
+    let first = Effort {
+        nodes: effort.nodes / FIRST_PART,
+        seed: effort.seed,
+    };
+    let parts = find_by_groups(alloc, instance, first, guide, watch)?;
+    let before = parts.bound;
+    if is_greatest(before, known) || watch.is_over() {
         return Ok(parts);
     }
     let priced = find_by_prices(alloc, instance, effort, known, watch)?;
-    Ok(better_of(parts, priced))
+    let best = better_of(parts, priced);
+    if is_greatest(best.bound, known) || is_far_above(best.bound, before) || watch.is_over() {
+        return Ok(best);
+    }
+    let groups = find_by_groups(alloc, instance, effort, guide, watch)?;
+    Ok(better_of(best, groups))
 }

@@ -10,7 +10,7 @@ use tt_proof_read::MAX_POINTS;
 use tt_watch::Watch;
 
 /// The number of units of work that the search for prices may do for each node allowed.
-const UNITS_OF_NODE: u64 = 20_000;
+const UNITS_OF_NODE: u64 = 50_000;
 
 /// Returns the text of a file of groups with prices; `None` if none was found that proves a point. `known` is the cost of a known timetable.
 pub fn find_priced<W: Watch>(

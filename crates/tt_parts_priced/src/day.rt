@@ -10,11 +10,13 @@ use tt_instance::{ISOLATED_COST, Instance, MISSING_DAY_COST};
 /// The maximum number of words of the week that a day can have.
 const WORDS: usize = 65_536;
 
-/// The layers of the periods of a day and of its end, and the words of the week that the day can have.
+/// The layers of the periods of a day and of its end, the words of the week that the day can have, and the number of sets that were tried
+/// after some first periods.
 #[derive(Debug, Drop)]
 pub struct DayProgram {
     pub layers: Vec<Layer>,
     pub words: Vec<u64>,
+    pub tries: u64,
 }
 
 /// Returns the courses that are available in each period of a day, a bit for each.
@@ -55,6 +57,11 @@ fn arrow_of(shape: &Shape, from: usize, key: &Key, label: usize, set: &Set) -> O
         },
         edge: Edge::new(from, label, points_of(isolated, sum.beyond)),
     })
+}
+
+/// Returns the number of sets of courses that are available.
+fn count_open(sets: &[Set], open: u64) -> usize {
+    sets.iter().filter(|set| set.courses & !open == 0).count()
 }
 
 /// Returns the arrows of a period in which some courses are available, or `None` if there are too many.
@@ -106,10 +113,17 @@ impl DayProgram {
     ) -> Result<Option<DayProgram>, AllocError> {
         let mut layers = Vec::new(alloc);
         let mut keys = vec![in alloc; Key::FIRST; 1]?;
+        let (mut tries, mut edges): (u64, u64) = (0, 0);
         for courses in open {
+            let able = count_open(&shape.sets, *courses) as u64;
+            tries = tries.saturating_add(able.saturating_mul(keys.len() as u64));
             let Some(arrows) = arrows_of(alloc, shape, &keys, *courses, limits.edges)? else {
                 return Ok(None);
             };
+            edges = edges.saturating_add(arrows.len() as u64);
+            if limits.steps < edges {
+                return Ok(None);
+            }
             let reached = Reached::new(alloc, arrows)?;
             layers.push(reached.layer)?;
             keys = reached.keys;
@@ -124,7 +138,11 @@ impl DayProgram {
         if WORDS < words.len() {
             return Ok(None);
         }
-        Ok(Some(DayProgram { layers, words }))
+        Ok(Some(DayProgram {
+            layers,
+            words,
+            tries,
+        }))
     }
 
     /// Returns the number of edges.

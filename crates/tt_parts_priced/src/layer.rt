@@ -83,24 +83,48 @@ pub fn below(rng: &mut Pcg32, bound: u32) -> u32 {
     rng.next_u32().checked_rem(bound).unwrap_or(0)
 }
 
+/// The arrows that lead to a state, as places in a list.
+#[derive(Clone, Copy)]
+struct Run {
+    key: Key,
+    begin: usize,
+    end: usize,
+}
+
+/// Returns the runs of arrows with the same state in a sorted list, the shortest first, so that the loops over the edges of many states have the
+/// same length.
+fn runs_of(alloc: Global, arrows: &[Arrow]) -> Result<Vec<Run>, AllocError> {
+    let mut runs: Vec<Run> = Vec::new(alloc);
+    for (place, arrow) in arrows.iter().enumerate() {
+        if !runs.last().is_some_and(|run| run.key == arrow.key) {
+            runs.push(Run {
+                key: arrow.key,
+                begin: place,
+                end: place,
+            })?;
+        }
+        if let Some(run) = runs.last_mut() {
+            run.end = place.saturating_add(1);
+        }
+    }
+    runs.sort_unstable_by_key(|run| (run.end.wrapping_sub(run.begin), run.begin));
+    Ok(runs)
+}
+
 impl Reached {
-    /// Returns the layer of all states that arrows lead to, in order.
+    /// Returns the layer of all states that arrows lead to, those with the fewest arrows first.
     pub fn new(alloc: Global, mut arrows: Vec<Arrow>) -> Result<Reached, AllocError> {
         arrows.sort_unstable_by_key(|arrow| arrow.key);
+        let runs = runs_of(alloc, &arrows)?;
         let mut edges = Vec::with_capacity(alloc, arrows.len())?;
-        let mut ends = Vec::new(alloc);
-        let mut keys: Vec<Key> = Vec::new(alloc);
-        for arrow in &arrows {
-            if keys.last() != Some(&arrow.key) {
-                if !keys.is_empty() {
-                    ends.push(edges.len())?;
-                }
-                keys.push(arrow.key)?;
+        let mut ends = Vec::with_capacity(alloc, runs.len())?;
+        let mut keys = Vec::with_capacity(alloc, runs.len())?;
+        for run in &runs {
+            for arrow in arrows.get(run.begin..run.end).unwrap_or(&[]) {
+                edges.push(arrow.edge)?;
             }
-            edges.push(arrow.edge)?;
-        }
-        if !keys.is_empty() {
             ends.push(edges.len())?;
+            keys.push(run.key)?;
         }
         Ok(Reached {
             layer: Layer { edges, ends },

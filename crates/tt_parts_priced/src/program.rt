@@ -42,6 +42,7 @@ fn days_of(
         of_day: Vec::new(alloc),
     };
     let mut seen: Vec<Vec<u64>> = Vec::new(alloc);
+    let mut left = limits;
     for day in 0..instance.days() {
         let open = open_in(alloc, instance, shape, day)?;
         let known = seen
@@ -49,11 +50,13 @@ fn days_of(
             .position(|other| other.as_slice() == open.as_slice());
         if let Some(known) = known {
             days.of_day.push(known)?;
+            left.steps = left.steps.saturating_sub(days.edges(known));
             continue;
         }
-        let Some(program) = DayProgram::new(alloc, shape, &open, limits)? else {
+        let Some(program) = DayProgram::new(alloc, shape, &open, left)? else {
             return Ok(None);
         };
+        left.steps = left.steps.saturating_sub(program.edges());
         days.of_day.push(days.programs.len())?;
         days.programs.push(program)?;
         seen.push(open)?;
@@ -117,6 +120,29 @@ impl Program {
     /// Returns the number of steps of an evaluation: edges, and sets in all slots.
     pub fn steps(&self) -> u64 {
         self.steps
+    }
+
+    /// Returns the number of sets that a check tries after some first periods, in all days.
+    pub fn tries(&self) -> u64 {
+        let mut tries: u64 = 0;
+        for day in 0..self.week.len() {
+            let more = self.days.program(day).map_or(0, |program| program.tries);
+            tries = tries.saturating_add(more);
+        }
+        tries
+    }
+
+    /// Returns the maximum number of days that a check tries after some first days.
+    pub fn relaxations(&self) -> u64 {
+        let mut words: u64 = 0;
+        for day in 0..self.week.len() {
+            let more = self
+                .days
+                .program(day)
+                .map_or(0, |program| program.words.len() as u64);
+            words = words.saturating_add(more);
+        }
+        words.saturating_mul(self.shape.states)
     }
 
     /// Returns the number of sets in which no two courses conflict.

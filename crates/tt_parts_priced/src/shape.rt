@@ -41,7 +41,7 @@ pub struct Shape {
     pub week: Fields,
     rules: Vec<Rule>,
     units: Vec<u64>,
-    states: u64,
+    pub states: u64,
     pub base: u64,
 }
 

@@ -20,6 +20,13 @@ impl Days {
         self.programs.get(*self.of_day.get(day)?)
     }
 
+    /// Returns the number of edges of a program.
+    pub fn edges(&self, number: usize) -> u64 {
+        self.programs
+            .get(number)
+            .map_or(0, |program| program.edges())
+    }
+
     /// Returns the words of the week that a day can have.
     fn words(&self, day: usize) -> &[u64] {
         match self.program(day) {
@@ -88,15 +95,17 @@ pub fn week_of(
     let least = least_counts(alloc, shape, days)?;
     let mut layers = Vec::new(alloc);
     let mut keys = vec![in alloc; Key::FIRST; 1]?;
+    let mut edges: u64 = 0;
     for (day, need) in least.iter().enumerate() {
         let words = days.words(day);
         let Some(arrows) = arrows_of(alloc, shape, &keys, words, *need, limits.edges)? else {
             return Ok(None);
         };
+        edges = edges.saturating_add(arrows.len() as u64);
         let reached = Reached::new(alloc, arrows)?;
         layers.push(reached.layer)?;
         keys = reached.keys;
-        if keys.is_empty() {
+        if keys.is_empty() || limits.steps < edges {
             return Ok(None);
         }
     }

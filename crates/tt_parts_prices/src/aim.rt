@@ -5,15 +5,19 @@ use tt_instance::Instance;
 use tt_parts_priced::Terms;
 
 /// The number of units of price in a cost point.
-pub const SCALE: u32 = 100;
+pub const SCALE: u32 = 1_000;
 
-/// The instance, what its courses need, the known cost, and the numbers of its courses, slots and rooms.
+/// The instance, what its courses need, the rents at which a climb begins, the known cost, the effort, and the numbers of courses, slots
+/// and rooms.
 #[derive(Clone, Copy)]
 pub struct Aim<'s, 'i> {
     pub alloc: Global,
     pub instance: &'s Instance<'i>,
     pub terms: &'s Terms,
+    /// The rents of all rooms slot by slot; none if the rooms take no part.
+    pub rents: &'s [i64],
     pub target: Option<u64>,
+    pub effort: u64,
     pub courses: usize,
     pub slots: usize,
     pub rooms: usize,
@@ -30,6 +34,11 @@ pub fn units(points: u64) -> i64 {
     i64::try_from(points)
         .unwrap_or(i64::MAX)
         .saturating_mul(i64::from(SCALE))
+}
+
+/// Returns units of price as points, rounded up; 0 if there are none.
+pub fn points(units: i64) -> u64 {
+    u64::try_from(units).unwrap_or(0).div_ceil(u64::from(SCALE))
 }
 
 impl Aim<'_, '_> {

@@ -1,6 +1,6 @@
 //! A climb: prices of groups and rents of rooms that get better step by step.
 
-use crate::aim::Aim;
+use crate::aim::{Aim, points};
 use crate::fixed::{ONE, share};
 use crate::group::{Group, square};
 use crate::pace::{Pace, Turn};
@@ -10,10 +10,13 @@ use rand_pcg::Pcg32;
 use std::alloc::AllocError;
 use tt_parts_least::Allowance;
 use tt_parts_priced::{Offer, Placing};
-use tt_watch::Watch;
+use tt_watch::{Progress, Unit, Watch};
 
 /// The maximum number of steps of a stretch.
 const STEPS: u32 = 1_000_000;
+
+/// The number of no group.
+const NO_GROUP: usize = usize::MAX;
 
 /// Why a stretch of a climb ended.
 #[derive(Clone, Copy, Debug, PartialEq, Eq)]
@@ -37,6 +40,10 @@ pub struct Climb {
     rng: Pcg32,
     /// The number of groups that concern each course.
     holders: Vec<u32>,
+    /// Whether the term of each course takes part: 1 if it does.
+    terms: Vec<u32>,
+    /// The number of the last group that concerns each course, if its term takes no part.
+    last: Vec<usize>,
     /// The prices of all groups, for each course and slot.
     totals: Vec<i64>,
     /// The number of groups that chose the slot.
@@ -59,18 +66,34 @@ fn row<'a, T>(aim: &Aim<'_, '_>, numbers: &'a [T], course: usize) -> &'a [T] {
         .unwrap_or(&[])
 }
 
+/// Shows the best bound to the watch.
+fn show<W: Watch>(aim: &Aim<'_, '_>, best: i64, work: &mut Allowance<'_, W>) {
+    let progress = Progress {
+        unit: Unit::Steps,
+        done: aim.effort.saturating_sub(work.left()),
+        limit: aim.effort,
+        best: None,
+        bound: Some(points(best)),
+        tried: None,
+    };
+    work.watch.see(progress, &[]);
+}
+
 impl Climb {
     /// Returns a climb of some groups without prices.
     pub fn new(aim: &Aim<'_, '_>, groups: Vec<Group>, seed: u64) -> Result<Climb, AllocError> {
         let alloc = aim.alloc;
         let cells = aim.courses.saturating_mul(aim.slots);
         let places = aim.rooms.saturating_mul(aim.slots);
+        let with_rents: u32 = if aim.rents.is_empty() { 0 } else { 1 };
         let mut climb = Climb {
             groups,
-            rents: Rents::new(alloc, places)?,
+            rents: Rents::new(alloc, aim.rents)?,
             pace: Pace::new(),
             rng: Pcg32::seed_from_u64(seed),
             holders: vec![in alloc; 0u32; aim.courses]?,
+            terms: vec![in alloc; with_rents; aim.courses]?,
+            last: vec![in alloc; NO_GROUP; aim.courses]?,
             totals: vec![in alloc; 0i64; cells]?,
             votes: vec![in alloc; 0u32; cells]?,
             absent: vec![in alloc; 0u32; cells]?,
@@ -83,16 +106,40 @@ impl Climb {
         Ok(climb)
     }
 
-    /// Counts the groups that concern each course.
-    pub fn count_holders(&mut self) {
+    /// Counts the groups that concern each course, and finds the terms that take part: those that do already, and those of courses that
+    /// some group doesn't count.
+    fn count_holders(&mut self) {
         self.holders.fill(0);
-        for group in &self.groups {
+        self.last.fill(NO_GROUP);
+        for (number, group) in self.groups.iter().enumerate() {
             for course in group.program.courses() {
-                if let Some(count) = self.holders.get_mut(*course as usize) {
+                let place = *course as usize;
+                if let Some(count) = self.holders.get_mut(place) {
                     *count = count.saturating_add(1);
+                }
+                if let Some(last) = self.last.get_mut(place) {
+                    *last = number;
+                }
+            }
+            for course in &group.draft.uncounted {
+                if let Some(term) = self.terms.get_mut(*course as usize) {
+                    *term = 1;
                 }
             }
         }
+        for (last, term) in self.last.iter_mut().zip(&self.terms) {
+            if *term == 1 {
+                *last = NO_GROUP;
+            }
+        }
+    }
+
+    /// Takes groups that have the same prices together, and gain this much at them.
+    pub fn take(&mut self, groups: Vec<Group>, gain: i64) {
+        self.groups = groups;
+        self.count_holders();
+        self.restore();
+        self.pace.best = self.pace.best.saturating_add(gain);
     }
 
     /// Returns the number of steps of work that a step takes.
@@ -109,8 +156,9 @@ impl Climb {
         let mut sum: i64 = 0;
         self.totals.fill(0);
         self.votes.fill(0);
-        for group in self.groups.iter_mut() {
+        for (number, group) in self.groups.iter_mut().enumerate() {
             group.round();
+            group.settle(aim, &self.last, number, &self.totals);
             sum = sum.saturating_add(group.value(&mut self.rng));
             group.add_prices(aim, &mut self.totals);
             group.vote(aim, &mut self.votes);
@@ -178,9 +226,11 @@ impl Climb {
             let all = self.holders.get(course).copied().unwrap_or(0);
             let votes = self.votes.get(place).copied().unwrap_or(0);
             let taken = self.taken.get(place).copied().unwrap_or(0);
-            let chosen = i64::from(votes).saturating_add(taken / ONE);
-            *mean = share(chosen, i64::from(all).saturating_add(1));
-            norm = norm.saturating_add(square(taken.wrapping_sub(*mean)));
+            let term = i64::from(self.terms.get(course).copied().unwrap_or(0));
+            let chosen = i64::from(votes).saturating_add(term.saturating_mul(taken / ONE));
+            *mean = share(chosen, i64::from(all).saturating_add(term));
+            let off = taken.wrapping_sub(*mean).saturating_mul(term);
+            norm = norm.saturating_add(square(off));
         }
         norm
     }
@@ -218,6 +268,17 @@ impl Climb {
         self.rents.restore();
     }
 
+    /// Goes a step from a bound. Returns `false` if there is no direction.
+    fn move_on(&mut self, aim: &Aim<'_, '_>, bound: i64) -> bool {
+        let norm = self.turn(aim);
+        if norm == 0 {
+            return false;
+        }
+        let pace = self.pace;
+        self.advance(pace.step(aim, bound, norm));
+        true
+    }
+
     /// Goes up for at most so many steps of work, or until the steps gain nothing.
     pub fn go<W: Watch>(
         &mut self,
@@ -234,6 +295,7 @@ impl Climb {
             let turn = self.pace.judge(bound);
             if turn == Turn::Keep {
                 self.keep();
+                show(aim, bound, work);
             }
             if aim.is_reached(self.pace.best) {
                 return Ok(End::Done);
@@ -249,16 +311,13 @@ impl Climb {
                 Turn::Back => continue,
                 Turn::Keep | Turn::Go => {}
             }
-            let norm = self.turn(aim);
-            if norm == 0 {
+            if !self.move_on(aim, bound) {
                 return Ok(if bound == self.pace.best {
                     End::Agreed
                 } else {
                     End::Stale
                 });
             }
-            let pace = self.pace;
-            self.advance(pace.step(aim, bound, norm));
         }
         Ok(End::Work)
     }

@@ -3,7 +3,7 @@
 ghost use Rattle.std.specs.Prelude.{All, IfOk, OnOk};
 ghost use Rattle.tt_prices.specs.Limits.{IsPrice};
 
-use crate::aim::{Aim, SCALE};
+use crate::aim::{Aim, SCALE, points};
 use crate::climb::Climb;
 use crate::group::Group;
 use std::alloc::{AllocError, Global};
@@ -101,11 +101,6 @@ fn rent_of(aim: &Aim<'_, '_>, rents: &[i64], room: u32) -> Result<Option<Rent>, 
     }))
 }
 
-/// Returns a number of units as points, rounded up.
-fn points_of(units: i64) -> u64 {
-    u64::try_from(units).unwrap_or(0).div_ceil(u64::from(SCALE))
-}
-
 /// Returns the best prices of a climb.
 pub fn found_by(aim: &Aim<'_, '_>, climb: &Climb) -> Result<PricesFound, AllocError> {
     let mut groups = Vec::new(aim.alloc);
@@ -119,7 +114,7 @@ pub fn found_by(aim: &Aim<'_, '_>, climb: &Climb) -> Result<PricesFound, AllocEr
         }
     }
     Ok(PricesFound {
-        bound: points_of(climb.pace.best),
+        bound: points(climb.pace.best),
         scale: u64::from(SCALE),
         groups,
         rents,

@@ -1,10 +1,12 @@
 //! A group in a climb: its program, its prices, and the timetable that it chose.
 
 use crate::aim::{Aim, SCALE};
-use crate::draft::Draft;
 use crate::fixed::{ONE, product, rounded, whole};
+use crate::habits::{Habits, is_in};
 use rand_pcg::Pcg32;
-use std::alloc::{AllocError, Global};
+use std::alloc::AllocError;
+use tt_parts_drafts::Draft;
+use tt_parts_least::lectures_of;
 use tt_parts_priced::{Program, Tables};
 use tt_prices::MAX_PRICE;
 
@@ -19,7 +21,9 @@ pub const PARTS: i64 = 10;
 pub struct Group {
     pub draft: Draft,
     pub program: Program,
+    pub habits: Habits,
     tables: Tables,
+    lectures: Vec<u32>,
     exact: Vec<i64>,
     drift: Vec<i64>,
     prices: Vec<i64>,
@@ -44,39 +48,72 @@ fn add_at(numbers: &mut [i64], place: usize, more: i64) {
     }
 }
 
+/// Returns the nearest price.
+pub fn within(price: i64) -> i64 {
+    let most = i64::from(MAX_PRICE);
+    price.min(most).max(-most)
+}
+
 /// Checks whether the course with this index is in the set of a slot.
 fn has(plan: &[u64], index: usize, slot: usize) -> bool {
-    let set = plan.get(slot).copied().unwrap_or(0);
-    (set >> (index % 64)) & 1 == 1
+    is_in(plan.get(slot).copied().unwrap_or(0), index)
 }
 
 impl Group {
-    /// Returns a group without prices.
+    /// Returns a group whose best prices are these, of all courses slot by slot.
     pub fn new(
-        alloc: Global,
+        aim: &Aim<'_, '_>,
         draft: Draft,
         program: Program,
-        slots: usize,
+        best: Vec<i64>,
     ) -> Result<Group, AllocError> {
-        let count = program.courses().len().saturating_mul(slots);
-        let tables = program.tables(alloc)?;
-        Ok(Group {
+        let alloc = aim.alloc;
+        let count = best.len();
+        let mut lectures = Vec::new(alloc);
+        for course in program.courses() {
+            lectures.push(lectures_of(aim.instance, *course))?;
+        }
+        let mut group = Group {
+            habits: Habits::new(alloc, lectures.len(), aim.slots)?,
+            tables: program.tables(alloc)?,
             draft,
             program,
-            tables,
+            lectures,
             exact: vec![in alloc; 0i64; count]?,
             drift: vec![in alloc; 0i64; count]?,
             prices: vec![in alloc; 0i64; count]?,
-            best: vec![in alloc; 0i64; count]?,
-            plan: vec![in alloc; 0u64; slots]?,
-        })
+            best,
+            plan: vec![in alloc; 0u64; aim.slots]?,
+        };
+        group.restore();
+        Ok(group)
     }
 
     /// Rounds the prices.
     pub fn round(&mut self) {
-        let most = i64::from(MAX_PRICE);
         for (price, exact) in self.prices.iter_mut().zip(&self.exact) {
-            *price = rounded(*exact).min(most).max(-most);
+            *price = within(rounded(*exact));
+        }
+    }
+
+    /// Gives the courses whose last group has this number the prices that the other groups leave.
+    pub fn settle(&mut self, aim: &Aim<'_, '_>, last: &[usize], number: usize, totals: &[i64]) {
+        let courses = self.program.courses();
+        let width = courses.len();
+        for (index, course) in courses.iter().enumerate() {
+            if last.get(*course as usize).copied() != Some(number) {
+                continue;
+            }
+            for slot in 0..aim.slots {
+                let sum = totals
+                    .get(aim.place(*course as usize, slot))
+                    .copied()
+                    .unwrap_or(0);
+                let place = slot.wrapping_mul(width).wrapping_add(index);
+                if let Some(price) = self.prices.get_mut(place) {
+                    *price = within(sum.saturating_neg());
+                }
+            }
         }
     }
 
@@ -86,6 +123,12 @@ impl Group {
         let value = self.program.evaluate(scale, &self.prices, &mut self.tables);
         self.program.trace(scale, &self.tables, rng, &mut self.plan);
         value
+    }
+
+    /// Returns the least that the group pays at its best prices.
+    pub fn value_at_best(&mut self) -> i64 {
+        self.program
+            .evaluate(i64::from(SCALE), &self.best, &mut self.tables)
     }
 
     /// Keeps the prices as the best ones.
@@ -108,6 +151,28 @@ impl Group {
         let width = self.program.courses().len();
         let place = slot.wrapping_mul(width).wrapping_add(index);
         self.best.get(place).copied().unwrap_or(0)
+    }
+
+    /// Returns the best price of a course in a slot; 0 if the group doesn't concern it.
+    pub fn best_price_of(&self, course: u32, slot: usize) -> i64 {
+        match self.index_of(course) {
+            Some(index) => self.best_price(index, slot),
+            None => 0,
+        }
+    }
+
+    /// Returns the number of bits that count the lectures of the course with this index.
+    pub fn bits(&self, index: usize) -> i64 {
+        let lectures = self.lectures.get(index).copied().unwrap_or(0);
+        i64::from(u32::BITS - lectures.leading_zeros())
+    }
+
+    /// Returns the index of a course.
+    pub fn index_of(&self, course: u32) -> Option<usize> {
+        self.program
+            .courses()
+            .iter()
+            .position(|other| *other == course)
     }
 
     /// Adds the prices to those of all groups.
@@ -150,6 +215,7 @@ impl Group {
             *drift = drifted(*drift, more);
             norm = norm.saturating_add(square(more));
         }
+        self.habits.note(&self.plan, &self.lectures);
         norm
     }
 

@@ -2,17 +2,20 @@
 #![tactic(auto)]
 
 mod aim;
+mod candidates;
 mod climb;
-mod clusters;
-mod crowd;
-mod draft;
-mod drafting;
 mod finding;
 mod fixed;
 mod found;
 mod group;
+mod growing;
+mod habits;
+mod limit;
 mod pace;
+mod racing;
 mod rents;
+mod size;
+mod trial;
 
 pub use finding::{PricesSearch, find_prices};
 pub use found::PricesFound;

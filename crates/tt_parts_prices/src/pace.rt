@@ -72,6 +72,13 @@ impl Pace {
         self.phase = i64::MIN;
     }
 
+    /// Begins a stretch whose first step goes this share of the way.
+    pub fn begin(&mut self, share: i64) {
+        self.has_gained = true;
+        self.first = share;
+        self.restart(PARTS);
+    }
+
     /// Returns the first share of the stretch.
     pub fn first(&self) -> i64 {
         self.first

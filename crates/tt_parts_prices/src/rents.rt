@@ -17,14 +17,17 @@ pub struct Rents {
 }
 
 impl Rents {
-    /// Returns rents of 0 in so many places.
-    pub fn new(alloc: Global, places: usize) -> Result<Rents, AllocError> {
-        Ok(Rents {
+    /// Returns rents that begin as these.
+    pub fn new(alloc: Global, start: &[i64]) -> Result<Rents, AllocError> {
+        let places = start.len();
+        let mut rents = Rents {
             exact: vec![in alloc; 0i64; places]?,
             drift: vec![in alloc; 0i64; places]?,
             now: vec![in alloc; 0i64; places]?,
-            best: vec![in alloc; 0i64; places]?,
-        })
+            best: Vec::from_slice(alloc, start)?,
+        };
+        rents.restore();
+        Ok(rents)
     }
 
     /// Rounds the rents, and returns their sum.

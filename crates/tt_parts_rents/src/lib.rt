@@ -6,3 +6,4 @@ mod places;
 mod rents;
 
 pub use finding::{RentsProof, find_rents};
+pub use rents::{Rents, rents_of};
