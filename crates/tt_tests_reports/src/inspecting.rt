@@ -61,7 +61,7 @@ const PAIR: &str =
 
 /// Three courses of three teachers can meet only in the last period, which has two rooms.
 const LATE: &str =
-    "Name: Late\nCourses: 3\nRooms: 2\nDays: 1\nPeriods_per_day: 2\nCurricula: 1\nConstraints: 3\n\nCOURSES:\na t1 1 1 1\nb t2 1 1 1\nc t3 1 1 1\n\nROOMS:\nR 1\nS 1\n\nCURRICULA:\nq 2 a b\n\nUNAVAILABILITY_CONSTRAINTS:\na 0 0\nb 0 0\nc 0 0\n\nEND.\n";
+    "Name: Late\nCourses: 3\nRooms: 2\nDays: 1\nPeriods_per_day: 2\nCurricula: 0\nConstraints: 3\n\nCOURSES:\na t1 1 1 1\nb t2 1 1 1\nc t3 1 1 1\n\nROOMS:\nR 1\nS 1\n\nCURRICULA:\n\nUNAVAILABILITY_CONSTRAINTS:\na 0 0\nb 0 0\nc 0 0\n\nEND.\n";
 
 /// Two courses of a teacher, each in a curriculum with a third course.
 const TRIANGLE: &str =
