@@ -143,46 +143,49 @@ fn long_names_are_folded(rt: HostRuntime) -> Result<(), Fail> {
     Ok(())
 }
 
+/// The names, first days and times of calendars that are refused, and why.
+const REFUSED: [(&str, &str, &str, &str); 6] = [
+    (
+        "S",
+        "2027-02-01",
+        "8:00,9:00,10:00",
+        "refused: unknown name\n",
+    ),
+    (
+        "R",
+        "2027-02-30",
+        "8:00,9:00,10:00",
+        "refused: the first day is no date of the form 2027-02-01\n",
+    ),
+    (
+        "R",
+        "2027-02-01",
+        "8:00,9:00,24:00",
+        "refused: the times are not of the form 8:00,9:00\n",
+    ),
+    (
+        "R",
+        "2027-02-01",
+        "8:00,9:00,+9:5",
+        "refused: the times are not of the form 8:00,9:00\n",
+    ),
+    (
+        "R",
+        "2027-02-01",
+        "8:00,9:00",
+        "refused: there is no time for each period\n",
+    ),
+    (
+        "R",
+        "2027-02-01",
+        "8:00,9:00,10:00,11:00",
+        "refused: there are more times than periods of a day\n",
+    ),
+];
+
 #[test]
 fn calendars_that_are_refused(rt: HostRuntime) -> Result<(), Fail> {
-    for (name, day, times, err) in [
-        (
-            "S",
-            "2027-02-01",
-            "8:00,9:00,10:00",
-            "refused: unknown name\n",
-        ),
-        (
-            "R",
-            "2027-02-30",
-            "8:00,9:00,10:00",
-            "refused: the first day is no date of the form 2027-02-01\n",
-        ),
-        (
-            "R",
-            "2027-02-01",
-            "8:00,9:00,24:00",
-            "refused: the times are not of the form 8:00,9:00\n",
-        ),
-        (
-            "R",
-            "2027-02-01",
-            "8:00,9:00,+9:5",
-            "refused: the times are not of the form 8:00,9:00\n",
-        ),
-        (
-            "R",
-            "2027-02-01",
-            "8:00,9:00",
-            "refused: there is no time for each period\n",
-        ),
-        (
-            "R",
-            "2027-02-01",
-            "8:00,9:00,10:00,11:00",
-            "refused: there are more times than periods of a day\n",
-        ),
-    ] {
+    for (name, day, times, err) in REFUSED {
         let words = [
             "--by",
             "room",
