@@ -254,7 +254,8 @@ impl Board {
     fn open_squares(&mut self, facts: &Facts, plan: &Plan, group: &Group) {
         for slot in 0..facts.sizes.slots {
             let mut square = self.squares.get(slot).copied().unwrap_or(Square::NONE);
-            square.set_fixed(square.fixed & !self.set(square.now));
+            let fixed = square.fixed & !self.set(square.now);
+            square.set_fixed(fixed);
             let now = group.member(square.now.wrapping_sub(1));
             let home_now = plan.home_of(now.course);
             let mut choice: usize = 1;
