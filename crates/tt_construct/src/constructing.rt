@@ -6,7 +6,6 @@ ghost use Rattle.tt_construct.specs.Constructed.{IsConstructed};
 use crate::filling::fill;
 use crate::instance_data::InstanceData;
 use crate::planning::Plan;
-use crate::repairing::repair;
 use rand_core::SeedableRng;
 use rand_pcg::Pcg32;
 use std::alloc::{AllocError, Global};
@@ -57,11 +56,6 @@ fn best_of_rounds(
             best = table;
             least = hard;
         }
-    }
-    if least > 0
-        && let Some(places) = repair(alloc, instance, &data, &plan.places, seed)?
-    {
-        return fill(alloc, instance, &places);
     }
     Ok(best)
 }

@@ -4,7 +4,6 @@
 
 mod board;
 mod days;
-mod ends;
 mod group;
 mod redrawer;
 mod weeks;

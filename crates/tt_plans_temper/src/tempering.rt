@@ -45,7 +45,7 @@ pub struct Tempering {
     /// The plan at each place, the coldest place first.
     order: Vec<usize>,
     incumbent: Incumbent,
-    /// The plan of least cost since rooms were last given, if it costs less than the best timetable.
+    /// The plan of least cost of a round, if it costs less than the best timetable.
     cheapest: Draft,
     /// The same, with dearer clashes.
     clearest: Draft,
@@ -126,21 +126,17 @@ impl Tempering {
         let load = Load::new(&facts);
         let start = start_of(alloc, &facts, occupied)?;
         let plans = plans_of(alloc, &facts, &start, load.plans())?;
-        let mut cheapest = Draft::new(alloc, &facts)?;
-        let mut clearest = Draft::new(alloc, &facts)?;
-        cheapest.cost = start.cost;
-        clearest.cost = start.cost;
         Ok(Tempering {
             order: numbers_below(alloc, plans.len())?,
             dice: Dice::new(alloc, seed)?,
             stepper: Stepper::new(alloc, &facts)?,
             ladder: Ladder::new(alloc, load, plans.len())?,
-            schedule: Schedule::new(steps, facts.sizes),
+            schedule: Schedule::new(steps, facts.sizes.lectures),
             load,
             plans,
             incumbent: Incumbent::new(alloc, &facts, start)?,
-            cheapest,
-            clearest,
+            cheapest: Draft::new(alloc, &facts)?,
+            clearest: Draft::new(alloc, &facts)?,
             facts,
             melted: 0,
             rounds: 0,
@@ -177,26 +173,11 @@ impl Tempering {
         if self.schedule.is_over() {
             return self.settle_homes();
         }
-        let made = self.schedule.made;
         self.make_round();
-        let steps = self.schedule.made.saturating_sub(made);
-        let is_last = self.schedule.is_over();
-        self.schedule.is_seating_due(steps, is_last) && self.challenge()
-    }
-
-    /// Challenges the best timetable with the plans that were kept, and keeps new ones. Returns whether a better timetable was found.
-    fn challenge(&mut self) -> bool {
         let is_cheaper = self.incumbent.best.cost > self.cheapest.cost
             && self.incumbent.challenge(&self.facts, &self.cheapest);
         let is_clearer = self.incumbent.best.cost > self.clearest.cost
             && self.incumbent.challenge(&self.facts, &self.clearest);
-        let is_over = self.schedule.is_over();
-        self.cheapest.cost = if is_over {
-            i64::MAX
-        } else {
-            self.incumbent.best.cost
-        };
-        self.clearest.cost = self.incumbent.best.cost;
         is_cheaper || is_clearer
     }
 
@@ -230,6 +211,8 @@ impl Tempering {
         if self.rounds % ROUNDS == 0 {
             self.ladder.adjust(&self.dice, self.schedule);
         }
+        self.cheapest.cost = self.incumbent.best.cost;
+        self.clearest.cost = self.incumbent.best.cost;
         let places = self.order.len();
         for place in 0..places {
             self.walk(place);
@@ -293,6 +276,7 @@ impl Tempering {
     /// Searches for homes of the best plan. Returns whether a better timetable was found.
     fn settle_homes(&mut self) -> bool {
         self.settled = self.settled.saturating_add(1);
+        self.cheapest.cost = i64::MAX;
         let Some(plan) = self.plans.get_mut(0) else {
             return false;
         };
@@ -308,15 +292,6 @@ impl Tempering {
                 }
             }
         }
-        let (steps, is_last) = (self.schedule.settling(), self.settled >= SETTLINGS);
-        self.schedule.is_seating_due(steps, is_last) && self.challenge_by_homes()
-    }
-
-    /// Challenges the best timetable with the homes that were kept. Returns whether a better timetable was found.
-    fn challenge_by_homes(&mut self) -> bool {
-        let is_better = self.cheapest.cost < i64::MAX
-            && self.incumbent.challenge(&self.facts, &self.cheapest);
-        self.cheapest.cost = i64::MAX;
-        is_better
+        self.cheapest.cost < i64::MAX && self.incumbent.challenge(&self.facts, &self.cheapest)
     }
 }
