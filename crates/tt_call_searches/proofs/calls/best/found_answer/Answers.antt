@@ -30,6 +30,7 @@ returns c =
         within = is.within;
         file = refl;
         page = is.shown;
+        no_partial = refl;
         text = c.in_ok-found_line.ensures;
         status = refl;
       };
