@@ -88,8 +88,9 @@ fn a_timetable_after_none(rt: HostRuntime) -> Result<(), Fail> {
     let packed = edited(rt.alloc(), FLAT, "x t 4 1 1", "x t 5 1 1")?;
     memory.put("a.ctt", packed.as_str())?;
     best_of(rt.alloc(), &memory)?;
-    memory.put("a.ctt", FLAT)?;
-    let outcome = best_of(rt.alloc(), &memory)?;
+    memory.put("b.ctt", FLAT)?;
+    let words = ["best", "b.ctt", "found", "--rounds", "2"];
+    let outcome = run_on(rt.alloc(), &words, &memory)?;
     assert_eq!(rt; outcome.status, 0);
     assert!(rt; memory.text("found/best.sol")?.is_some());
     assert_eq!(rt; memory.text("found/partial.sol")?, None);
