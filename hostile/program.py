@@ -49,7 +49,7 @@ INPUTS = {
 OUTPUTS = {"improve": ["output solution"], "solve": ["output solution", "output proof"], "upgrade": ["output proof"], "page": ["output page"]}
 IN_FOLDER = {
     "parts": {"groups.proof": "output proof", "rooms.proof": "output proof"},
-    "best": {"best.sol": "output solution", "partial.sol": "output solution", "page.html": "output page", "groups.proof": "output proof", "tree.proof": "output proof"},
+    "best": {"best.sol": "output solution", "partial.sol": "output solution", "page.html": "output page", "groups.proof": "output proof", "prices.proof": "output proof", "tree.proof": "output proof"},
 }
 INPUT_OPTIONS = {"--solution": "solution", "--from": "solution", "--proof": "proof"}
 FLAGS = {"--keep", "--complete", "--progress", "--quiet", "--csv", "--help", "--version"}
