@@ -19,6 +19,7 @@ import subprocess
 import sys
 import tempfile
 import time
+import unicodedata
 from pathlib import Path
 
 HERE = Path(__file__).resolve().parent
@@ -38,11 +39,17 @@ SHAPES = {
 }
 
 
+def is_harmless(letter):
+    """Whether `tt inspect` shows a letter: no control character, and none that is invisible or turns the direction of a text."""
+    turns = "\u061c\ufeff" + "".join(map(chr, [*range(0x200B, 0x2010), *range(0x2028, 0x202F), *range(0x2060, 0x2070)]))
+    return unicodedata.category(letter) != "Cc" and letter not in turns
+
+
 def shown(name):
-    """A name as `tt inspect` shows it: each byte that isn't printable ASCII as a question mark, and no more than some bytes."""
-    data = name.encode("utf-8", "surrogateescape")
-    text = "".join(chr(byte) if 32 <= byte < 127 else "?" for byte in data[:MOST_SHOWN])
-    return text + (".." if len(data) > MOST_SHOWN else "")
+    """A name as `tt inspect` shows it: letters that may not be on a terminal as question marks, and no more than some letters."""
+    letters = name.encode("utf-8", "surrogateescape").decode("utf-8", "replace")
+    text = "".join(it if is_harmless(it) else "?" for it in letters[:MOST_SHOWN])
+    return text + (".." if len(letters) > MOST_SHOWN else "")
 
 
 class Week:

@@ -420,24 +420,29 @@ class Runs:
     def check_all_failed(self, outcome, where):
         """Where all calls fail from one on, the answer may be cut off, and the reason may be lost."""
         if outcome.status == 2:
-            says = self.what_is_said(outcome.err)
-            assert says or not outcome.err or (self.own.status == 2 and self.own.err.startswith(outcome.err)), where
+            err = self.after_reason(outcome.err)
+            assert self.what_is_said(err) or not err or (self.own.status == 2 and self.own.err.startswith(err)), where
         else:
             assert outcome.told()[:2] == self.own.told()[:2], where
+
+    def after_reason(self, err):
+        """What stands on standard error after the reason why there is no timetable."""
+        return err.removeprefix(self.own.err) if self.own.status == 1 else err
 
     def what_is_said(self, err):
         return NOT_READ.fullmatch(err) or NOT_WRITTEN.fullmatch(err) or NOT_PRINTED.fullmatch(err)
 
     def check_refusal(self, refusal, outcome, files, tried, where):
         """A refusal after one failed call."""
-        own_beginning = self.own.status == 2 and self.own.err.startswith(outcome.err)
-        said = self.what_is_said(outcome.err)
+        err = self.after_reason(outcome.err)
+        own_beginning = self.own.status == 2 and self.own.err.startswith(err)
+        said = self.what_is_said(err)
         assert said or own_beginning, where
         if not said:
             self.check_files(outcome, files, [self.shelf.files], set(), where)
             return
-        written = NOT_WRITTEN.fullmatch(outcome.err)
-        if not NOT_PRINTED.fullmatch(outcome.err):
+        written = NOT_WRITTEN.fullmatch(err)
+        if not NOT_PRINTED.fullmatch(err):
             self.check_role(outcome, said, where)
         if not written:
             assert self.own.out.startswith(outcome.out), where

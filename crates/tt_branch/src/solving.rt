@@ -19,6 +19,7 @@ use tt_leaf::Bound;
 use tt_path::Path;
 use tt_path_trail::TrailPath;
 use tt_proof_read::Node;
+use tt_reason::find_reason;
 use tt_table::Timetable;
 use tt_watch::Watch;
 
@@ -111,6 +112,16 @@ fn solve_over<'i, P: Path<'i>, W: Watch>(
     conclude(alloc, path, search, ending)
 }
 
+/// Returns the maximum number of turns of the improvement: none if there is a plain reason why no feasible timetable exists.
+fn turns_in(alloc: Global, instance: &Instance<'_>, nodes: u32) -> Result<u32, AllocError> {
+    let reason = find_reason(alloc, instance)?;
+    Ok(if reason.is_some() {
+        0
+    } else {
+        turns_for(nodes)
+    })
+}
+
 /// Searches for a best timetable by a tree. Returns the best timetable that it found and a proof of a lower bound, of at most `nodes` nodes
 /// if each is closed, and of fewer than twice as many otherwise; if each is closed, the cost and the bound are equal, or no timetable exists
 /// that breaks no hard rule. If the watch ends the search, the result is that of a search of fewer nodes. It makes no promise about which nodes
@@ -128,6 +139,7 @@ pub fn solve<W: Watch>(
 {
     let mut path = TrailPath::new(alloc, instance)?;
     let goal = best_worth(alloc, &path)?;
-    let best = first_best(alloc, instance, seed, goal, turns_for(nodes), watch)?;
+    let turns = turns_in(alloc, instance, nodes)?;
+    let best = first_best(alloc, instance, seed, goal, turns, watch)?;
     solve_over(alloc, &mut path, best, nodes, watch)
 }

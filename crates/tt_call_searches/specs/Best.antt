@@ -1,5 +1,5 @@
 -- The answer of `best` for the bytes of an instance.
-use Rattle.std.specs.Prelude.{◌≡◌, ◌≤◌, ◌⊎◌, ℕ, List, [], Vec, Option, Some, None, IsSomeAnd, IfSome}
+use Rattle.std.specs.Prelude.{◌≡◌, ◌≤◌, ◌⊎◌, ℕ, List, Vec, Option, Some, None, IsSomeAnd, IfSome}
 use Rattle.tt_instance.specs.Problem.{Problem}
 use Rattle.tt_instance.specs.Spelling.{Spells}
 use Rattle.tt_instance.specs.declared.cell.Cell.{Cell}
@@ -7,14 +7,11 @@ use Rattle.tt_table.specs.Spelling.{solution_text}
 use Rattle.tt_table.specs.Table.{IsTimetable}
 use Rattle.tt_rules.specs.Score.{IsFeasible}
 use Rattle.tt_leaf.specs.declared.leaf.Bound.{Bound}
-use Rattle.tt_leaf.specs.declared.leaf.Bound.TheVariants.{Nothing}
-use Rattle.tt_leaf.specs.declared.leaf.Leaf.TheVariants as leaf
-use Rattle.tt_leaf_rules.specs.Leaves.{IsRight}
 use Rattle.tt_page.specs.Limits.{IsWithinLimit}
 use Rattle.tt_page.specs.Pages.{page_text}
-use Rattle.tt_page.specs.Proofs.{proved_of}
 use Rattle.tt_page.specs.declared.proved.Proved.{Proved}
-use Rattle.tt_page.specs.declared.proved.Proved.TheVariants.{AtLeast, Clique, Slots}
+use Rattle.tt_page.specs.declared.proved.Proved.TheVariants.{AtLeast}
+use Rattle.tt_page_reason.specs.Explained.{IsProvedBy}
 use Rattle.tt_page_text.specs.Labels.{no_labels}
 use Rattle.tt_page_text.specs.Puts.{IsTooLarge}
 use Rattle.tt_proof_check.specs.Derives.{HoldsOfAll}
@@ -45,12 +42,6 @@ pub record IsBestFound (instance style : List ℕ) (a : BestAnswer) : Type 0 whe
   pub no_partial : a.partial ≡ None
   pub text : a.out.items ≡ best_line cost bound
   pub status : a.status ≡ 0
-
--- A page says this if the bound holds: the bound, or courses of which all lectures can't be placed, by the rule of their leaf.
-abbrev pub IsProvedBy : Problem → Bound → Proved → Type 0
-IsProvedBy p Nothing (Clique cs) = IsRight p [] Nothing (leaf.Clique cs)
-IsProvedBy p Nothing (Slots cs) = IsRight p [] Nothing (leaf.Slots cs)
-IsProvedBy p b proved = proved ≡ proved_of b
 
 -- The answer has no timetable that breaks no hard rule. The proofs add up to the bound in the line, which holds for every such timetable. There
 -- is a timetable that breaks hard rules, and the page shows it and what is proved, in this style, unless it would be too large.

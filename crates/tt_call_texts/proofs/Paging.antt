@@ -9,11 +9,11 @@ use Rattle.tt_table.specs.Spelling.{SpellsBoth, SpellsTable}
 use Rattle.tt_leaf.specs.declared.leaf.Bound.{Bound}
 use Rattle.tt_page.specs.Faults.{ExplainsSize}
 use Rattle.tt_page.specs.Pages.{page_text}
-use Rattle.tt_page.specs.Proofs.{proved_of}
 use Rattle.tt_page.specs.declared.proved.Proved.{Proved}
 use Rattle.tt_page.specs.declared.proved.Proved.TheVariants.{Unproved}
 use Rattle.tt_page.specs.declared.fault.PageFault.{PageFault}
 use Rattle.tt_page.specs.declared.fault.PageFault.TheVariants as page
+use Rattle.tt_page_reason.specs.Explained.{IsProvedBy}
 use Rattle.tt_page_text.specs.Labelled.{Labelled}
 use Rattle.tt_page_text.specs.Labels.{is_environmental}
 use Rattle.tt_page_text.specs.declared.fault.LabelsFault.{LabelsFault}
@@ -98,24 +98,28 @@ module _ (i s : List ℕ) (p : Problem) (t : List Cell) (names : PageNames) (spe
       record { problem = p; table = t; labels = l; both = both; named = named; large = size }
   plain_page_tells style l before after page.OutOfMemory named part size = tt
 
-  pub page_tells : (style : List ℕ) (l : Labelled) (b : Bound) (gives : List (List ℕ) → Type 0) (before after : Option (List ℕ))
-      (f : PageFault) → labels_for p names ≡ Ok l
-      → ((proofs : List (List ℕ)) → gives proofs → IsSum p proofs b) → HoldsOfAll p b
-      → (f ≡ page.Write → TakesPart before after (page_text p t l (proved_of b) style)) → ExplainsSize f (page_text p t l (proved_of b) style)
+  pub page_tells : (style : List ℕ) (l : Labelled) (b : Bound) (proved : Proved) (gives : List (List ℕ) → Type 0)
+      (before after : Option (List ℕ)) (f : PageFault) → labels_for p names ≡ Ok l
+      → ((proofs : List (List ℕ)) → gives proofs → IsSum p proofs b) → HoldsOfAll p b → IsProvedBy p b proved
+      → (f ≡ page.Write → TakesPart before after (page_text p t l proved style)) → ExplainsSize f (page_text p t l proved style)
       → IsProvedPageRefusal i s names style gives before after (fault_from_page f)
-  page_tells style l b gives before after page.Write named sum holds part size = record {
+  page_tells style l b proved gives before after page.Write named sum holds by part size = record {
     bound = b;
+    proved = proved;
     paged = record { problem = p; table = t; labels = l; both = both; named = named; within = size; part = part refl };
+    proved_by = by;
     sum = sum;
     holds = holds;
   }
-  page_tells style l b gives before after page.TooLarge named sum holds part size = record {
+  page_tells style l b proved gives before after page.TooLarge named sum holds by part size = record {
     bound = b;
+    proved = proved;
     paged = record { problem = p; table = t; labels = l; both = both; named = named; large = size };
+    proved_by = by;
     sum = sum;
     holds = holds;
   }
-  page_tells style l b gives before after page.OutOfMemory named sum holds part size = tt
+  page_tells style l b proved gives before after page.OutOfMemory named sum holds by part size = tt
 
 -- the page of the instance and the timetable that were read is that of those that the bytes spell
 pub page_same : (i s : List ℕ) (p read : Problem) (t found : List Cell) (names : PageNames) (l m : Labelled) (a c : Proved)
@@ -128,3 +132,10 @@ page_same i s p read t found names l m a c style both spells solved named given 
     let reported : labels_for p names ≡ Ok m = subst (λ (q : Problem). labels_for q names ≡ Ok m) same given in
     let labelled : m ≡ l = cc in
     cc
+
+-- what is proved by the bound of the instance that was read is proved by that of the instance that the bytes spell
+pub proved_same : (i : List ℕ) (p read : Problem) (b found : Bound) (proved : Proved) → Spells i p → Spells i read → found ≡ b
+    → IsProvedBy read found proved → IsProvedBy p b proved
+proved_same i p read b found proved spells spelled same by =
+    let here : read ≡ p = spelled_once i read p spelled spells in
+    subst (λ (q : Problem). IsProvedBy q b proved) here (subst (λ (x : Bound). IsProvedBy read x proved) same by)

@@ -8,9 +8,9 @@ use Rattle.tt_instance.specs.declared.cell.Cell.{Cell}
 use Rattle.tt_leaf.specs.declared.leaf.Bound.{Bound}
 use Rattle.tt_page.specs.Limits.{IsWithinLimit}
 use Rattle.tt_page.specs.Pages.{page_text}
-use Rattle.tt_page.specs.Proofs.{proved_of}
 use Rattle.tt_page.specs.declared.proved.Proved.{Proved}
 use Rattle.tt_page.specs.declared.proved.Proved.TheVariants.{Unproved}
+use Rattle.tt_page_reason.specs.Explained.{IsProvedBy}
 use Rattle.tt_page_text.specs.Labelled.{Labelled}
 use Rattle.tt_page_text.specs.Labels.{labels_of}
 use Rattle.tt_page_text.specs.Puts.{IsTooLarge}
@@ -100,24 +100,30 @@ IsPageRefusal instance solution names style before after _ = ⊥
 
 -- ---- the page with a bound
 
--- the page was written with the bound that the proofs derive together, if their readers give these bytes, and it holds
+-- the page was written with what the bound proves that the proofs derive together, if their readers give these bytes, and the bound holds
 pub record IsProvedPaged (instance solution : List ℕ) (names : PageNames) (style : List ℕ) (gives : List (List ℕ) → Type 0) (before after : Option (List ℕ)) (status : ℕ) : Type 0 where
   pub bound : Bound
-  pub paged : IsPagedWith (proved_of bound) instance solution names style before after status
+  pub proved : Proved
+  pub paged : IsPagedWith proved instance solution names style before after status
+  pub proved_by : IsProvedBy paged.problem bound proved
   pub sum : (proofs : List (List ℕ)) → gives proofs → IsSum paged.problem proofs bound
   pub holds : HoldsOfAll paged.problem bound
 
 -- a write failed on the way
 pub record IsProvedPagedPartly (instance solution : List ℕ) (names : PageNames) (style : List ℕ) (gives : List (List ℕ) → Type 0) (before after : Option (List ℕ)) : Type 0 where
   pub bound : Bound
-  pub paged : IsPagedPartlyWith (proved_of bound) instance solution names style before after
+  pub proved : Proved
+  pub paged : IsPagedPartlyWith proved instance solution names style before after
+  pub proved_by : IsProvedBy paged.problem bound proved
   pub sum : (proofs : List (List ℕ)) → gives proofs → IsSum paged.problem proofs bound
   pub holds : HoldsOfAll paged.problem bound
 
 -- the page with this bound is too large
 pub record IsProvedPageTooLarge (instance solution : List ℕ) (names : PageNames) (style : List ℕ) (gives : List (List ℕ) → Type 0) : Type 0 where
   pub bound : Bound
-  pub paged : IsPageTooLargeWith (proved_of bound) instance solution names style
+  pub proved : Proved
+  pub paged : IsPageTooLargeWith proved instance solution names style
+  pub proved_by : IsProvedBy paged.problem bound proved
   pub sum : (proofs : List (List ℕ)) → gives proofs → IsSum paged.problem proofs bound
   pub holds : HoldsOfAll paged.problem bound
 

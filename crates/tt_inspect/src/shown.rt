@@ -1,11 +1,12 @@
 //! Bytes of a file in the form in which they are shown: printable, and not too many.
 
+use bstr::ByteSlice;
 use std::fmt;
 
-/// The maximum number of bytes of a name that are shown.
+/// The maximum number of letters of a name that are shown.
 const MAX_NAME: usize = 60;
 
-/// Bytes of a file; each that is not a printable letter of ASCII is shown as `?`, so that none can control a terminal.
+/// Bytes of a line; each that is not a printable letter of ASCII is shown as `?`, so that columns are counted by bytes.
 #[derive(Clone, Copy)]
 pub struct Shown<'a> {
     pub bytes: &'a [u8],
@@ -24,7 +25,19 @@ impl<'a> fmt::Display for Shown<'a> {
     }
 }
 
-/// A name of a file, cut if it is long.
+/// Checks whether a letter may be on a terminal: it neither controls it nor turns the direction of a text, and it isn't invisible.
+fn is_harmless(letter: char) -> bool {
+    match letter {
+        '\u{61C}'
+        | '\u{200B}'..='\u{200F}'
+        | '\u{2028}'..='\u{202E}'
+        | '\u{2060}'..='\u{206F}'
+        | '\u{FEFF}' => false,
+        _ => !letter.is_control(),
+    }
+}
+
+/// A name of a file, read as UTF-8, and cut if it is long. A letter that may not be on a terminal is shown as `?`.
 #[derive(Clone, Copy)]
 pub struct Name<'a> {
     pub bytes: &'a [u8],
@@ -32,13 +45,14 @@ pub struct Name<'a> {
 
 impl<'a> fmt::Display for Name<'a> {
     fn fmt<W: fmt::Write>(&self, f: &mut fmt::Formatter<W>) -> fmt::Result {
-        let bytes = self.bytes;
-        let len = bytes.len().min(MAX_NAME);
-        let front = Shown {
-            bytes: &bytes[..len],
-        };
-        let rest = if len < bytes.len() { ".." } else { "" };
-        write!(f, "{front}{rest}")
+        for (index, letter) in self.bytes.chars().enumerate() {
+            if index == MAX_NAME {
+                return f.write_str("..");
+            }
+            let shown = if is_harmless(letter) { letter } else { '?' };
+            f.write_char(shown)?;
+        }
+        Ok(())
     }
 }
 

@@ -51,10 +51,10 @@ infeasible_text = codes "<p class=\"infeasible\">no feasible timetable exists (p
 unfoldable pub next_course : Problem → ℕ → List ℕ
 next_course p c = codes " " ++ course_link p c
 
--- The line for a proof by courses any two of which conflict.
+-- The line for a proof by courses no two of which can meet at the same time.
 unfoldable pub clique_text : Problem → List ℕ → List ℕ
 clique_text p cs =
-    codes "<p class=\"infeasible\">no feasible timetable exists (proved): any two of these courses conflict, and they have more lectures than open periods:"
+    codes "<p class=\"infeasible\">no feasible timetable exists (proved): there are more lectures than open periods, and no two of them can be at the same time:"
     ++ flat_map (next_course p) cs ++ codes "</p>\n"
 
 -- The line for a proof by courses that have too few rooms.

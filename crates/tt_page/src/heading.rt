@@ -142,7 +142,7 @@ fn put_courses(out: &mut PageText, instance: &Instance<'_>, courses: &[u32])
     }
 }
 
-/// Appends that courses any two of which conflict have too few periods.
+/// Appends that courses, no two of which can meet at the same time, have too few periods.
 #[tactic(auto, using(tt_page_text::proofs::Growing::puts), unfolding(crate::specs::Heading::clique_text))]
 fn put_clique(out: &mut PageText, instance: &Instance<'_>, courses: &[u32])
     requires { AreBelow (length instance.now.courses) courses.now }
@@ -150,7 +150,7 @@ fn put_clique(out: &mut PageText, instance: &Instance<'_>, courses: &[u32])
 {
     put_token(
         out,
-        b"<p class=\"infeasible\">no feasible timetable exists (proved): any two of these courses conflict, and they have more lectures than open periods:",
+        b"<p class=\"infeasible\">no feasible timetable exists (proved): there are more lectures than open periods, and no two of them can be at the same time:",
     );
     put_courses(out, instance, courses);
     put_token(out, b"</p>\n");

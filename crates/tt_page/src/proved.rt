@@ -1,10 +1,6 @@
 //! What a page says is proved.
 
-ghost use Rattle.std.specs.Prelude.{◌≡◌};
-ghost use Rattle.tt_instance.specs.Problem.{Problem};
-ghost use Rattle.tt_page.specs.Proofs.{IsProvedOf, proved_of};
-
-use tt_leaf::{Bound, CourseList};
+use tt_leaf::CourseList;
 
 /// What is proved about all feasible timetables of an instance.
 #[derive(Debug, Drop)]
@@ -18,17 +14,4 @@ pub enum Proved {
     Clique(CourseList),
     /// There is none: these courses have more lectures than there are rooms in all their open periods.
     Slots(CourseList),
-}
-
-impl Proved {
-    /// Returns what a bound says.
-    pub fn of(bound: Bound) -> Proved
-        ensures value { result ≡ proved_of bound }
-        ensures within { (p : Problem) → IsProvedOf p result }
-    {
-        match bound {
-            Bound::AtLeast(points) => Proved::AtLeast(points),
-            Bound::Nothing => Proved::Infeasible,
-        }
-    }
 }

@@ -71,14 +71,18 @@ fn the_page_of_no_timetable(rt: HostRuntime) -> Result<(), Fail> {
     let page = memory.text("found/page.html")?;
     for part in [
         "<strong>not feasible</strong>",
-        "<p class=\"infeasible\">no feasible timetable exists (proved): any two of these courses conflict",
-        "open periods: <a href=\"#course0\">x</a></p>",
+        "<p class=\"infeasible\">no feasible timetable exists (proved): there are more lectures than open periods",
+        "at the same time: <a href=\"#course0\">x</a></p>",
     ] {
         assert!(rt; page.as_deref().is_some_and(|text| text.contains(part)));
     }
     let words = ["validate", "a.ctt", "found/partial.sol"];
     let counts = run_on(rt.alloc(), &words, &memory)?;
     assert_eq!(rt; counts.status, 1);
+    let words = ["page", "a.ctt", "found/partial.sol", "b.html", "--proof", "found/tree.proof"];
+    let shown = run_on(rt.alloc(), &words, &memory)?;
+    assert_eq!(rt; shown.status, 0);
+    assert_eq!(rt; memory.text("b.html")?, page);
     Ok(())
 }
 

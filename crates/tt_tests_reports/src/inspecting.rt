@@ -96,6 +96,26 @@ fn shortages_in_words(rt: HostRuntime) -> Result<(), Fail> {
 }
 
 #[test]
+fn letters_of_names(rt: HostRuntime) -> Result<(), Fail> {
+    for (name, shown) in [
+        ("Prüfung", "Prüfung"),
+        ("a\u{7}b", "a?b"),
+        ("a\u{85}b", "a?b"),
+        ("a\u{202E}b", "a?b"),
+    ] {
+        let row = format!(in rt.alloc(); "\n{name} t1 2 3 10")?;
+        let group = format!(in rt.alloc(); "q 1 {name}")?;
+        let bar = format!(in rt.alloc(); "\n{name} 0 0\n")?;
+        let line = format!(in rt.alloc(); "costs 5 at least: course {shown} wants 3 days, the week has 2\n")?;
+        let instance = edited(rt.alloc(), SOLO, "\na t1 2 3 10", row.as_str())?;
+        let instance = edited(rt.alloc(), instance.as_str(), "q 1 a", group.as_str())?;
+        let instance = edited(rt.alloc(), instance.as_str(), "\na 0 0\n", bar.as_str())?;
+        assert!(rt; has_line(rt.alloc(), instance.as_str(), line.as_str())?, "{line}");
+    }
+    Ok(())
+}
+
+#[test]
 fn nothing_to_look_at(rt: HostRuntime) -> Result<(), Fail> {
     let instance = edited(rt.alloc(), MINI, "R 11", "R 12")?;
     let outcome = inspected(rt.alloc(), &instance)?;
@@ -136,7 +156,7 @@ fn faults_of_counts_and_headers_in_words(rt: HostRuntime) -> Result<(), Fail> {
         (
             "Name: Mini",
             "\u{FEFF}Name: Mini",
-            "instance: Expected Name: at byte 0\nline 1, column 1: ???Name: is there, Name: was expected\n  ???Name: Mini\n  ^\nlikely: the file begins with a byte order mark; save it as UTF-8 without one\n",
+            "instance: Expected Name: at byte 0\nline 1, column 1: ?Name: is there, Name: was expected\n  ???Name: Mini\n  ^\nlikely: the file begins with a byte order mark; save it as UTF-8 without one\n",
         ),
     ] {
         let instance = edited(rt.alloc(), MINI, old, new)?;

@@ -1,20 +1,18 @@
 //! The call `best`.
 
-ghost use Rattle.std.specs.Prelude.{◌≡◌, ℕ, List, [], IfOk, IfErr, MatchResult, ⊤};
+ghost use Rattle.std.specs.Prelude.{◌≡◌, ℕ, List, IfOk, IfErr, MatchResult, ⊤};
 ghost use Rattle.std.specs.Option.{option_copied};
 ghost use Rattle.tt_instance.specs.Problem.{Problem};
 ghost use Rattle.tt_instance.specs.Spelling.{Spells};
 ghost use Rattle.tt_table.specs.Table.{IsTimetable};
 ghost use Rattle.tt_rules.specs.Score as score;
 ghost use Rattle.tt_rules.specs.Score.{IsFeasible};
-ghost use Rattle.tt_leaf.specs.declared.leaf.Bound.TheVariants.{Nothing};
-ghost use Rattle.tt_leaf_find.specs.Found.{Closes};
 ghost use Rattle.tt_page.specs.Pages.{page_text};
 ghost use Rattle.tt_page.specs.Proofs.{IsProvedOf};
 ghost use Rattle.tt_page_text.specs.Labels.{no_labels};
 ghost use Rattle.tt_parts.specs.Found.{AreFound};
 ghost use Rattle.tt_best.specs.Weeks.{IsWeek};
-ghost use Rattle.tt_call_searches.specs.Best.{IsBest, IsNoneFound, IsProvedBy, CostsAtMost, CostsNoMore, ShowsPage};
+ghost use Rattle.tt_call_searches.specs.Best.{IsBest, IsNoneFound, CostsAtMost, CostsNoMore, ShowsPage};
 ghost use Rattle.tt_call_searches.specs.Given.{SpellsGiven, IsGivenRefusal};
 ghost use Rattle.tt_call_answers.specs.Lines.{best_line, none_line};
 ghost use Rattle.tt_call_answers.specs.declared.fault.AppFault.TheVariants as fault;
@@ -26,11 +24,11 @@ use tt_best::{Rounds, Start, WatchRounds, Week, find_best};
 use tt_call_answers::AppFault;
 use tt_instance::Instance;
 use tt_instance_read::read_instance;
-use tt_leaf::{Bound, Leaf};
+use tt_leaf::Bound;
 use tt_page::Proved;
+use tt_page_reason::explain_bound;
 use tt_page_text::{Labels, TextFault};
 use tt_parts::{Parts, copy_texts};
-use tt_reason::find_reason;
 use tt_rules::score;
 use tt_table::{Entry, Timetable, write_solution};
 use tt_text::{put_line_end, put_number, put_token};
@@ -217,40 +215,6 @@ fn found_answer(
     })
 }
 
-/// Returns what a leaf of the path without facts says.
-fn reason_of(leaf: Leaf) -> Proved
-    ensures by { (p : Problem) → Closes p [] Nothing leaf → IsProvedBy p Nothing result }
-    ensures within { (p : Problem) → Closes p [] Nothing leaf → IsProvedOf p result }
-{
-    match leaf {
-        Leaf::Clique(courses) => Proved::Clique(courses),
-        Leaf::Slots(courses) => Proved::Slots(courses),
-        Leaf::Empty(_) | Leaf::Many(_) | Leaf::Cost(_) => Proved::Infeasible,
-    }
-}
-
-/// Returns why there is no feasible timetable, if a plain reason is found.
-fn reason_for(alloc: Global, instance: &Instance<'_>) -> Result<Proved, AllocError>
-    ensures by { IfOk result (IsProvedBy instance.now Nothing) }
-    ensures within { IfOk result (IsProvedOf instance.now) }
-{
-    match find_reason(alloc, instance)? {
-        Some(leaf) => Ok(reason_of(leaf)),
-        None => Ok(Proved::Infeasible),
-    }
-}
-
-/// Returns what a page says if a bound holds.
-fn proved_by(alloc: Global, instance: &Instance<'_>, bound: Bound) -> Result<Proved, AllocError>
-    ensures by { IfOk result (IsProvedBy instance.now bound) }
-    ensures within { IfOk result (IsProvedOf instance.now) }
-{
-    match bound {
-        Bound::AtLeast(points) => Ok(Proved::AtLeast(points)),
-        Bound::Nothing => reason_for(alloc, instance),
-    }
-}
-
 /// Returns the answer with a timetable that breaks hard rules, its page, and proofs.
 fn missing_answer(
     alloc: Global,
@@ -262,7 +226,7 @@ fn missing_answer(
     requires broken { ¬ IsFeasible instance.now week.now.table }
     ensures { IfOk result (λ a. (i : List ℕ) → Spells i instance.now → IsNoneFound i style.now a) }
 {
-    let proved = proved_by(alloc, instance, week.parts.bound)?;
+    let proved = explain_bound(alloc, instance, week.parts.bound)?;
     Ok(BestAnswer {
         status: 1,
         out: missing_line(alloc, week.parts.bound)?,

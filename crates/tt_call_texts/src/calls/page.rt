@@ -7,8 +7,9 @@ ghost use Rattle.tt_instance.specs.declared.cell.Cell.{Cell};
 ghost use Rattle.tt_leaf.specs.declared.leaf.Bound.{Bound};
 ghost use Rattle.tt_page.specs.Limits.{IsWithinLimit};
 ghost use Rattle.tt_page.specs.Pages.{page_text};
-ghost use Rattle.tt_page.specs.Proofs.{proved_of};
+ghost use Rattle.tt_page.specs.declared.proved.Proved.{Proved};
 ghost use Rattle.tt_page.specs.declared.proved.Proved.TheVariants.{Unproved};
+ghost use Rattle.tt_page_reason.specs.Explained.{IsProvedBy};
 ghost use Rattle.tt_page_text.specs.Labelled.{Labelled};
 ghost use Rattle.tt_page_text.specs.Labels.{Gives};
 ghost use Rattle.tt_text.specs.Failures.{is_err_and};
@@ -27,6 +28,7 @@ use tt_call_answers::AppFault;
 use tt_instance::Instance;
 use tt_instance_read::read_instance;
 use tt_page::Proved;
+use tt_page_reason::explain_bound;
 use tt_page_text::{Labels, LabelsFault};
 use tt_proof_sum::sum_proofs;
 use tt_table::read_solution;
@@ -91,7 +93,8 @@ pub fn page<W: Sink>(
 }
 
 /// Writes the page of a solution's week, with names, the sum of the lower bounds that proofs derive, and a style; the status is 0. No two of
-/// the proofs claim the same target.
+/// the proofs claim the same target. If they prove that no feasible timetable exists, the page names the courses of a plain reason, if one is
+/// found.
 pub fn proved_page<R: Peek, W: Sink>(
     alloc: Global,
     instance: &[u8],
@@ -101,16 +104,16 @@ pub fn proved_page<R: Peek, W: Sink>(
     style: &str,
     sink: &mut W,
 ) -> Result<u8, AppFault>
-    // The bytes written are the page with the sum of the derived bounds, which holds.
+    // The bytes written are the page with what the sum of the derived bounds proves, and this sum holds.
     ensures written { IfOk result (IsProvedPaged instance.now solution.now names.entry style.now (Give R.remaining proofs.old) (W.contents sink.old) (W.contents sink.new)) }
     // A refusal reports the first error.
     ensures fault { IfErr result (IsProvedPageRefusal instance.now solution.now names.entry style.now (Give R.remaining proofs.old) (W.contents sink.old) (W.contents sink.new)) }
-    // If both files are spelled, the names fit and the proofs have a sum below 2^64, the page with this sum is written if it isn't too large, and
-    // only then, unless the refusal says nothing about the bytes or a write fails.
+    // If both files are spelled, the names fit and the proofs have a sum below 2^64, a page with what this sum proves is written if it isn't too
+    // large, and only then, unless the refusal says nothing about the bytes or a write fails.
     ensures only { (p : Problem) (t : List Cell) (labels : Labelled) (files : List (List ℕ)) (b : Bound) → SpellsBoth instance.now solution.now p t →
         labels_for p names.entry ≡ Ok labels → Give R.remaining proofs.old files → (h : IsSum p files b) → all_points h.parts < 2 ^ 64 →
-        let text = page_text p t labels (proved_of b) style.now in
-        MatchResult result (λ _. Appends (W.contents sink.old) (W.contents sink.new) text × IsWithinLimit text) (λ f. IsSilentOrNotPut f text) }
+        (proved : Proved) × IsProvedBy p b proved × (let text = page_text p t labels proved style.now in
+        MatchResult result (λ _. Appends (W.contents sink.old) (W.contents sink.new) text × IsWithinLimit text) (λ f. IsSilentOrNotPut f text)) }
     // If the instance, the solution or the names are refused, no proof is read.
     ensures unread { IfErr result (λ f. IsBeforeProofs f → proofs.new ≡ proofs.old) }
     // If any other error than a failed write is reported, nothing is written.
@@ -130,7 +133,7 @@ pub fn proved_page<R: Peek, W: Sink>(
     let table = read_solution(alloc, &instance, solution)?;
     let labels = labels_for(alloc, &instance, names)?;
     let bound = sum_proofs(alloc, &instance, proofs)?;
-    let proved = Proved::of(bound);
+    let proved = explain_bound(alloc, &instance, bound)?;
     tt_page::page(alloc, &instance, &table, &labels, &proved, style, sink)?;
     Ok(0)
 }

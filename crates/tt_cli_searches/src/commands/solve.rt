@@ -68,10 +68,11 @@ impl<F> Outputs<F> {
         Ok(Some(format!(in rt.alloc(); "{path}{PARTIAL}")?))
     }
 
-    /// Adds a timetable that breaks hard rules to a batch; it is left out if its file can't be written.
-    fn write_partial<R: World<File = F>>(
+    /// Adds a timetable that breaks hard rules to a batch. It is left out if its file can't be written, and standard error says why.
+    fn write_partial<R: World<File = F>, E: Write>(
         &self,
         rt: &R,
+        err: &mut E,
         inputs: &Inputs<'_>,
         text: &Option<Vec<u8>>,
     ) -> Result<Batch, AllocError> {
@@ -83,19 +84,21 @@ impl<F> Outputs<F> {
             role: Role::Solution,
             path: path.as_str(),
         };
-        let Ok(found) = target.find(rt, inputs) else {
-            return Ok(batch);
-        };
-        match found.prepare(rt) {
+        match target.find(rt, inputs).and_then(|found| found.prepare(rt)) {
             Ok(mut partial) => partial.write_given(rt, batch, text),
-            Err(_) => Ok(batch),
+            Err(CommandFault::OutOfMemory) => Err(AllocError),
+            Err(fault) => {
+                let _ = writeln!(err, "left out: {fault}");
+                Ok(batch)
+            }
         }
     }
 
     /// Returns a batch with the files of an answer.
-    fn write<R: World<File = F>>(
+    fn write<R: World<File = F>, E: Write>(
         &mut self,
         rt: &R,
+        err: &mut E,
         inputs: &Inputs<'_>,
         answer: &Answer,
     ) -> Result<Batch, AllocError> {
@@ -103,7 +106,7 @@ impl<F> Outputs<F> {
             self.table
                 .write_given(rt, Batch::new(rt.alloc()), &answer.table)?
         } else {
-            self.write_partial(rt, inputs, &answer.table)?
+            self.write_partial(rt, err, inputs, &answer.table)?
         };
         self.proof.write_given(rt, batch, &answer.proof)
     }
@@ -174,6 +177,6 @@ pub fn answer_solve<R: World, E: Write>(
     if answer.status != 0 {
         say_why(rt.alloc(), err, &instance, &answer)?;
     }
-    let batch = outputs.write(rt, &inputs, &answer)?;
+    let batch = outputs.write(rt, err, &inputs, &answer)?;
     reply_with(rt, batch, answer.status, answer.out)
 }

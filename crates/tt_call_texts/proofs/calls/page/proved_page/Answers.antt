@@ -3,6 +3,7 @@ use Rattle.std.specs.Io.KnownBytes.{Appends}
 use Rattle.std.proofs.lemmas.Result.{err_from_is_err_and}
 use Rattle.tt_page.specs.Limits.{IsWithinLimit}
 use Rattle.tt_page.specs.Proofs.{proved_of}
+use Rattle.tt_page_reason.proofs.Bounds.{by_bound}
 use Rattle.tt_proof_check.proofs.TextFaults.{err_same}
 use Rattle.tt_proof_sum.specs.Added.{Give}
 use Rattle.tt_call_answers.specs.FaultMaps.{fault_from_instance, fault_from_solution, fault_from_labels, fault_from_page, fault_from_sum}
@@ -13,15 +14,15 @@ use Rattle.tt_call_answers.proofs.ReportedMemory.{lower_sum, lower_instance, low
 use Rattle.tt_call_answers.proofs.FailedReads.{read_summed, passed, calm, unread, sum_read, instance_read_at, solution_read_at, labels_read_at, page_read_at, instance_write, solution_write, labels_write, sum_write, page_write}
 use Rattle.tt_call_answers.proofs.Sums.{sum_here, silent_refusal}
 use Rattle.tt_call_answers.proofs.Files.{tells_instance, tells_solution, only_memory}
-use Rattle.tt_call_texts.proofs.Paging.{names_memory, names_tell_proved, sum_tells_page, page_tells, page_same, output_tells}
+use Rattle.tt_call_texts.proofs.Paging.{names_memory, names_tell_proved, sum_tells_page, page_tells, page_same, proved_same, output_tells}
 use Rattle.tt_call_texts.proofs.calls.page.proved_page.Goals as goal
 
 pub returns-in_err-instance-clause-only : goal.returns-in_err-instance-clause-only
 returns-in_err-instance-clause-only g c =
     let e = err_from_is_err_and c.from_residual.result c.from_residual.ensures.1 in
-    λ p t l files b both named given h within. rw (e.1, e.2)
+    λ p t l files b both named given h within. (proved_of b, by_bound p b, rw (e.1, e.2)
     (inl (inl (only_memory c.args.instance.now c.args.solution.now p t _ both
-    (tells_instance c.args.instance.now c.args.solution.now c.in_err-instance.field-0.0 c.in_err-instance.ensures.exact))))
+    (tells_instance c.args.instance.now c.args.solution.now c.in_err-instance.field-0.0 c.in_err-instance.ensures.exact)))))
 
 pub returns-in_err-instance-clause-lower : goal.returns-in_err-instance-clause-lower
 returns-in_err-instance-clause-lower g c =
@@ -31,10 +32,10 @@ returns-in_err-instance-clause-lower g c =
 pub returns-in_err-table-clause-only : goal.returns-in_err-table-clause-only
 returns-in_err-table-clause-only g c =
     let e = err_from_is_err_and c.from_residual-in_err-table.result c.from_residual-in_err-table.ensures.1 in
-    λ p t l files b both named given h within. rw (e.1, e.2)
+    λ p t l files b both named given h within. (proved_of b, by_bound p b, rw (e.1, e.2)
     (inl (inl (only_memory c.args.instance.now c.args.solution.now p t _ both
     (tells_solution c.args.instance.now c.args.solution.now c.in_ok-instance.instance c.in_err-table.field-0.0
-    c.in_ok-instance.ensures.found c.in_err-table.ensures.exact))))
+    c.in_ok-instance.ensures.found c.in_err-table.ensures.exact)))))
 
 pub returns-in_err-table-clause-lower : goal.returns-in_err-table-clause-lower
 returns-in_err-table-clause-lower g c =
@@ -52,9 +53,9 @@ returns-in_err-labels-clause-fault g c =
 pub returns-in_err-labels-clause-only : goal.returns-in_err-labels-clause-only
 returns-in_err-labels-clause-only g c =
     let e = err_from_is_err_and c.from_residual-in_err-labels.result c.from_residual-in_err-labels.ensures.1 in
-    λ p t l files b both named given h within. rw (e.1, e.2)
+    λ p t l files b both named given h within. (proved_of b, by_bound p b, rw (e.1, e.2)
     (inl (inl (names_memory c.args.instance.now p c.in_ok-instance.instance c.args.names l c.in_err-labels.field-0.0 both.spelled
-    c.in_ok-instance.ensures.found named c.in_err-labels.ensures)))
+    c.in_ok-instance.ensures.found named c.in_err-labels.ensures))))
 
 pub returns-in_err-labels-clause-lower : goal.returns-in_err-labels-clause-lower
 returns-in_err-labels-clause-lower g c =
@@ -75,7 +76,8 @@ returns-in_err-bound-clause-only g c =
     let e = err_from_is_err_and c.from_residual-in_err-bound.result c.from_residual-in_err-bound.ensures.1 in
     λ p t l files b both named given h within.
     let here = sum_here c.args.instance.now files p c.in_ok-instance.instance b both.spelled c.in_ok-instance.ensures.found h within in
-    rw (e.1, e.2) (inl (silent_refusal c.in_err-bound.field-0.0 (c.in_err-bound.ensures.only files b given here.is here.within)))
+    (proved_of b, by_bound p b,
+    rw (e.1, e.2) (inl (silent_refusal c.in_err-bound.field-0.0 (c.in_err-bound.ensures.only files b given here.is here.within))))
 
 pub returns-in_err-bound-clause-lower : goal.returns-in_err-bound-clause-lower
 returns-in_err-bound-clause-lower g c =
@@ -93,57 +95,74 @@ returns-in_err-bound-clause-up_to_failed_read g c =
       explains = c.in_err-bound.ensures.up_to_failed_read i r q bytes (ap (λ f. Err f) is) was now known;
     }
 
+pub returns-in_err-proved-clause-fault : goal.returns-in_err-proved-clause-fault
+returns-in_err-proved-clause-fault g c =
+    let e = err_from_is_err_and c.from_residual-in_err-proved.result c.from_residual-in_err-proved.ensures.1 in
+    rw (e.1, e.2) tt
+
+pub returns-in_err-proved-clause-only : goal.returns-in_err-proved-clause-only
+returns-in_err-proved-clause-only g c =
+    let e = err_from_is_err_and c.from_residual-in_err-proved.result c.from_residual-in_err-proved.ensures.1 in
+    λ p t l files b both named given h within. (proved_of b, by_bound p b, rw (e.1, e.2) (inl (inl refl)))
+
 pub returns-in_err-page-clause-fault : goal.returns-in_err-page-clause-fault
 returns-in_err-page-clause-fault g c =
     let e = err_from_is_err_and c.from_residual-in_err-page.result c.from_residual-in_err-page.ensures.1 in
     rw (e.1, e.2)
     (page_tells c.args.instance.now c.args.solution.now c.in_ok-instance.instance c.in_ok-table.table c.args.names
-    c.in_ok-instance.ensures.found c.in_ok-table.ensures.found c.args.style.now _ c.in_ok-bound.bound
+    c.in_ok-instance.ensures.found c.in_ok-table.ensures.found c.args.style.now _ c.in_ok-bound.bound c.in_ok-proved.proved
     (Give g.R.Source.remaining c.args.proofs.now) _ _ c.in_err-page.field-0.0 c.in_ok-labels.ensures
-    c.in_ok-bound.ensures.found c.in_ok-bound.ensures.holds (λ is. rw c.of-proved.ensures.value at (c.in_err-page.ensures.part (ap (λ f. Err f) is)))
-    (rw c.of-proved.ensures.value at c.in_err-page.ensures.size))
+    c.in_ok-bound.ensures.found c.in_ok-bound.ensures.holds c.in_ok-proved.ensures.by
+    (λ is. c.in_err-page.ensures.part (ap (λ f. Err f) is)) c.in_err-page.ensures.size)
 
 pub returns-in_err-page-clause-only : goal.returns-in_err-page-clause-only
 returns-in_err-page-clause-only g c =
     let e = err_from_is_err_and c.from_residual-in_err-page.result c.from_residual-in_err-page.ensures.1 in
     let f = c.in_err-page.field-0.0 in
+    let proved = c.in_ok-proved.proved in
     λ p t l files b both named given h within.
     let here = sum_here c.args.instance.now files p c.in_ok-instance.instance b both.spelled c.in_ok-instance.ensures.found h within in
     let same = page_same c.args.instance.now c.args.solution.now p c.in_ok-instance.instance t c.in_ok-table.table c.args.names l
-    c.in_ok-labels.labels (proved_of b) (proved_of c.in_ok-bound.bound) c.args.style.now both c.in_ok-instance.ensures.found
-    c.in_ok-table.ensures.found named c.in_ok-labels.ensures
-    (ap proved_of (c.in_ok-bound.ensures.only files b given here.is here.within)) in
-    rw (e.1, e.2)
-    (inr (subst (IsNotPut (fault_from_page f)) same (output_tells f _ (rw c.of-proved.ensures.value at c.in_err-page.ensures.size))))
+    c.in_ok-labels.labels proved proved c.args.style.now both c.in_ok-instance.ensures.found
+    c.in_ok-table.ensures.found named c.in_ok-labels.ensures refl in (
+      proved,
+      proved_same c.args.instance.now p c.in_ok-instance.instance b c.in_ok-bound.bound proved both.spelled c.in_ok-instance.ensures.found
+          (c.in_ok-bound.ensures.only files b given here.is here.within) c.in_ok-proved.ensures.by,
+      rw (e.1, e.2) (inr (subst (IsNotPut (fault_from_page f)) same (output_tells f _ c.in_err-page.ensures.size))),
+    )
 
 pub returns-clause-written : goal.returns-clause-written
 returns-clause-written g c = record {
   bound = c.in_ok-bound.bound;
+  proved = c.in_ok-proved.proved;
   paged = record {
     problem = c.in_ok-instance.instance;
     table = c.in_ok-table.table;
     labels = c.in_ok-labels.labels;
     both = record { spelled = c.in_ok-instance.ensures.found; solved = c.in_ok-table.ensures.found };
     named = c.in_ok-labels.ensures;
-    within = rw c.of-proved.ensures.value at c.in_ok-page.ensures.size;
-    written = rw c.of-proved.ensures.value at c.in_ok-page.ensures.written;
+    within = c.in_ok-page.ensures.size;
+    written = c.in_ok-page.ensures.written;
     done = refl;
   };
+  proved_by = c.in_ok-proved.ensures.by;
   sum = c.in_ok-bound.ensures.found;
   holds = c.in_ok-bound.ensures.holds;
 }
 
 pub returns-clause-only : goal.returns-clause-only
 returns-clause-only g c =
+    let proved = c.in_ok-proved.proved in
     λ p t l files b both named given h within.
     let here = sum_here c.args.instance.now files p c.in_ok-instance.instance b both.spelled c.in_ok-instance.ensures.found h within in
     let same = page_same c.args.instance.now c.args.solution.now p c.in_ok-instance.instance t c.in_ok-table.table c.args.names l
-    c.in_ok-labels.labels (proved_of b) (proved_of c.in_ok-bound.bound) c.args.style.now both c.in_ok-instance.ensures.found
-    c.in_ok-table.ensures.found named c.in_ok-labels.ensures
-    (ap proved_of (c.in_ok-bound.ensures.only files b given here.is here.within)) in (
-      subst (λ (x : List ℕ). Appends (g.W.Sink.contents c.args.sink.now) (g.W.Sink.contents c.page.new.sink) x) same
-          (rw c.of-proved.ensures.value at c.in_ok-page.ensures.written),
-      subst IsWithinLimit same (rw c.of-proved.ensures.value at c.in_ok-page.ensures.size),
+    c.in_ok-labels.labels proved proved c.args.style.now both c.in_ok-instance.ensures.found
+    c.in_ok-table.ensures.found named c.in_ok-labels.ensures refl in (
+      proved,
+      proved_same c.args.instance.now p c.in_ok-instance.instance b c.in_ok-bound.bound proved both.spelled c.in_ok-instance.ensures.found
+          (c.in_ok-bound.ensures.only files b given here.is here.within) c.in_ok-proved.ensures.by,
+      subst (λ (x : List ℕ). Appends (g.W.Sink.contents c.args.sink.now) (g.W.Sink.contents c.page.new.sink) x) same c.in_ok-page.ensures.written,
+      subst IsWithinLimit same c.in_ok-page.ensures.size,
     )
 
 pub returns-in_err-instance-clause-failed_read : goal.returns-in_err-instance-clause-failed_read
