@@ -18,6 +18,9 @@ pub enum Section {
 /// The number of parts.
 pub const SECTIONS: usize = 6;
 
+/// The number of words of a lecture in a solution's file.
+pub const WORDS_OF_LECTURE: usize = 4;
+
 impl Section {
     /// Returns the place of the part in the file, from 0.
     pub fn index(self) -> usize {

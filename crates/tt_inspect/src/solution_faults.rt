@@ -3,7 +3,7 @@
 use crate::faulty_place::{encoding_fault, put_place};
 use crate::place::{is_line_feed, place_of};
 use crate::reason::Reason;
-use crate::rows::Row;
+use crate::rows::{Row, WORDS_OF_LECTURE};
 use std::alloc::{AllocError, Global};
 use tt_instance_read::Word;
 use tt_table::SolutionFault;
@@ -50,7 +50,7 @@ fn usual_reason(fault: SolutionFault) -> &'static str {
     }
 }
 
-/// Returns the first line up to this one that has words, but not four, and how many it has.
+/// Returns the first line up to this one that doesn't consist of whole lectures, and how many words it has.
 fn odd_line(bytes: &[u8], asked: usize) -> Option<(usize, usize)> {
     let mut number: usize = 0;
     for line in bytes.split(is_line_feed) {
@@ -59,7 +59,7 @@ fn odd_line(bytes: &[u8], asked: usize) -> Option<(usize, usize)> {
             return None;
         }
         let words = Row::of(line).words;
-        if words != 0 && words != 4 {
+        if words % WORDS_OF_LECTURE != 0 {
             return Some((number, words));
         }
     }

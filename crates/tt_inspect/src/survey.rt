@@ -1,7 +1,7 @@
 //! What can be found in an instance's file without reading it as an instance: the words of its header, and the lines of its parts.
 
 use crate::place::is_line_feed;
-use crate::rows::{Row, SECTIONS, Section};
+use crate::rows::{Row, SECTIONS, Section, WORDS_OF_LECTURE};
 use tt_instance_read::Word;
 use tt_text::Tokens;
 
@@ -68,7 +68,8 @@ impl Survey {
         }
     }
 
-    /// Returns the first part, up to the one with the line asked for, whose number of lines differs from the number that the header gives.
+    /// Returns the first part whose number of lines differs from the number that the header gives: one with too few, up to the one with the line
+    /// asked for, or that one itself. An earlier part with too many was read whole, so its lines end elsewhere.
     pub fn miscounted(&self) -> Option<(Section, u64, u64)> {
         for section in [
             Section::Courses,
@@ -81,7 +82,7 @@ impl Survey {
             }
             if let Some(tally) = self.tallies.get(section.index())
                 && let Some(said) = tally.said
-                && said != tally.lines
+                && (tally.lines < said || (said < tally.lines && section == self.section))
             {
                 return Some((section, said, tally.lines));
             }
@@ -153,6 +154,38 @@ pub fn missing_word(bytes: &[u8]) -> Option<Word> {
         if !has_word(bytes, word.text()) {
             return Some(word);
         }
+    }
+    None
+}
+
+/// The word of the header by which the extended format is known.
+const EXTENDED: &[u8] = b"UnavailabilityConstraints:";
+
+/// Checks whether a file that has none of the words of an instance begins with the line of a lecture.
+fn is_solution(bytes: &[u8]) -> bool {
+    for word in WORDS {
+        if has_word(bytes, word.text()) {
+            return false;
+        }
+    }
+    for line in bytes.split(is_line_feed) {
+        let words = Row::of(line).words;
+        if words != 0 {
+            return words == WORDS_OF_LECTURE;
+        }
+    }
+    false
+}
+
+/// Returns, in words, which other format a file is likely to have.
+pub fn other_format(bytes: &[u8]) -> Option<&'static str> {
+    if has_word(bytes, EXTENDED) {
+        return Some(
+            "the file is in the extended format; examples/ectt_to_ctt.py makes an instance of it",
+        );
+    }
+    if is_solution(bytes) {
+        return Some("this is a solution; the instance comes before it");
     }
     None
 }

@@ -106,11 +106,16 @@ fn letters_of_names(rt: HostRuntime) -> Result<(), Fail> {
         let row = format!(in rt.alloc(); "\n{name} t1 2 3 10")?;
         let group = format!(in rt.alloc(); "q 1 {name}")?;
         let bar = format!(in rt.alloc(); "\n{name} 0 0\n")?;
-        let line = format!(in rt.alloc(); "costs 5 at least: course {shown} wants 3 days, the week has 2\n")?;
+        let line = format!(in rt.alloc();
+            "costs 5 at least: course {shown} wants 3 days, the week has 2\n"
+        )?;
         let instance = edited(rt.alloc(), SOLO, "\na t1 2 3 10", row.as_str())?;
         let instance = edited(rt.alloc(), instance.as_str(), "q 1 a", group.as_str())?;
         let instance = edited(rt.alloc(), instance.as_str(), "\na 0 0\n", bar.as_str())?;
-        assert!(rt; has_line(rt.alloc(), instance.as_str(), line.as_str())?, "{line}");
+        assert!(rt;
+            has_line(rt.alloc(), instance.as_str(), line.as_str())?,
+            "{line}"
+        );
     }
     Ok(())
 }
@@ -163,6 +168,68 @@ fn faults_of_counts_and_headers_in_words(rt: HostRuntime) -> Result<(), Fail> {
         let outcome = inspected(rt.alloc(), &instance)?;
         assert_eq!(rt; outcome.answer(), (2, lines, ""));
     }
+    Ok(())
+}
+
+/// The limits that `inspect` gives.
+const LIMITS: &str =
+    "at most 2048 courses, 512 rooms, 8192 curricula of 4096 courses, 64 days, 64 periods a day and 512 a week, 67108864 courses times rooms times periods, 65536 unavailabilities, 4096 lectures, 512 days of a course, 1000000 students or seats";
+
+#[test]
+fn likely_reasons(rt: HostRuntime) -> Result<(), Fail> {
+    for (old, new, reason) in [
+        (
+            "Days: 1",
+            "Days: 0",
+            "a week has at least one day, and a day at least one period",
+        ),
+        (
+            "Periods_per_day: 3",
+            "Periods_per_day: 0",
+            "a week has at least one day, and a day at least one period",
+        ),
+        ("Days: 1", "Days: 65", LIMITS),
+        ("a t1 1 1 10", "a t1 1 513 10", LIMITS),
+        (
+            "Constraints: 0",
+            "UnavailabilityConstraints: 0\nRoomConstraints: 0",
+            "the file is in the extended format; examples/ectt_to_ctt.py makes an instance of it",
+        ),
+        (
+            "CURRICULA:\nq 2 a b\n\nUNAVAILABILITY_CONSTRAINTS:\n",
+            "CURRICULA:\nq 2\na b\n\nUNAVAILABILITY_CONSTRAINTS:\na 1 0\n",
+            "the header says Constraints: 0, and 1 line follows UNAVAILABILITY_CONSTRAINTS:",
+        ),
+    ] {
+        let instance = edited(rt.alloc(), MINI, old, new)?;
+        let outcome = inspected(rt.alloc(), &instance)?;
+        let end = format!(in rt.alloc(); "likely: {reason}\n")?;
+        assert!(rt; outcome.answer().1.ends_with(end.as_str()), "{new}");
+    }
+    Ok(())
+}
+
+#[test]
+fn layouts_that_are_not_blamed(rt: HostRuntime) -> Result<(), Fail> {
+    let instance = edited(rt.alloc(), MINI, "Constraints: 0", "Constraints: 1")?;
+    let instance = edited(rt.alloc(), &instance, "q 2 a b", "q 2\na b")?;
+    let instance = edited(
+        rt.alloc(),
+        &instance,
+        "UNAVAILABILITY_CONSTRAINTS:\n",
+        "UNAVAILABILITY_CONSTRAINTS:\na 1 0\n",
+    )?;
+    let outcome = inspected(rt.alloc(), &instance)?;
+    let end =
+        "likely: days and periods count from 0, so the last is one less than the header says\n";
+    assert!(rt; outcome.answer().1.ends_with(end));
+    let outcome = mini_inspected(rt.alloc(), "a R 0 0 b S 0 1\n")?;
+    let end =
+        "likely: the name is spelled otherwise in the instance, where capital letters count\n";
+    assert!(rt; outcome.answer().1.ends_with(end));
+    let outcome = inspected(rt.alloc(), "a R 0 0\nb R 0 1\n")?;
+    let end = "likely: this is a solution; the instance comes before it\n";
+    assert!(rt; outcome.answer().1.ends_with(end));
     Ok(())
 }
 
