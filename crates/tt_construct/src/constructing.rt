@@ -6,6 +6,7 @@ ghost use Rattle.tt_construct.specs.Constructed.{IsConstructed};
 use crate::filling::fill;
 use crate::instance_data::InstanceData;
 use crate::planning::Plan;
+use crate::repairing::repair;
 use rand_core::SeedableRng;
 use rand_pcg::Pcg32;
 use std::alloc::{AllocError, Global};
@@ -19,19 +20,50 @@ const MOST_ROUNDS: usize = 24;
 /// The maximum number of rounds in a very large instance.
 const LEAST_ROUNDS: usize = 3;
 
-/// The limit on the work of all rounds together: the number of lectures times the periods of the week, for each round.
-const WORK: usize = 6_000_000;
+/// The limit on the work of all rounds together. In a round the next lecture is chosen among all courses, and its place among all rooms and
+/// periods.
+const WORK: usize = 100_000_000;
 
 /// Returns the maximum number of rounds for this instance.
 fn rounds(data: &InstanceData) -> usize {
-    let round = data.lectures.saturating_mul(data.slots as usize);
+    let places = (data.slots as usize).saturating_mul(data.room_count as usize);
+    let choices = places.saturating_add(data.courses.len());
+    let round = data.lectures.saturating_mul(choices);
     match WORK.checked_div(round) {
         None => MOST_ROUNDS,
         Some(rounds) => rounds.clamp(LEAST_ROUNDS, MOST_ROUNDS),
     }
 }
 
-/// Places all lectures again until no hard rule is broken, and returns the best timetable.
+/// Returns the timetable after the repair of a plan, or the best one so far if it breaks no more hard rules.
+fn best_after_repair(
+    alloc: Global,
+    instance: &Instance<'_>,
+    data: &InstanceData,
+    plan: &Plan,
+    seed: u64,
+    best: Timetable,
+) -> Result<Timetable, AllocError>
+    requires rooms { 0 < length instance.now.rooms }
+    requires constructed { IsConstructed instance.now best }
+    ensures { IfOk result (IsConstructed instance.now) }
+{
+    let least = score(instance, &best).hard();
+    if least == 0 {
+        return Ok(best);
+    }
+    let Some(places) = repair(alloc, instance, data, &plan.places, seed)? else {
+        return Ok(best);
+    };
+    let table = fill(alloc, instance, &places)?;
+    if score(instance, &table).hard() < least {
+        Ok(table)
+    } else {
+        Ok(best)
+    }
+}
+
+/// Places all lectures again until no hard rule is broken, and repairs the last plan if no round gets there. Returns the best timetable.
 fn best_of_rounds(
     alloc: Global,
     instance: &Instance<'_>,
@@ -57,7 +89,7 @@ fn best_of_rounds(
             least = hard;
         }
     }
-    Ok(best)
+    best_after_repair(alloc, instance, &data, &plan, seed, best)
 }
 
 /// Returns a timetable with the lectures of each course, from a seed. It breaks few hard rules, mostly none, and

@@ -7,9 +7,12 @@ mod counts;
 mod filling;
 mod instance_data;
 mod order;
+mod periods;
 mod place;
 mod placed;
 mod planning;
 mod ranking;
+mod repairing;
+mod seating;
 
 pub use constructing::construct;

@@ -8,46 +8,94 @@ use tt_plans_tables::put;
 /// The maximum number of curricula of a group's courses.
 const MOST_CURRICULA: usize = 64;
 
+/// The number of choices for a slot: none of the members, which is choice 0, or one of them.
+pub const CHOICES: usize = MOST_MEMBERS + 1;
+
+/// A choice for a slot.
+#[derive(Clone, Copy)]
+pub struct Choice {
+    pub is_open: bool,
+    /// The group's curricula that are taught in the slot, as a set.
+    pub taught: u64,
+    /// What the room of the member costs.
+    pub price: i64,
+    /// One lecture of the member, in a word with a byte for each.
+    pub unit: u32,
+}
+
+impl Choice {
+    const CLOSED: Choice = Choice {
+        is_open: false,
+        taught: 0,
+        price: 0,
+        unit: 0,
+    };
+}
+
 /// A slot without the lectures of the group.
 #[derive(Clone, Copy)]
 pub struct Square {
     /// The group's curricula that other courses teach here, as a set.
-    pub fixed: u64,
-    /// Whether each member may be taught here.
-    pub open: [bool; MOST_MEMBERS],
-    /// What the room of a lecture of each member costs here.
-    pub prices: [i64; MOST_MEMBERS],
-    /// The number of the member that is taught here now; `MOST_MEMBERS` if none is.
+    fixed: u64,
+    choices: [Choice; CHOICES],
+    /// The choice of the present plan.
     pub now: usize,
 }
 
 impl Square {
+    /// A slot in which nothing is taught, and none of the members may be.
     const NONE: Square = Square {
         fixed: 0,
-        open: [false; MOST_MEMBERS],
-        prices: [0; MOST_MEMBERS],
-        now: MOST_MEMBERS,
+        choices: [
+            Choice {
+                is_open: true,
+                ..Choice::CLOSED
+            },
+            Choice::CLOSED,
+            Choice::CLOSED,
+            Choice::CLOSED,
+        ],
+        now: 0,
     };
 
-    /// Checks whether a member may be taught here.
-    pub fn is_open(&self, number: usize) -> bool {
-        self.open.get(number).copied().unwrap_or(false)
+    /// Returns a choice.
+    pub fn choice(&self, number: usize) -> Choice {
+        self.choices.get(number).copied().unwrap_or(Choice::CLOSED)
     }
 
-    /// Sets whether a member may be taught here, and what its room costs.
-    fn set_member(&mut self, number: usize, is_open: bool, price: i64) {
-        if let Some(place) = self.open.get_mut(number) {
-            *place = is_open;
-        }
-        if let Some(place) = self.prices.get_mut(number) {
-            *place = price;
+    /// Returns all choices.
+    pub fn choices(&self) -> &[Choice] {
+        &self.choices
+    }
+
+    /// Sets what is taught without a member.
+    fn set_fixed(&mut self, fixed: u64) {
+        self.fixed = fixed;
+        if let Some(place) = self.choices.get_mut(0) {
+            place.taught = fixed;
         }
     }
 
-    /// Returns what the room of a lecture of a member costs here.
-    pub fn price(&self, number: usize) -> i64 {
-        self.prices.get(number).copied().unwrap_or(0)
+    /// Opens a choice that teaches these curricula too.
+    fn open(&mut self, number: usize, curricula: u64, price: i64, unit: u32) {
+        let taught = self.fixed | curricula;
+        if let Some(place) = self.choices.get_mut(number) {
+            *place = Choice {
+                is_open: true,
+                taught,
+                price,
+                unit,
+            };
+        }
     }
+}
+
+/// Returns the cost of curricula that are isolated.
+pub fn isolation(curricula: u64) -> i64 {
+    if curricula == 0 {
+        return 0;
+    }
+    ISOLATION_COST.wrapping_mul(i64::from(curricula.count_ones()))
 }
 
 /// The week without the lectures of a group, and the curricula of its members.
@@ -55,6 +103,8 @@ impl Square {
 pub struct Board {
     pub periods: usize,
     squares: Vec<Square>,
+    /// The slot before each day.
+    none: Square,
     /// The curricula of the group; the number of each is its bit.
     curricula: Vec<u32>,
     count: usize,
@@ -101,6 +151,7 @@ impl Board {
         Ok(Board {
             periods: sizes.periods,
             squares: vec![in alloc; Square::NONE; sizes.slots]?,
+            none: Square::NONE,
             curricula: vec![in alloc; 0u32; MOST_CURRICULA]?,
             count: 0,
             bits: vec![in alloc; 0u64; sizes.curricula]?,
@@ -108,22 +159,12 @@ impl Board {
         })
     }
 
-    /// Returns a slot.
-    pub fn square(&self, slot: usize) -> Square {
-        self.squares.get(slot).copied().unwrap_or(Square::NONE)
-    }
-
-    /// Returns the number of ways to have members in the periods of a day.
-    pub fn sequences(&self, first: usize) -> usize {
-        let mut sequences: usize = 1;
-        for square in self.squares.iter().skip(first).take(self.periods) {
-            let mut choices: usize = 1;
-            for is_open in square.open {
-                choices = choices.saturating_add(usize::from(is_open));
-            }
-            sequences = sequences.saturating_mul(choices);
+    /// Returns a slot; one without lectures if there is no such slot.
+    pub fn square(&self, slot: usize) -> &Square {
+        match self.squares.get(slot) {
+            Some(square) => square,
+            None => &self.none,
         }
-        sequences
     }
 
     /// Returns the curricula of the group.
@@ -131,8 +172,9 @@ impl Board {
         self.curricula.get(..self.count).unwrap_or(&[])
     }
 
-    /// Returns the curricula of a member, as a set.
-    pub fn set(&self, number: usize) -> u64 {
+    /// Returns the curricula of a choice, as a set.
+    fn set(&self, choice: usize) -> u64 {
+        let number = choice.wrapping_sub(1);
         self.sets.get(number).copied().unwrap_or(0)
     }
 
@@ -183,7 +225,7 @@ impl Board {
         for (number, member) in group.members().iter().enumerate() {
             for lecture in facts.lectures.row(member.course) {
                 if let Some(square) = self.squares.get_mut(plan.slot_of(*lecture)) {
-                    square.now = number;
+                    square.now = number.saturating_add(1);
                 }
             }
         }
@@ -208,28 +250,29 @@ impl Board {
         }
     }
 
-    /// Finds where each member may be taught, and what its room costs there.
+    /// Opens the choices of each slot.
     fn open_squares(&mut self, facts: &Facts, plan: &Plan, group: &Group) {
         for slot in 0..facts.sizes.slots {
-            let mut square = self.square(slot);
-            square.fixed &= !self.set(square.now);
-            let now = group.member(square.now);
-            for (number, member) in group.members().iter().enumerate() {
+            let mut square = self.squares.get(slot).copied().unwrap_or(Square::NONE);
+            let fixed = square.fixed & !self.set(square.now);
+            square.set_fixed(fixed);
+            let now = group.member(square.now.wrapping_sub(1));
+            let home_now = plan.home_of(now.course);
+            let mut choice: usize = 1;
+            for member in group.members() {
                 let course = member.course;
-                let home = plan.home_of(course);
-                let is_own = i32::from(
-                    square.now < MOST_MEMBERS && plan.home_of(now.course) == home,
-                );
-                let is_open = number == square.now
+                let is_open = choice == square.now
                     || (!facts.is_barred(course, slot)
                         && !has_rival(facts, plan, course, slot, now)
                         && has_level(facts, plan, course, slot, now));
-                let price = if plan.at_home.get(slot, home) > is_own {
-                    CLASH_COST
-                } else {
-                    0
-                };
-                square.set_member(number, is_open, price);
+                if is_open {
+                    let home = plan.home_of(course);
+                    let own = i32::from(square.now > 0 && home_now == home);
+                    let is_taken = plan.at_home.get(slot, home) > own;
+                    let price = if is_taken { CLASH_COST } else { 0 };
+                    square.open(choice, self.set(choice), price, member.unit());
+                }
+                choice = choice.saturating_add(1);
             }
             put(&mut self.squares, slot, square);
         }
@@ -247,12 +290,18 @@ impl Board {
         true
     }
 
+    /// Returns the slots from a slot on, at most a day.
+    fn day(&self, first: usize) -> &[Square] {
+        let end = first.saturating_add(self.periods);
+        self.squares.get(first..end).unwrap_or(&[])
+    }
+
     /// Returns the number of periods of a day in which each member may be taught, in a word with a byte for each member.
     pub fn places_on(&self, group: &Group, first: usize) -> u32 {
         let mut places: u32 = 0;
-        for square in self.squares.iter().skip(first).take(self.periods) {
-            for (number, member) in group.members().iter().enumerate() {
-                if square.is_open(number) {
+        for square in self.day(first) {
+            for (member, choice) in group.members().iter().zip(square.choices().iter().skip(1)) {
+                if choice.is_open {
                     places = places.wrapping_add(member.unit());
                 }
             }
@@ -264,17 +313,15 @@ impl Board {
     fn present_cost_on(&self, first: usize) -> i64 {
         let (mut last, mut before): (u64, u64) = (0, 0);
         let mut cost: i64 = 0;
-        for square in self.squares.iter().skip(first).take(self.periods) {
-            let here = square.fixed | self.set(square.now);
-            let alone = (last & !before & !here).count_ones();
+        for square in self.day(first) {
+            let choice = square.choice(square.now);
             cost = cost
-                .wrapping_add(ISOLATION_COST.wrapping_mul(i64::from(alone)))
-                .wrapping_add(square.price(square.now));
+                .wrapping_add(isolation(last & !before & !choice.taught))
+                .wrapping_add(choice.price);
             before = last;
-            last = here;
+            last = choice.taught;
         }
-        let alone = (last & !before).count_ones();
-        cost.wrapping_add(ISOLATION_COST.wrapping_mul(i64::from(alone)))
+        cost.wrapping_add(isolation(last & !before))
     }
 
     /// Returns the cost of the present plan of the group.

@@ -1,9 +1,10 @@
 //! What the members of a group can have on each day, and the odds of it.
 
-use crate::board::Board;
+use crate::board::{Board, Choice, isolation};
+use crate::ends::Ends;
 use crate::group::Group;
 use std::alloc::{AllocError, Global};
-use tt_plans::{Facts, ISOLATION_COST};
+use tt_plans::Facts;
 use tt_plans_odds::{Dice, Heat};
 use tt_plans_tables::put;
 
@@ -22,7 +23,7 @@ pub const MOST_PERIODS: usize = 15;
 /// The members in the periods of a day.
 #[derive(Clone, Copy)]
 struct Pattern {
-    /// The number of the member in each period, plus 1, in two bits each, the last period lowest; 0 of a period without any.
+    /// The choice for each period, in two bits each, the last period lowest.
     spelled: u64,
     /// The lectures of each member, a byte each.
     counts: u32,
@@ -34,6 +35,8 @@ struct Pattern {
 pub struct Vector {
     pub spelled: u64,
     pub counts: u32,
+    /// What its lectures add to the number of a state.
+    pub stride: u32,
     pub wait: i64,
 }
 
@@ -41,9 +44,16 @@ pub struct Vector {
 #[derive(Clone, Copy)]
 struct Front {
     pattern: Pattern,
-    /// The curricula of the last period, and of the one before.
+    /// The choice for the last period.
+    choice: usize,
+    /// The curricula of the last period, and those of them that weren't taught in the one before.
     last: u64,
-    before: u64,
+    begun: u64,
+}
+
+/// Returns a number below `KEYS` for counts.
+fn key_of(counts: u32) -> usize {
+    ((counts & 15) | ((counts >> 4) & 240) | ((counts >> 8) & 3_840)) as usize
 }
 
 impl Pattern {
@@ -52,18 +62,13 @@ impl Pattern {
         counts: 0,
         cost: 0,
     };
-
-    /// Returns a number below `KEYS` for its counts.
-    fn key(self) -> usize {
-        let counts = self.counts;
-        ((counts & 15) | ((counts >> 4) & 240) | ((counts >> 8) & 3_840)) as usize
-    }
 }
 
 impl Vector {
     const NONE: Vector = Vector {
         spelled: 0,
         counts: 0,
+        stride: 0,
         wait: 0,
     };
 }
@@ -71,34 +76,28 @@ impl Vector {
 impl Front {
     const FIRST: Front = Front {
         pattern: Pattern::NONE,
+        choice: 0,
         last: 0,
-        before: 0,
+        begun: 0,
     };
 
-    /// Returns the front with these curricula in the next period, and no member in it.
-    fn with(self, curricula: u64) -> Front {
-        let alone = (self.last & !self.before & !curricula).count_ones();
-        let cost = ISOLATION_COST.wrapping_mul(i64::from(alone));
-        Front {
-            pattern: Pattern {
-                spelled: self.pattern.spelled.wrapping_shl(2),
-                cost: self.pattern.cost.wrapping_add(cost),
-                ..self.pattern
-            },
-            last: curricula,
-            before: self.last,
-        }
+    /// Returns the cost once the next period has these curricula.
+    fn cost_with(&self, taught: u64) -> i64 {
+        let more = isolation(self.begun & !taught);
+        self.pattern.cost.wrapping_add(more)
     }
 
-    /// Returns the front with a member in its last period.
-    fn with_member(self, number: usize, unit: u32, price: i64) -> Front {
+    /// Returns the front with a choice for the next period, and its cost then.
+    fn with(&self, number: usize, choice: &Choice, cost: i64) -> Front {
         Front {
             pattern: Pattern {
-                spelled: self.pattern.spelled | (number as u64).wrapping_add(1),
-                counts: self.pattern.counts.wrapping_add(unit),
-                cost: self.pattern.cost.wrapping_add(price),
+                spelled: self.pattern.spelled.wrapping_shl(2) | number as u64,
+                counts: self.pattern.counts.wrapping_add(choice.unit),
+                cost,
             },
-            ..self
+            choice: number,
+            last: choice.taught,
+            begun: choice.taught & !self.last,
         }
     }
 }
@@ -113,10 +112,11 @@ pub struct Days {
     vectors: Vec<Vector>,
     /// The index at which the vectors of each day begin, and the index at which those of the last day end.
     begins: Vec<usize>,
-    /// The index of the vector of each key of counts on the present day, plus 1; 0 if it has none.
+    /// The index of the vector of each key of counts on the last day that was listed, plus 1; 0 if it has none.
     places: Vec<usize>,
-    /// The cost of the cheapest pattern of each day.
-    least: Vec<i64>,
+    /// The index of that day's first vector, and the index at which its vectors end.
+    placed: usize,
+    end: usize,
 }
 
 impl Days {
@@ -130,7 +130,8 @@ impl Days {
             vectors: vec![in alloc; Vector::NONE; MOST_VECTORS]?,
             begins: vec![in alloc; 0usize; days.saturating_add(1)]?,
             places: vec![in alloc; 0usize; KEYS]?,
-            least: vec![in alloc; 0i64; days]?,
+            placed: 0,
+            end: 0,
         })
     }
 
@@ -150,49 +151,58 @@ impl Days {
         self.vectors.get(index).copied().unwrap_or(Vector::NONE)
     }
 
-    /// Returns the cost of the cheapest pattern of a day.
-    pub fn least(&self, day: usize) -> i64 {
-        self.least.get(day).copied().unwrap_or(0)
+    /// Returns the least wait of a day's vectors.
+    pub fn least_wait(&self, day: usize) -> i64 {
+        let (_, vectors) = self.vectors(day);
+        let mut least = i64::MAX;
+        for vector in vectors {
+            least = least.min(vector.wait);
+        }
+        least
     }
 
-    /// Stores the pattern of a whole day, if it is cheap enough.
-    fn keep(&mut self, front: Front) {
-        let pattern = front.with(0).pattern;
-        if pattern.cost <= self.limit {
-            let pattern = Pattern {
-                spelled: front.pattern.spelled,
-                ..pattern
-            };
-            put(&mut self.patterns, self.found, pattern);
-            self.found = self.found.saturating_add(1);
-        }
+    /// Returns the index of the vector with these counts on the last day, if there is one.
+    pub fn last_vector(&self, counts: u32) -> Option<usize> {
+        let place = self.places.get(key_of(counts)).copied().unwrap_or(0);
+        place.checked_sub(1)
     }
 
-    /// Tries all ways to continue a day.
-    fn spell(&mut self, board: &Board, group: &Group, slot: usize, left: usize, front: Front) {
-        if front.pattern.cost > self.limit {
-            return;
-        }
+    /// Stores the pattern of a whole day.
+    fn keep(&mut self, front: &Front) {
+        let pattern = Pattern {
+            cost: front.cost_with(0),
+            ..front.pattern
+        };
+        put(&mut self.patterns, self.found, pattern);
+        self.found = self.found.saturating_add(1);
+    }
+
+    /// Tries all ways to continue a day that can end cheaply enough.
+    fn spell(&mut self, search: &Search<'_>, period: usize, left: usize, front: Front) {
         if left == 0 {
-            self.keep(front);
+            self.keep(&front);
             return;
         }
-        let square = board.square(slot);
-        let next = slot.wrapping_add(1);
-        self.spell(board, group, next, left - 1, front.with(square.fixed));
-        for number in 0..group.members().len() {
-            if square.is_open(number) {
-                let front = front
-                    .with(square.fixed | board.set(number))
-                    .with_member(number, group.member(number).unit(), square.price(number));
-                self.spell(board, group, next, left - 1, front);
+        let square = search.board.square(search.first.wrapping_add(period));
+        let next = period.wrapping_add(1);
+        let ends = search.ends.row(search.day, next, front.choice);
+        for ((number, choice), end) in square.choices().iter().enumerate().zip(ends) {
+            if !choice.is_open {
+                continue;
+            }
+            let cost = front.cost_with(choice.taught).wrapping_add(choice.price);
+            if cost.wrapping_add(*end) <= self.limit {
+                let further = front.with(number, choice, cost);
+                self.spell(search, next, left - 1, further);
             }
         }
     }
 
-    /// Adds the missing days of members of which each crowded lecture costs one, and returns the cost of the cheapest pattern.
-    fn add_crowding(&mut self, group: &Group, day_cost: i64) -> Option<i64> {
-        let mut least = None;
+    /// Adds the missing days of members of which each crowded lecture costs one.
+    fn add_crowding(&mut self, group: &Group, day_cost: i64) {
+        if !group.has_tight_member() {
+            return;
+        }
         for pattern in self.patterns.iter_mut().take(self.found) {
             for member in group.members() {
                 if member.slack == 0 {
@@ -201,19 +211,25 @@ impl Days {
                     pattern.cost = pattern.cost.wrapping_add(cost);
                 }
             }
-            least = Some(pattern.cost.min(least.unwrap_or(pattern.cost)));
         }
-        least
     }
 
-    /// Adds a pattern to the vector of its counts. Returns whether there was a place for it.
-    fn add(&mut self, pattern: Pattern, dice: &mut Dice, heat: Heat, end: usize) -> usize {
+    /// Adds a pattern to the vector of its counts. Returns the index at which the vectors then end.
+    fn add(
+        &mut self,
+        group: &Group,
+        pattern: Pattern,
+        dice: &mut Dice,
+        heat: Heat,
+        end: usize,
+    ) -> usize {
         let wait = heat.wait(pattern.cost);
-        let key = pattern.key();
+        let key = key_of(pattern.counts);
         let Some(index) = self.places.get(key).copied().unwrap_or(0).checked_sub(1) else {
             let vector = Vector {
                 spelled: pattern.spelled,
                 counts: pattern.counts,
+                stride: group.stride_of(pattern.counts),
                 wait,
             };
             put(&mut self.vectors, end, vector);
@@ -223,52 +239,64 @@ impl Days {
         };
         if let Some(vector) = self.vectors.get_mut(index) {
             vector.wait = dice.sum(vector.wait, wait);
-            if wait.saturating_sub(vector.wait) <= dice.wait() {
+            if wait.wrapping_sub(vector.wait) <= dice.wait() {
                 vector.spelled = pattern.spelled;
             }
         }
         end
     }
 
+    /// Forgets the places of the last day's vectors.
+    fn clear_places(&mut self) {
+        for vector in self.vectors.get(self.placed..self.end).unwrap_or(&[]) {
+            put(&mut self.places, key_of(vector.counts), 0);
+        }
+    }
+
     /// Makes the vectors of a day from its patterns.
-    fn gather(&mut self, dice: &mut Dice, heat: Heat, day: usize) {
+    fn gather(&mut self, group: &Group, dice: &mut Dice, heat: Heat, day: usize) {
+        self.clear_places();
         let begin = self.begin(day);
         let mut end = begin;
         for number in 0..self.found {
             let pattern = self.patterns.get(number).copied().unwrap_or(Pattern::NONE);
             if pattern.cost <= self.limit {
-                end = self.add(pattern, dice, heat, end);
+                end = self.add(group, pattern, dice, heat, end);
             }
         }
-        put(&mut self.begins, day.saturating_add(1), end);
-        for number in 0..self.found {
-            let pattern = self.patterns.get(number).copied().unwrap_or(Pattern::NONE);
-            put(&mut self.places, pattern.key(), 0);
-        }
+        self.placed = begin;
+        self.end = end.min(MOST_VECTORS);
+        put(&mut self.begins, day.saturating_add(1), self.end);
     }
 
     /// Finds what a day can have at a limited cost. Returns whether it can have anything, and not too much.
-    pub fn find(&mut self, board: &Board, group: &Group, dice: &mut Dice, terms: Terms) -> bool {
-        let first = terms.day.wrapping_mul(board.periods);
+    pub fn find(&mut self, search: &Search<'_>, dice: &mut Dice, terms: Terms) -> bool {
         self.found = 0;
         self.limit = terms.limit;
-        if board.sequences(first) > MOST_PATTERNS {
+        self.spell(search, 0, search.board.periods, Front::FIRST);
+        if self.found > MOST_PATTERNS {
             return false;
         }
-        self.spell(board, group, first, board.periods, Front::FIRST);
-        let Some(least) = self.add_crowding(group, terms.day_cost) else {
-            return false;
-        };
-        put(&mut self.least, terms.day, least);
-        self.gather(dice, terms.heat, terms.day);
-        self.begin(terms.day.saturating_add(1)) < MOST_VECTORS
+        self.add_crowding(search.group, terms.day_cost);
+        self.gather(search.group, dice, terms.heat, search.day);
+        self.end > self.placed && self.end < MOST_VECTORS
     }
+}
+
+/// A day whose patterns are searched.
+#[derive(Clone, Copy)]
+pub struct Search<'b> {
+    pub board: &'b Board,
+    pub ends: &'b Ends,
+    pub group: &'b Group,
+    pub day: usize,
+    /// Its first slot.
+    pub first: usize,
 }
 
 /// The terms on which a day is listed.
 #[derive(Clone, Copy)]
 pub struct Terms {
-    pub day: usize,
     pub heat: Heat,
     pub day_cost: i64,
     /// The maximum cost.

@@ -69,6 +69,16 @@ impl Group {
         self.members.get(..self.len).unwrap_or(&[])
     }
 
+    /// Checks whether there is a member of which each crowded lecture costs a missing day.
+    pub fn has_tight_member(&self) -> bool {
+        for member in self.members() {
+            if member.slack == 0 {
+                return true;
+            }
+        }
+        false
+    }
+
     /// Returns the member with a number.
     pub fn member(&self, number: usize) -> Member {
         self.members.get(number).copied().unwrap_or(Member::NONE)
@@ -138,6 +148,15 @@ impl Group {
             stride = stride.saturating_mul(member.slack.saturating_add(1));
         }
         self.len > 0 && stride as usize <= MOST_STATES
+    }
+
+    /// Returns what counts of lectures add to a state, without the crowded ones.
+    pub fn stride_of(&self, counts: u32) -> u32 {
+        let mut stride: u32 = 0;
+        for member in self.members() {
+            stride = stride.wrapping_add(member.count_in(counts).wrapping_mul(member.stride));
+        }
+        stride
     }
 
     /// Returns the lectures of all members, a byte each.

@@ -4,6 +4,7 @@
 
 mod board;
 mod days;
+mod ends;
 mod group;
 mod redrawer;
 mod weeks;

@@ -1,26 +1,25 @@
 //! Redraws of a plan.
 
 use crate::board::Board;
-use crate::days::{Days, MOST_PERIODS, Terms};
-use crate::group::{Group, MOST_MEMBERS};
-use crate::weeks::{Limits, Weeks};
+use crate::days::{Days, MOST_PERIODS, Search, Terms};
+use crate::ends::Ends;
+use crate::group::Group;
+use crate::weeks::{LONGEST_WAIT, Limits, Weeks};
 use std::alloc::{AllocError, Global};
 use tt_instance::Instance;
 use tt_plans::{CLASH_COST, Facts, ISOLATION_COST, Plan, isolated_on};
-use tt_plans_odds::{Dice, Heat, NAT};
+use tt_plans_odds::{Dice, Heat};
 use tt_plans_tables::put;
-
-/// The wait beyond the present plan's after which a plan isn't drawn.
-const CUT: i64 = 12 * NAT as i64;
 
 /// Draws the lectures of a few courses anew.
 #[derive(Drop)]
 pub struct Redrawer {
     group: Group,
     board: Board,
+    ends: Ends,
     days: Days,
     weeks: Weeks,
-    /// The member that is drawn for each slot, as in `Square::now`.
+    /// The choice that is drawn for each slot.
     drawn: Vec<usize>,
 }
 
@@ -39,10 +38,21 @@ impl Redrawer {
         Ok(Redrawer {
             group: Group::EMPTY,
             board: Board::new(alloc, facts)?,
+            ends: Ends::new(alloc, facts)?,
             days: Days::new(alloc, facts)?,
             weeks: Weeks::new(alloc, facts)?,
-            drawn: vec![in alloc; MOST_MEMBERS; facts.sizes.slots]?,
+            drawn: vec![in alloc; 0usize; facts.sizes.slots]?,
         })
+    }
+
+    /// Finds what each day costs at least, and returns the sum.
+    fn find_ends(&mut self, facts: &Facts) -> i64 {
+        let mut least: i64 = 0;
+        for day in 0..facts.sizes.days {
+            self.ends.find(&self.board, day);
+            least = least.wrapping_add(self.ends.least(day));
+        }
+        least
     }
 
     /// Lists what each day can have. Returns whether each can have anything, and none too much.
@@ -54,58 +64,65 @@ impl Redrawer {
         day_cost: i64,
         most: i64,
     ) -> bool {
-        let mut least: i64 = 0;
+        let least = self.find_ends(facts);
         for day in 0..facts.sizes.days {
+            let others = least.wrapping_sub(self.ends.least(day));
             let terms = Terms {
-                day,
                 heat,
                 day_cost,
-                limit: most.wrapping_sub(least),
+                limit: most.wrapping_sub(others),
             };
-            if !self.days.find(&self.board, &self.group, dice, terms) {
+            let search = Search {
+                board: &self.board,
+                ends: &self.ends,
+                group: &self.group,
+                day,
+                first: day.wrapping_mul(facts.sizes.periods),
+            };
+            if !self.days.find(&search, dice, terms) {
                 return false;
             }
-            least = least.wrapping_add(self.days.least(day));
         }
         true
     }
 
     /// Finds what the days from each day on can have.
-    fn find_rest(&mut self, facts: &Facts, heat: Heat) {
+    fn find_rest(&mut self, facts: &Facts) {
         let (mut places, mut least): (u32, i64) = (0, 0);
         self.weeks.set_rest(facts.sizes.days, 0, 0);
         for day in (0..facts.sizes.days).rev() {
             let first = day.wrapping_mul(facts.sizes.periods);
             places = places.wrapping_add(self.board.places_on(&self.group, first));
-            least = least.wrapping_add(heat.wait(self.days.least(day)));
+            least = least.wrapping_add(self.days.least_wait(day));
             self.weeks.set_rest(day, places, least);
         }
     }
 
-    /// Writes the members of a day to its slots.
+    /// Writes the choices of a day to its slots.
     fn write_day(&mut self, facts: &Facts, day: usize, spelled: u64) {
         let periods = facts.sizes.periods;
         let first = day.wrapping_mul(periods);
         let mut rest = spelled;
         for period in (0..periods).rev() {
-            let number = (rest & 3) as usize;
+            let choice = (rest & 3) as usize;
             rest >>= 2;
-            let member = number.checked_sub(1).unwrap_or(MOST_MEMBERS);
-            put(&mut self.drawn, first.wrapping_add(period), member);
+            put(&mut self.drawn, first.wrapping_add(period), choice);
         }
     }
 
     /// Draws a week by its odds. Returns whether there is one.
     fn draw(&mut self, facts: &Facts, plan: &Plan, dice: &mut Dice, heat: Heat) -> bool {
         let present = self.board.present_cost(facts, plan, &self.group);
-        let most = present.wrapping_add(heat.cost(CUT)).wrapping_add(1);
+        let most = present
+            .wrapping_add(heat.cost(LONGEST_WAIT))
+            .wrapping_add(1);
         if !self.find_days(facts, dice, heat, plan.day_cost, most) {
             return false;
         }
-        self.find_rest(facts, heat);
+        self.find_rest(facts);
         let limits = Limits {
             day_wait: heat.wait(plan.day_cost),
-            most: heat.wait(present).saturating_add(CUT),
+            most: heat.wait(present).saturating_add(LONGEST_WAIT),
         };
         let days = facts.sizes.days;
         self.weeks.find(&self.group, &self.days, dice, days, limits);
@@ -114,7 +131,7 @@ impl Redrawer {
         };
         let mut state = last;
         for day in (0..days).rev() {
-            let (vector, before) = self.weeks.trace(&self.days, day, state);
+            let (vector, before) = self.weeks.trace(&self.days, state);
             self.write_day(facts, day, vector.spelled);
             state = before;
         }
@@ -123,8 +140,8 @@ impl Redrawer {
 
     /// Checks whether the week that was drawn is the present one.
     fn is_present(&self) -> bool {
-        for (slot, member) in self.drawn.iter().enumerate() {
-            if self.board.square(slot).now != *member {
+        for (slot, choice) in self.drawn.iter().enumerate() {
+            if self.board.square(slot).now != *choice {
                 return false;
             }
         }
@@ -150,8 +167,8 @@ impl Redrawer {
         let course = self.group.member(number).course;
         let mut lectures = facts.lectures.row(course).iter();
         let mut clashes: i64 = 0;
-        for (slot, member) in self.drawn.iter().enumerate() {
-            if *member == number
+        for (slot, choice) in self.drawn.iter().enumerate() {
+            if choice.checked_sub(1) == Some(number)
                 && let Some(lecture) = lectures.next()
             {
                 clashes = clashes.wrapping_add(plan.set_down(facts, *lecture, slot));

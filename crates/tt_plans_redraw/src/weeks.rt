@@ -4,8 +4,11 @@ use crate::days::{Days, Vector};
 use crate::group::{Group, MOST_STATES};
 use std::alloc::{AllocError, Global};
 use tt_plans::Facts;
-use tt_plans_odds::Dice;
+use tt_plans_odds::{Dice, NAT};
 use tt_plans_tables::put;
+
+/// The wait after which nothing is drawn; the odds of more are less than those of any random wait.
+pub const LONGEST_WAIT: i64 = 9 * NAT as i64 + NAT as i64 / 16;
 
 /// The bits above each byte's seven, which a subtraction in a byte borrows from.
 const GUARDS: u32 = 0x8080_8080;
@@ -13,26 +16,25 @@ const GUARDS: u32 = 0x8080_8080;
 /// The bits of bytes that are more than 1.
 const CROWDED: u32 = 0x7e7e_7e7e;
 
-/// The wait of a state that isn't reached.
-const NEVER: i64 = i64::MAX;
-
 /// A state after some days: all ways that lead to it, and one of them, drawn by the odds.
 #[derive(Clone, Copy)]
 struct State {
     wait: i64,
+    number: u32,
     /// The lectures that are left, a byte each.
     left: u32,
     /// The crowded lectures that cost nothing, a byte each.
     crowded: u32,
-    /// The state of the day before.
+    /// The index of the state of the day before.
     from: u32,
     /// The index of the day's vector.
-    by: usize,
+    by: u32,
 }
 
 impl State {
     const NONE: State = State {
-        wait: NEVER,
+        wait: 0,
+        number: 0,
         left: 0,
         crowded: 0,
         from: 0,
@@ -49,19 +51,29 @@ pub struct Limits {
     pub most: i64,
 }
 
+impl Limits {
+    const NONE: Limits = Limits {
+        day_wait: 0,
+        most: 0,
+    };
+}
+
 /// The states after each day.
 #[derive(Drop)]
 pub struct Weeks {
+    /// The states after each number of days, one number behind the other.
     states: Vec<State>,
-    /// The states that are reached after each day.
-    reached: Vec<u32>,
-    counts: Vec<usize>,
-    /// The number of periods from each day on in which each member may be taught, in a word with a byte for each member.
+    /// The index at which the states after each number of days begin.
+    begins: Vec<usize>,
+    /// The index at which all states end.
+    end: usize,
+    /// The index of the state with each number after the last day, plus 1; 0 if it isn't reached.
     places: Vec<u32>,
+    /// The number of periods from each day on in which each member may be taught, in a word with a byte for each member.
+    open: Vec<u32>,
     /// The least wait of all days from each day on.
     least: Vec<i64>,
-    /// The wait of a missing day.
-    day_wait: i64,
+    limits: Limits,
 }
 
 /// Returns the bytes that are left, or `None` if there are fewer than the lectures.
@@ -74,142 +86,168 @@ fn left_after(left: u32, counts: u32) -> Option<u32> {
     }
 }
 
-/// Returns the index of a state after this many days.
-fn index_of(days: usize, number: u32) -> usize {
-    days.wrapping_mul(MOST_STATES).wrapping_add(number as usize)
+/// Returns the state that a vector leads to from another.
+fn state_after(group: &Group, here: State, vector: Vector, day_wait: i64) -> State {
+    let state = State {
+        wait: here.wait.wrapping_add(vector.wait),
+        number: here.number.wrapping_add(vector.stride),
+        ..here
+    };
+    if vector.counts & CROWDED == 0 {
+        return state;
+    }
+    crowd(group, state, vector.counts, day_wait)
 }
 
-/// Returns the number of the state that a vector leads to, and the state.
-fn state_after(
-    group: &Group,
-    here: State,
-    number: u32,
-    vector: Vector,
-    day_wait: i64,
-) -> (u32, State) {
-    let (mut to, mut state) = (number, here);
-    state.wait = here.wait.saturating_add(vector.wait);
-    let is_crowded = vector.counts & CROWDED != 0;
+/// Returns a state with the crowded lectures among these, and the missing days that they cost.
+fn crowd(group: &Group, mut state: State, counts: u32, day_wait: i64) -> State {
     for member in group.members() {
-        let count = member.count_in(vector.counts);
-        to = to.wrapping_add(count.wrapping_mul(member.stride));
-        if is_crowded && count > 1 && member.slack > 0 {
-            let before = member.count_in(here.crowded);
+        let count = member.count_in(counts);
+        if count > 1 && member.slack > 0 {
+            let before = member.count_in(state.crowded);
             let all = before.wrapping_add(count).wrapping_sub(1);
             let free = all.min(member.slack).saturating_sub(before);
-            to = to.wrapping_add(free.wrapping_mul(member.crowd_stride));
+            state.number = state
+                .number
+                .wrapping_add(free.wrapping_mul(member.crowd_stride));
             state.crowded = state.crowded.wrapping_add(free.wrapping_mul(member.unit()));
             let paid = i64::from(all.saturating_sub(member.slack));
-            state.wait = state.wait.saturating_add(paid.wrapping_mul(day_wait));
+            state.wait = state.wait.wrapping_add(paid.wrapping_mul(day_wait));
         }
     }
-    (to, state)
+    state
+}
+
+/// Returns an index as a number.
+fn number_of(index: usize) -> u32 {
+    u32::try_from(index).unwrap_or(u32::MAX)
 }
 
 impl Weeks {
     /// Makes room for the weeks of an instance. Fails if memory runs out.
     pub fn new(alloc: Global, facts: &Facts) -> Result<Weeks, AllocError> {
         let ends = facts.sizes.days.saturating_add(1);
-        let states = ends.saturating_mul(MOST_STATES);
         Ok(Weeks {
-            states: vec![in alloc; State::NONE; states]?,
-            reached: vec![in alloc; 0u32; states]?,
-            counts: vec![in alloc; 0usize; ends]?,
-            places: vec![in alloc; 0u32; ends]?,
+            states: vec![in alloc; State::NONE; ends.saturating_mul(MOST_STATES)]?,
+            begins: vec![in alloc; 0usize; ends.saturating_add(1)]?,
+            end: 0,
+            places: vec![in alloc; 0u32; MOST_STATES]?,
+            open: vec![in alloc; 0u32; ends]?,
             least: vec![in alloc; 0i64; ends]?,
-            day_wait: 0,
+            limits: Limits::NONE,
         })
     }
 
-    fn state(&self, days: usize, number: u32) -> State {
-        self.states
-            .get(index_of(days, number))
+    /// Returns the indices of the states after this many days.
+    fn range(&self, days: usize) -> (usize, usize) {
+        let begin = self.begins.get(days).copied().unwrap_or(0);
+        let end = self
+            .begins
+            .get(days.saturating_add(1))
             .copied()
-            .unwrap_or(State::NONE)
+            .unwrap_or(0);
+        (begin, end)
     }
 
-    fn count(&self, days: usize) -> usize {
-        self.counts.get(days).copied().unwrap_or(0)
+    fn state(&self, index: usize) -> State {
+        self.states.get(index).copied().unwrap_or(State::NONE)
     }
 
-    /// Returns the state that was reached after this many days as this one in order.
-    fn reached(&self, days: usize, place: usize) -> u32 {
-        let index = days.wrapping_mul(MOST_STATES).wrapping_add(place);
-        self.reached.get(index).copied().unwrap_or(0)
-    }
-
-    /// Adds a way to a state.
-    fn reach(&mut self, dice: &mut Dice, days: usize, number: u32, state: State) {
-        if number as usize >= MOST_STATES {
-            return;
-        }
-        let count = self.count(days);
-        let Some(place) = self.states.get_mut(index_of(days, number)) else {
+    /// Adds a way to a state after the last day.
+    fn reach(&mut self, dice: &mut Dice, state: State) {
+        let Some(place) = self.places.get_mut(state.number as usize) else {
             return;
         };
-        if place.wait == NEVER {
-            *place = state;
-            let index = days.wrapping_mul(MOST_STATES).wrapping_add(count);
-            put(&mut self.reached, index, number);
-            put(&mut self.counts, days, count.saturating_add(1));
+        let Some(index) = place.checked_sub(1) else {
+            put(&mut self.states, self.end, state);
+            self.end = self.end.saturating_add(1);
+            *place = number_of(self.end);
             return;
+        };
+        if let Some(other) = self.states.get_mut(index as usize)
+            && state.wait.wrapping_sub(other.wait) < LONGEST_WAIT
+        {
+            let wait = dice.sum(other.wait, state.wait);
+            if state.wait.wrapping_sub(wait) <= dice.wait() {
+                *other = state;
+            }
+            other.wait = wait;
         }
-        let wait = dice.sum(place.wait, state.wait);
-        if state.wait.saturating_sub(wait) <= dice.wait() {
-            *place = state;
-        }
-        place.wait = wait;
     }
 
-    /// Removes the states of all days.
-    fn clear(&mut self, days: usize) {
-        for day in 0..days.saturating_add(1) {
-            for place in 0..self.count(day) {
-                let number = self.reached(day, place);
-                put(&mut self.states, index_of(day, number), State::NONE);
-            }
-            put(&mut self.counts, day, 0);
+    /// Ends the states after this many days.
+    fn end_day(&mut self, days: usize) {
+        let begin = self.begins.get(days).copied().unwrap_or(0);
+        for state in self.states.get(begin..self.end).unwrap_or(&[]) {
+            put(&mut self.places, state.number as usize, 0);
         }
+        put(&mut self.begins, days.saturating_add(1), self.end);
     }
 
     /// Sets the number of periods from a day on in which each member may be taught, and the least wait of those days.
-    pub fn set_rest(&mut self, day: usize, places: u32, least: i64) {
-        put(&mut self.places, day, places);
+    pub fn set_rest(&mut self, day: usize, open: u32, least: i64) {
+        put(&mut self.open, day, open);
         put(&mut self.least, day, least);
     }
 
-    /// Returns the number of periods from a day on in which each member may be taught.
-    pub fn places(&self, day: usize) -> u32 {
-        self.places.get(day).copied().unwrap_or(0)
-    }
-
-    /// Returns the least wait from a day on.
-    pub fn least(&self, day: usize) -> i64 {
-        self.least.get(day).copied().unwrap_or(0)
-    }
-
-    /// Goes on from a state by each vector of a day.
-    fn extend(&mut self, group: &Group, days: &Days, dice: &mut Dice, day: usize, number: u32) {
-        let here = self.state(day, number);
+    /// Goes on from a state by each vector of a day, if the week can end in time.
+    fn extend(&mut self, group: &Group, days: &Days, dice: &mut Dice, day: usize, index: usize) {
+        let here = self.state(index);
         let next = day.saturating_add(1);
-        let places = self.places(next);
-        let (first, vectors) = days.vectors(day);
-        for (offset, vector) in vectors.iter().enumerate() {
-            let Some(left) = left_after(here.left, vector.counts) else {
-                continue;
-            };
-            if left_after(places, left).is_none() {
-                continue;
+        let open = self.open.get(next).copied().unwrap_or(0);
+        let least = self.least.get(next).copied().unwrap_or(0);
+        let most = self.limits.most.wrapping_sub(least).wrapping_sub(here.wait);
+        let (mut by, vectors) = days.vectors(day);
+        for vector in vectors {
+            if vector.wait <= most
+                && let Some(left) = left_after(here.left, vector.counts)
+                && left_after(open, left).is_some()
+            {
+                let state = state_after(group, here, *vector, self.limits.day_wait);
+                let (from, by) = (number_of(index), number_of(by));
+                self.reach(
+                    dice,
+                    State {
+                        left,
+                        from,
+                        by,
+                        ..state
+                    },
+                );
             }
-            let (to, state) = state_after(group, here, number, *vector, self.day_wait);
-            let state = State {
-                left,
-                from: number,
-                by: first.wrapping_add(offset),
-                ..state
-            };
-            self.reach(dice, next, to, state);
+            by = by.wrapping_add(1);
         }
+    }
+
+    /// Goes on from a state before the last day by the vector of all lectures that are left, if there is one.
+    fn finish(&mut self, group: &Group, days: &Days, dice: &mut Dice, index: usize) {
+        let here = self.state(index);
+        let Some(by) = days.last_vector(here.left) else {
+            return;
+        };
+        let state = state_after(group, here, days.vector(by), self.limits.day_wait);
+        let (from, by) = (number_of(index), number_of(by));
+        self.reach(
+            dice,
+            State {
+                left: 0,
+                from,
+                by,
+                ..state
+            },
+        );
+    }
+
+    /// Begins with the state before the first day.
+    fn begin(&mut self, group: &Group, dice: &mut Dice, limits: Limits) {
+        self.limits = limits;
+        self.end = 0;
+        let start = State {
+            left: group.all(),
+            ..State::NONE
+        };
+        self.reach(dice, start);
+        self.end_day(0);
     }
 
     /// Finds the odds of all states. The vectors of all days have been found.
@@ -221,48 +259,42 @@ impl Weeks {
         count: usize,
         limits: Limits,
     ) {
-        self.clear(count);
-        self.day_wait = limits.day_wait;
-        let start = State {
-            wait: 0,
-            left: group.all(),
-            ..State::NONE
-        };
-        self.reach(dice, 0, 0, start);
-        for day in 0..count {
-            let most = limits.most.saturating_sub(self.least(day));
-            for place in 0..self.count(day) {
-                let number = self.reached(day, place);
-                if self.state(day, number).wait <= most {
-                    self.extend(group, days, dice, day, number);
-                }
+        self.begin(group, dice, limits);
+        let last = count.saturating_sub(1);
+        for day in 0..last {
+            let (begin, end) = self.range(day);
+            for index in begin..end {
+                self.extend(group, days, dice, day, index);
             }
+            self.end_day(day.saturating_add(1));
         }
+        let (begin, end) = self.range(last);
+        for index in begin..end {
+            self.finish(group, days, dice, index);
+        }
+        self.end_day(last.saturating_add(1));
     }
 
-    /// Draws a state after all days with no lecture left, if there is one.
-    pub fn draw(&self, dice: &mut Dice, days: usize) -> Option<u32> {
-        let (mut drawn, mut all) = (None, NEVER);
-        for place in 0..self.count(days) {
-            let number = self.reached(days, place);
-            let state = self.state(days, number);
-            if state.left == 0 {
-                if drawn.is_some() {
-                    all = dice.sum(all, state.wait);
-                } else {
-                    all = state.wait;
-                }
-                if state.wait.saturating_sub(all) <= dice.wait() {
-                    drawn = Some(number);
-                }
+    /// Draws a state after all days with no lecture left, if there is one, and returns its index.
+    pub fn draw(&self, dice: &mut Dice, days: usize) -> Option<usize> {
+        let (begin, end) = self.range(days);
+        let (mut drawn, mut all) = (None, 0);
+        for index in begin..end {
+            let wait = self.state(index).wait;
+            all = match drawn {
+                Some(_) => dice.sum(all, wait),
+                None => wait,
+            };
+            if wait.wrapping_sub(all) <= dice.wait() {
+                drawn = Some(index);
             }
         }
         drawn
     }
 
-    /// Returns the vector of a day on the way to a state after it, and the state before it.
-    pub fn trace(&self, days: &Days, day: usize, number: u32) -> (Vector, u32) {
-        let state = self.state(day.saturating_add(1), number);
-        (days.vector(state.by), state.from)
+    /// Returns the vector that led to a state, and the index of the state before.
+    pub fn trace(&self, days: &Days, index: usize) -> (Vector, usize) {
+        let state = self.state(index);
+        (days.vector(state.by as usize), state.from as usize)
     }
 }
