@@ -55,6 +55,15 @@ Courses: 1 Rooms: 1 Days: 5 Periods_per_day: 4 Curricula: 1 Constraints: 0
 COURSES: a,b;c\\d_é{long} t\x01 1 1 1 ROOMS: r 1
 CURRICULA: q 1 a,b;c\\d_é{long} UNAVAILABILITY_CONSTRAINTS: END.
 """.replace("{long}", "ü" * 90)
+# An instance in the extended format, and what ectt_to_ctt.py makes of it.
+EXTENDED = """Name: toy
+Courses: 2 Rooms: 1 Days: 2 Periods_per_day: 2 Curricula: 1 Min_Max_Daily_Lectures: 1 2 UnavailabilityConstraints: 1 RoomConstraints: 1
+COURSES: =a t 1 1 9 0 b u 2 2 9 1 ROOMS: r 9 0 CURRICULA: q 2 =a b UNAVAILABILITY_CONSTRAINTS: b 1 0 ROOM_CONSTRAINTS: b r END.
+"""
+PLAIN = """Name: toy
+Courses: 2 Rooms: 1 Days: 2 Periods_per_day: 2 Curricula: 1 Constraints: 1
+COURSES: =a t 1 1 9 b u 2 2 9 ROOMS: r 9 CURRICULA: q 2 =a b UNAVAILABILITY_CONSTRAINTS: b 1 0 END.
+"""
 
 results = []
 
@@ -192,6 +201,24 @@ def hard_name_checks(folder):
     check("a control in a name becomes U+FFFD", events and events[0]["DESCRIPTION"] == "t\ufffd\nq", text)
 
 
+def extended_checks(folder):
+    for name, text in (("toy.ectt", EXTENDED), ("toy.sol", "=a r 0 0\n")):
+        with open(f"{folder}/{name}", "w", encoding="utf-8") as file:
+            file.write(text)
+    convert = [sys.executable, TOP + "/examples/ectt_to_ctt.py"]
+    done = run([*convert, "toy.ectt"], folder)
+    check("an .ectt file becomes a .ctt file", done.stdout.split() == PLAIN.split() and done.returncode == 0, done.stdout)
+    wanted = ["left out: the fewest and the most lectures of a day", "left out: double lectures of 1 courses",
+              "left out: 1 rooms that a course can't have"]
+    check("what is left out of an .ectt file is said", done.stderr.splitlines() == wanted, done.stderr)
+    with open(folder + "/toy.ctt", "w", encoding="utf-8") as file:
+        file.write(done.stdout)
+    done = run([*convert, "toy.ctt"], folder)
+    check("a .ctt file is no .ectt file", (done.stdout, done.returncode) == ("", 2), done.stderr)
+    done = script("from_solution.py", "toy.ctt", "toy.sol", "--csv", "--no-formulas", folder=folder)
+    check("no name is a formula", "0,0,'=a,t,r,q" in done.stdout.splitlines(), done.stdout)
+
+
 def without_parallel(folder):
     """A path of the system's commands on which there is no GNU parallel."""
     made = folder + "/commands"
@@ -323,7 +350,7 @@ def calling_checks(_folder):
         check(f"CALLING's imports are those of {re.search(r'crates/[^]]*', line)[0]}", not missing, missing)
 
 
-GROUPS = [instance_checks, mistake_checks, solution_mistake_checks, hard_name_checks, calling_checks, week_checks, no_parallel_checks, many_checks]
+GROUPS = [instance_checks, mistake_checks, solution_mistake_checks, hard_name_checks, extended_checks, calling_checks, week_checks, no_parallel_checks, many_checks]
 
 
 def main():

@@ -97,10 +97,16 @@ def begin_of(options, day, period):
     return datetime.datetime.combine(options.first_day + datetime.timedelta(days=day), options.times[period])
 
 
+def barred(name):
+    """A name behind an apostrophe if a spreadsheet would take it for a formula."""
+    return "'" + name if name.startswith(("=", "+", "-", "@")) else name
+
+
 def put_csv(out, instance, week, options):
     """Writes one line for each lecture, in the order of the week."""
     _, _, _, courses, _, curricula = instance
     dated = options.first_day is not None and options.times is not None
+    text = (lambda name: barred(shown(name))) if options.no_formulas else shown
     rows = csv.writer(out)
     rows.writerow((["date", "begin", "end"] if dated else []) + ["day", "period", "course", "teacher", "room", "curricula"])
     for day, period, _, course, room in week:
@@ -109,8 +115,8 @@ def put_csv(out, instance, week, options):
             begin = begin_of(options, day, period)
             end = begin + datetime.timedelta(minutes=options.minutes)
             row = [begin.date().isoformat(), begin.strftime("%H:%M"), end.strftime("%H:%M")]
-        groups = "; ".join(map(shown, curricula[course]))
-        rows.writerow(row + [day, period, shown(course), shown(courses[course][0]), shown(room), groups])
+        groups = "; ".join(map(text, curricula[course]))
+        rows.writerow(row + [day, period, text(course), text(courses[course][0]), text(room), groups])
 
 
 def escaped(text):
@@ -175,6 +181,7 @@ def main():
     form = parser.add_mutually_exclusive_group(required=True)
     form.add_argument("--csv", action="store_true", help="a table with one line for each lecture")
     form.add_argument("--ics", action="store_true", help="an iCalendar file of the first week")
+    parser.add_argument("--no-formulas", action="store_true", help="with --csv: an apostrophe before each name that looks like a formula")
     parser.add_argument("--first-day", type=datetime.date.fromisoformat, metavar="YYYY-MM-DD", help="the date of day 0")
     parser.add_argument("--times", metavar="HH:MM,..", help="when the periods of a day begin")
     parser.add_argument("--minutes", type=int, default=90, help="how long a lecture is (default: 90)")

@@ -4,8 +4,8 @@
     python3 to_instance.py FOLDER [--name NAME] [--days 5] [--periods 4] > INSTANCE
 
 FOLDER has courses.csv, rooms.csv, curricula.csv and unavailability.csv, as a spreadsheet program saves them. The first line of
-each names the columns. If something is wrong, nothing is written: each problem is one line on standard error, with its file, line and
-column, and the exit status is 2.
+each names the columns; unavailability.csv may be missing. If something is wrong, nothing is written: each problem is one line on standard error,
+with its file, line and column, and how many more lines have it, and the exit status is 2.
 """
 import argparse
 import csv
@@ -23,12 +23,20 @@ WEEKDAYS = ("monday", "tuesday", "wednesday", "thursday", "friday", "saturday", 
 MOST = {"lectures": 4_096, "days": 512, "students": 1_000_000, "seats": 1_000_000}
 MOST_ROWS = {"courses": 2_048, "rooms": 512, "curricula": 8_192, "unavailable periods": 65_536, "lectures together": 4_096}
 
-problems = []
+# The lines that have each problem, by its file, its column and its text.
+problems = {}
 
 
 def report(file, line, column, text):
-    place = file + (f", line {line}" if line else "") + (f", column {column}" if column else "")
-    problems.append(f"{place}: {text}")
+    problems.setdefault((file, column, text), []).append(line)
+
+
+def problem_lines():
+    """A line of text for each problem, in the order in which they were found."""
+    for (file, column, text), lines in problems.items():
+        place = file + (f", line {lines[0]}" if lines[0] else "") + (f", column {column}" if column else "")
+        more = f" (and in {len(lines) - 1} more lines)" if len(lines) > 1 else ""
+        yield f"{place}: {text}{more}"
 
 
 def word(text):
@@ -135,6 +143,8 @@ def day_of(file, line, text, days):
 
 def read_unavailability(folder, courses, days, periods):
     file, found = "unavailability.csv", {}
+    if not os.path.lexists(os.path.join(folder, file)):
+        return []
     for line, cells in read_rows(folder, file):
         check_course(file, line, cells["course"], courses)
         day = day_of(file, line, cells["day"], days)
@@ -175,7 +185,7 @@ def main():
     bars = read_unavailability(options.folder, names, options.days, options.periods)
     check_sizes(courses, rooms, curricula, bars)
     if problems:
-        print("\n".join(problems), file=sys.stderr)
+        print("\n".join(problem_lines()), file=sys.stderr)
         return 2
     text = instance_text(name, options.days, options.periods, courses, rooms, curricula, bars)
     sys.stdout.buffer.write(text.encode("utf-8"))

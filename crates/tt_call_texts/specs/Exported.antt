@@ -1,5 +1,5 @@
 -- The answers of `table` and `calendar` for the bytes of an instance and of a solution.
-use Rattle.std.specs.Prelude.{◌≡◌, ℕ, List, None, Some, Err, ⊤, slice_get}
+use Rattle.std.specs.Prelude.{◌≡◌, ℕ, Bool, List, None, Some, Err, ⊤, slice_get}
 use Rattle.tt_instance.specs.Problem.{Problem}
 use Rattle.tt_instance_read.specs.Reading.{instance_of}
 use Rattle.tt_instance.specs.declared.cell.Cell.{Cell}
@@ -14,12 +14,12 @@ use Rattle.tt_call_answers.specs.declared.answer.Answer.{Answer}
 use Rattle.tt_call_answers.specs.declared.fault.AppFault.{AppFault}
 use Rattle.tt_call_answers.specs.declared.fault.AppFault.TheVariants as fault
 
--- the answer is the table of the timetable, and no file
-pub record IsTable (instance solution : List ℕ) (a : Answer) : Type 0 where
+-- the answer is the table of the timetable, with formulas barred or not, and no file
+pub record IsTable (bars : Bool) (instance solution : List ℕ) (a : Answer) : Type 0 where
   pub problem : Problem
   pub table : List Cell
   pub both : SpellsBoth instance solution problem table
-  pub text : a.out.items ≡ table_text problem table
+  pub text : a.out.items ≡ table_text bars problem table
   pub status : a.status ≡ 0
   pub no_table : a.table ≡ None
   pub no_proof : a.proof ≡ None

@@ -78,7 +78,7 @@ fn reply_to<R: World, O: Write, E: Write>(
         Request::Parts(request) => answer_parts(rt, err, *request),
         Request::Best(request) => answer_best(rt, err, *request),
         Request::Report(request) => { Ok(Reply::silent(rt.alloc(), report_to(rt, *request, out)?)) }
-        Request::Table(files) => answer_table(rt, *files),
+        Request::Table(request) => answer_table(rt, *request),
         Request::Calendar(request) => answer_calendar(rt, *request),
     }
 }

@@ -31,6 +31,13 @@ pub struct ReportRequest<'a> {
     pub by: By,
 }
 
+/// The files of `report --csv`, and whether names that look like formulas begin with an apostrophe.
+#[derive(Clone, Copy, Debug)]
+pub struct TableRequest<'a> {
+    pub files: TimetableFiles<'a>,
+    pub bars_formulas: bool,
+}
+
 /// The files of `report --ics`, and the calendar.
 #[derive(Clone, Copy, Debug)]
 pub struct CalendarRequest<'a> {
@@ -52,6 +59,14 @@ const CSV: Argument<'static> = Argument {
     form: Form::Flag,
     help: "Prints one line for each lecture, for a spreadsheet",
     condition: Some(Condition::ConflictsWith("by")),
+};
+
+/// The option that lets no name be a formula.
+const NO_FORMULAS: Argument<'static> = Argument {
+    id: "no-formulas",
+    form: Form::Flag,
+    help: "With --csv: an apostrophe before each name that a spreadsheet would take for a formula",
+    condition: Some(Condition::Requires(&["csv"])),
 };
 
 /// The option that prints a calendar instead of weeks.
@@ -104,7 +119,18 @@ pub const REPORT: Description<'static> = Description {
     about: "Prints the week of each room, teacher or curriculum",
     example: "Example: tt report week.ctt week.sol --by teacher",
     arguments: &[
-        INSTANCE, SOLUTION, BY, CSV, ICS, FIRST_DAY, TIMES, MINUTES, WEEKS, PROGRESS, QUIET,
+        INSTANCE,
+        SOLUTION,
+        BY,
+        CSV,
+        NO_FORMULAS,
+        ICS,
+        FIRST_DAY,
+        TIMES,
+        MINUTES,
+        WEEKS,
+        PROGRESS,
+        QUIET,
     ],
 };
 
@@ -140,7 +166,11 @@ pub fn report_request<'a>(found: &ArgMatches<'a>) -> Option<Request<'a>> {
         solution: found.get_str("SOLUTION")?,
     };
     if found.get_flag("csv") {
-        return Some(Request::Table(files));
+        let bars_formulas = found.get_flag("no-formulas");
+        return Some(Request::Table(TableRequest {
+            files,
+            bars_formulas,
+        }));
     }
     if let Some(name) = found.get_str("ics") {
         let calendar = calendar_wish(found, name)?;

@@ -1,3 +1,4 @@
 pub mod Examples
 pub mod Names
+pub mod Shown
 pub mod Written

@@ -17,6 +17,7 @@ use Rattle.tt_instance.specs.Courses.{teachers}
 use Rattle.tt_instance.specs.declared.cell.Cell.{Cell}
 use Rattle.tt_instance.specs.declared.cell.Slot.{Slot}
 use Rattle.tt_report.specs.Inner.Blocks.{head_of, shown_in, belongs_to, next_texts, entries_text, slot_text, block_text}
+use Rattle.tt_report.specs.Names.{shown}
 use Rattle.tt_report.specs.Reports.{course_text, room_text, course_and_room, is_taught_by, slot_line, block, report_text}
 use Rattle.tt_report.specs.declared.blocks.Block.{Block}
 use Rattle.tt_report.specs.declared.blocks.Block.TheVariants as of
@@ -232,7 +233,7 @@ curricula_are p t =
 pub teachers_are : (p : Problem) (t : List Cell) → report_text p t Teacher ≡ flat_map (λ k. block_text p t (of.Teacher k))
     (range_below (length (teachers p)))
 teachers_are p t =
-    let named : List ℕ → List (List Piece) = λ name. block p (Text (codes "teacher") ∷ Text name ∷ []) (course_and_room p)
+    let named : List ℕ → List (List Piece) = λ name. block p (Text (codes "teacher") ∷ Text (shown name) ∷ []) (course_and_room p)
     (is_taught_by p name) t in
     lines_text-of_flat_map named (teachers p)
     ∙ by_numbers (λ name. lines_text (named name)) (teachers p) []

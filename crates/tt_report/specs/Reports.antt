@@ -10,14 +10,15 @@ use Rattle.tt_instance.specs.declared.cell.Cell.{Cell}
 use Rattle.tt_instance.specs.declared.cell.Slot.{Slot}
 use Rattle.tt_table.specs.declared.kind.Kind.{Kind as By}
 use Rattle.tt_table.specs.declared.kind.Kind.TheVariants.{Room, Teacher, Curriculum}
+use Rattle.tt_report.specs.Names.{shown}
 
 -- The name of an entry's course.
 abbrev pub course_text : Problem → Cell → Piece
-course_text p e = Text (slice_index_or p.courses e.course no_course).id
+course_text p e = Text (shown (slice_index_or p.courses e.course no_course).id)
 
 -- The name of an entry's room.
 abbrev pub room_text : Problem → Cell → Piece
-room_text p e = Text (slice_index_or p.rooms e.room no_room).id
+room_text p e = Text (shown (slice_index_or p.rooms e.room no_room).id)
 
 -- Day and period, and the pieces shown for each entry of the period that belongs to the block, in list order.
 abbrev pub slot_line : (Cell → List Piece) → (Cell → Bool) → List Cell → Slot → List Piece
@@ -38,11 +39,11 @@ is_taught_by p name e = is_same_text (Some name) (slice_get (course_teachers p) 
 -- The lines of a report: a block for each room, for each teacher or for each curriculum.
 abbrev pub report_lines : Problem → List Cell → By → List (List Piece)
 report_lines p t Room =
-    flat_map (λ r. block p (Text (codes "room") ∷ Text (slice_index_or p.rooms r no_room).id ∷ []) (λ e. course_text p e ∷ []) (is_in r) t) (all_rooms p)
+    flat_map (λ r. block p (Text (codes "room") ∷ Text (shown (slice_index_or p.rooms r no_room).id) ∷ []) (λ e. course_text p e ∷ []) (is_in r) t) (all_rooms p)
 report_lines p t Teacher =
-    flat_map (λ name. block p (Text (codes "teacher") ∷ Text name ∷ []) (course_and_room p) (is_taught_by p name) t) (teachers p)
+    flat_map (λ name. block p (Text (codes "teacher") ∷ Text (shown name) ∷ []) (course_and_room p) (is_taught_by p name) t) (teachers p)
 report_lines p t Curriculum =
-    flat_map (λ q. block p (Text (codes "curriculum") ∷ Text (slice_index_or p.curricula q no_curriculum).id ∷ []) (course_and_room p) (λ e. in_curriculum p q e.course) t) (all_curricula p)
+    flat_map (λ q. block p (Text (codes "curriculum") ∷ Text (shown (slice_index_or p.curricula q no_curriculum).id) ∷ []) (course_and_room p) (λ e. in_curriculum p q e.course) t) (all_curricula p)
 
 -- The text of a report by rooms, by teachers or by curricula.
 abbrev pub report_text : Problem → List Cell → By → List ℕ

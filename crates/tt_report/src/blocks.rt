@@ -6,8 +6,10 @@ ghost use Rattle.tt_text.specs.Pieces.{Text};
 ghost use Rattle.tt_instance.specs.Cells.{InRange};
 ghost use Rattle.tt_instance.specs.Courses.{no_course, no_room, no_curriculum, teachers};
 ghost use Rattle.tt_text_output.specs.Puts.{Puts};
+ghost use Rattle.tt_report.specs.Names.{shown};
 ghost use Rattle.tt_report.specs.Inner.Blocks.{IsBlock, head_of, shown_in, belongs_to, next_texts};
 
+use crate::showing::put_next_name;
 use tt_instance::Instance;
 use tt_table::Entry;
 use tt_text::Sink;
@@ -76,7 +78,7 @@ impl Block {
     /// Returns the word that begins the head line, and the name after it.
     fn kind_and_name<'a>(self, instance: &Instance<'a>) -> (&'static str, &'a [u8])
         requires { IsBlock instance.now self }
-        ensures { head_of instance.now self ≡ Text result.0.now ∷ Text result.1.now ∷ [] }
+        ensures { head_of instance.now self ≡ Text result.0.now ∷ Text (shown result.1.now) ∷ [] }
     {
         match self {
             Block::Room(room) => ("room", room_id(instance, room)),
@@ -92,7 +94,7 @@ impl Block {
     {
         let (kind, name) = self.kind_and_name(instance);
         out.put(kind.as_bytes());
-        out.put_next_token(name);
+        put_next_name(out, name);
         out.put_line_end();
     }
 
@@ -101,11 +103,11 @@ impl Block {
         requires { InRange instance.now entry.now }
         ensures { Puts W.contents W.has_failed out.old out.new (next_texts (shown_in instance.now self entry.now)) }
     {
-        out.put_next_token(course_id(instance, entry.course));
+        put_next_name(out, course_id(instance, entry.course));
         match self {
             Block::Room(_) => {}
             Block::Teacher(_) | Block::Curriculum(_) => {
-                out.put_next_token(room_id(instance, entry.room));
+                put_next_name(out, room_id(instance, entry.room));
             }
         }
     }

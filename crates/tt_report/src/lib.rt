@@ -4,6 +4,7 @@
 mod blocks;
 mod fault;
 mod reports;
+mod showing;
 
 pub use fault::ReportFault;
 pub use reports::report;

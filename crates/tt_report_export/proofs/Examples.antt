@@ -1,17 +1,25 @@
 -- Names in their written form.
-use Rattle.std.proofs.Common.{◌≡◌, [], ◌∷◌, ◌++◌, refl}
-use Rattle.std.specs.Prelude.{codes}
+use Rattle.std.proofs.Common.{◌≡◌, [], ◌∷◌, ◌++◌, true, false, refl}
+use Rattle.std.specs.Prelude.{codes, flat_map, encode_utf8}
 use Rattle.tt_report_export.specs.Tables.{field}
-use Rattle.tt_report_export.specs.Calendars.{shown}
+use Rattle.tt_report_export.specs.Calendars.{escaped}
 use Rattle.tt_report_export.specs.Folding.{folded}
 
 -- a name that tries to end its field
-quote_inside : field (codes "a\",b") ≡ codes "\"a\"\",b\","
+quote_inside : field false (codes "a\",b") ≡ codes "\"a\"\",b\","
 quote_inside = refl
 
--- a name that tries to end its line
-names_of_one_line : shown (codes "A;B,C\\" ++ 13 ∷ 10 ∷ []) ≡ codes "A\\;B\\,C\\\\??"
-names_of_one_line = refl
+-- a name that a spreadsheet would take for a formula
+formula_behind_apostrophe : field true (codes "=1+1") ≡ codes "\"'=1+1\","
+formula_behind_apostrophe = refl
+
+-- the letters of a name that tries to end its line
+letters_of_one_line : flat_map escaped (13 ∷ 10 ∷ 0x85 ∷ []) ≡ codes "???"
+letters_of_one_line = refl
+
+-- a semicolon, which would end a value
+semicolon_escaped : escaped 59 ≡ 92 ∷ encode_utf8 59
+semicolon_escaped = refl
 
 -- a line with two bytes left
 folded_at_two : folded 2 (codes "abc") ≡ codes "ab\r\n c"

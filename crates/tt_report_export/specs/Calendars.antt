@@ -1,8 +1,10 @@
 -- A week as an iCalendar file (RFC 5545): an event for each entry, in local time.
-use Rattle.std.specs.Prelude.{ℕ, ◌+◌, ◌/◌, ◌%◌, ◌==◌, Bool, nat_lt, ◌||◌, List, [], ◌∷◌, ◌++◌, length, count_by, flat_map, codes, slice_index_or, if◌then◌else◌}
+use Rattle.std.specs.Prelude.{ℕ, ◌+◌, ◌/◌, ◌%◌, ◌==◌, Bool, nat_lt, ◌||◌, List, [], ◌∷◌, ◌++◌, length, count_by, flat_map, chars, codes, slice_index_or, if◌then◌else◌}
 use Rattle.std.specs.Fmt.{decimal}
+use Rattle.std.specs.Str.Lossy.{utf8_lossy}
 use Rattle.tt_instance.specs.Problem.{Problem}
 use Rattle.tt_instance.specs.declared.cell.Cell.{Cell}
+use Rattle.tt_report.specs.Names.{letter_text}
 use Rattle.tt_report_export.specs.Folding.{lines_of}
 use Rattle.tt_report_export.specs.Names.{course_name, teacher_name, room_name}
 use Rattle.tt_report_export.specs.Weeks.{belongs_to}
@@ -17,16 +19,14 @@ pub record Term : Type 0 where
   pub weeks : ℕ
   pub interval : ℕ
 
--- A byte of a name in a calendar: a backslash, a semicolon or a comma follows a backslash; a control character becomes a question mark, so no name
--- contains the end of a line.
+-- A letter of a name in a calendar: a backslash, a semicolon or a comma follows a backslash; a control character becomes a question mark, so no
+-- name contains the end of a line.
 abbrev pub escaped : ℕ → List ℕ
-escaped byte =
-    if byte == 92 || byte == 59 || byte == 44 then 92 ∷ byte ∷ []
-    else (if nat_lt byte 32 || byte == 127 then codes "?" else byte ∷ [])
+escaped c = if c == 92 || c == 59 || c == 44 then 92 ∷ letter_text c else letter_text c
 
--- The text of a name in a calendar, with its bytes escaped.
-abbrev pub shown : List ℕ → List ℕ
-shown name = flat_map escaped name
+-- The text of a name in a calendar: its letters, escaped; bytes that are not UTF-8 are read as U+FFFD.
+unfoldable pub shown : List ℕ → List ℕ
+shown name = flat_map escaped (chars (utf8_lossy name))
 
 -- A number below 100 in two digits.
 abbrev pub two_digits : ℕ → List ℕ

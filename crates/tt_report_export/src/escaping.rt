@@ -1,33 +1,56 @@
 //! Names in a calendar.
 
-ghost use Rattle.std.specs.Prelude.{◌≡◌, ◌++◌, flat_map, OnOk};
-ghost use Rattle.tt_report_export.specs.Calendars.{escaped};
+ghost use Rattle.std.specs.Prelude.{◌≡◌, ◌++◌, flat_map, chars, encode_utf8, OnOk};
+ghost use Rattle.tt_report.specs.Names.{letter_text};
+ghost use Rattle.tt_report_export.specs.Calendars.{escaped, shown};
 
 use std::alloc::AllocError;
 use tt_text::put_token;
 
-/// The first byte that is not a control character, and the control character behind the others.
-const SPACE: u8 = b' ';
-
-const DELETE: u8 = 127;
-
-/// Appends a byte, after a backslash if the calendar needs one; a control character becomes a question mark.
-fn put_escaped_byte(out: &mut Vec<u8>, byte: u8) -> Result<(), AllocError>
-    ensures { OnOk result (out.new.items ≡ out.old.items ++ escaped byte) }
+/// Appends a letter in UTF-8.
+fn put_plain(out: &mut Vec<u8>, letter: char) -> Result<(), AllocError>
+    ensures { OnOk result (out.new.items ≡ out.old.items ++ encode_utf8 letter) }
 {
-    match byte {
-        b'\\' | b';' | b',' => put_token(out, &[b'\\', byte]),
-        byte if byte < SPACE || byte == DELETE => put_token(out, b"?"),
-        byte => put_token(out, &[byte]),
+    let mut bytes = [0u8; 4];
+    put_token(out, letter.encode_utf8(&mut bytes).as_bytes())
+}
+
+/// Appends a letter; a control character becomes a question mark.
+fn put_letter(out: &mut Vec<u8>, letter: char) -> Result<(), AllocError>
+    ensures { OnOk result (out.new.items ≡ out.old.items ++ letter_text letter) }
+{
+    if letter.is_control() {
+        put_token(out, b"?")
+    } else {
+        put_plain(out, letter)
     }
 }
 
-/// Appends a name in the form for a calendar.
-pub fn put_escaped(out: &mut Vec<u8>, name: &[u8]) -> Result<(), AllocError>
-    ensures { OnOk result (out.new.items ≡ out.old.items ++ flat_map escaped name.now) }
+/// Appends a letter, after a backslash if the calendar needs one.
+fn put_escaped_letter(out: &mut Vec<u8>, letter: char) -> Result<(), AllocError>
+    ensures { OnOk result (out.new.items ≡ out.old.items ++ escaped letter) }
 {
-    for byte in name {
-        put_escaped_byte(out, *byte)?;
+    if matches!(letter, '\\' | ';' | ',') {
+        put_token(out, b"\\")?;
+    }
+    put_letter(out, letter)
+}
+
+/// Appends the letters of a text in the form for a calendar.
+fn put_letters(out: &mut Vec<u8>, text: &str) -> Result<(), AllocError>
+    ensures { OnOk result (out.new.items ≡ out.old.items ++ flat_map escaped (chars text.now)) }
+{
+    for letter in text.chars() {
+        put_escaped_letter(out, letter)?;
     }
     Ok(())
+}
+
+/// Appends a name in the form for a calendar.
+#[tactic(auto, unfolding(crate::specs::Calendars::shown))]
+pub fn put_escaped(out: &mut Vec<u8>, name: &[u8]) -> Result<(), AllocError>
+    ensures { OnOk result (out.new.items ≡ out.old.items ++ shown name.now) }
+{
+    let text = String::from_utf8_lossy(*out.allocator(), name)?;
+    put_letters(out, &text)
 }

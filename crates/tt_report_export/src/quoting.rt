@@ -1,6 +1,6 @@
 //! Fields of a table in quotes.
 
-ghost use Rattle.std.specs.Prelude.{◌≡◌, ◌++◌, flat_map, OnOk};
+ghost use Rattle.std.specs.Prelude.{◌≡◌, ◌++◌, ◌∷◌, flat_map, OnOk, if◌then◌else◌};
 ghost use Rattle.tt_report_export.specs.Tables.{doubled, quoted};
 
 use std::alloc::AllocError;
@@ -26,11 +26,14 @@ fn put_all_doubled(out: &mut Vec<u8>, name: &[u8]) -> Result<(), AllocError>
     Ok(())
 }
 
-/// Appends a name in quotes.
-pub fn put_quoted(out: &mut Vec<u8>, name: &[u8]) -> Result<(), AllocError>
-    ensures { OnOk result (out.new.items ≡ out.old.items ++ quoted name.now) }
+/// Appends a name in quotes, behind an apostrophe if it is to be text.
+pub fn put_quoted(out: &mut Vec<u8>, is_barred: bool, name: &[u8]) -> Result<(), AllocError>
+    ensures { OnOk result (out.new.items ≡ out.old.items ++ quoted (if is_barred then 39 ∷ name.now else name.now)) }
 {
     put_token(out, b"\"")?;
+    if is_barred {
+        put_token(out, b"'")?;
+    }
     put_all_doubled(out, name)?;
     put_token(out, b"\"")
 }

@@ -16,6 +16,9 @@ const HOURS: u32 = 24;
 /// The number of days of a week.
 const WEEK: u32 = 7;
 
+/// The number of bytes of a date such as `2027-02-01`.
+const DATE_BYTES: usize = 10;
+
 /// The first and the last year of four digits.
 const FIRST_YEAR: i16 = 1000;
 
@@ -89,9 +92,11 @@ fn number_of(date: Date) -> u32 {
 fn dates_from(alloc: Global, first: Date, days: u32) -> Result<Vec<u32>, TermFault> {
     let mut dates = Vec::new(alloc);
     let mut date = first;
-    for _ in 0..days {
+    for day in 0..days {
+        if day != 0 {
+            date = date.tomorrow().map_err(|_| TermFault::NoDate)?;
+        }
         dates.push(number_of(date))?;
-        date = date.tomorrow().map_err(|_| TermFault::NoDate)?;
     }
     Ok(dates)
 }
@@ -123,8 +128,12 @@ fn minute_of(time: &str) -> Option<u32> {
     Some(hour * MINUTES + minute)
 }
 
-/// Returns the date that a text such as `2027-02-01` gives, if its year has four digits.
+/// Returns the date that a text such as `2027-02-01` gives, with a year of four digits.
 fn date_of(text: &str) -> Result<Date, TermFault> {
+    // A sign, hyphens left out and a time behind the date give another length.
+    if text.len() != DATE_BYTES {
+        return Err(TermFault::NoDate);
+    }
     let date = Date::from_str(text).map_err(|_| TermFault::NoDate)?;
     if date.year() < FIRST_YEAR || date.year() > LAST_YEAR {
         return Err(TermFault::NoDate);

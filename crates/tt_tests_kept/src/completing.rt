@@ -11,6 +11,7 @@ fn completed(
     alloc: Global,
     instance: &str,
     solution: &str,
+    steps: &str,
 ) -> Result<(Outcome, Option<String>), Fail> {
     let memory = MemoryFiles::new(alloc, Refusal::Nothing);
     memory.put("a.ctt", instance)?;
@@ -22,7 +23,7 @@ fn completed(
         "a.out",
         "--complete",
         "--steps",
-        "100",
+        steps,
     ];
     let outcome = run_on(alloc, &words, &memory)?;
     let written = memory.text("a.out")?;
@@ -37,8 +38,24 @@ fn lectures_that_are_missing(rt: HostRuntime) -> Result<(), Fail> {
         (GAP, "", "hard 0 cost 5\n"),
         (GAP, "a R 0 0\nb R 0 2\n", "hard 0 cost 5\n"),
     ] {
-        let (outcome, written) = completed(rt.alloc(), instance, solution)?;
+        let (outcome, written) = completed(rt.alloc(), instance, solution, "100")?;
         assert_eq!(rt; outcome.answer(), (0, line, ""), "{solution}");
+        let lines = written.map_or(0, |text| text.lines().count());
+        assert_eq!(rt; lines, 2);
+    }
+    Ok(())
+}
+
+#[test]
+fn added_lectures_keep_apart(rt: HostRuntime) -> Result<(), Fail> {
+    for (instance, solution) in [
+        (MINI, ""),
+        (MINI, "b R 0 0\n"),
+        (GAP, ""),
+        (GAP, "b R 0 2\n"),
+    ] {
+        let (outcome, written) = completed(rt.alloc(), instance, solution, "0")?;
+        assert!(rt; outcome.out.as_str().starts_with("hard 0 "), "{solution}");
         let lines = written.map_or(0, |text| text.lines().count());
         assert_eq!(rt; lines, 2);
     }
@@ -49,7 +66,7 @@ fn lectures_that_are_missing(rt: HostRuntime) -> Result<(), Fail> {
 fn no_room_to_complete_in(rt: HostRuntime) -> Result<(), Fail> {
     let text = edited(rt.alloc(), MINI, "Rooms: 1", "Rooms: 0")?;
     let instance = edited(rt.alloc(), &text, "R 11\n", "")?;
-    let (outcome, written) = completed(rt.alloc(), &instance, "")?;
+    let (outcome, written) = completed(rt.alloc(), &instance, "", "100")?;
     assert_eq!(rt; outcome.answer(), (2, "", "refused: no room\n"));
     assert!(rt; written.is_none());
     Ok(())

@@ -66,6 +66,47 @@ fn names_with_quotes_and_commas(rt: HostRuntime) -> Result<(), Fail> {
 }
 
 #[test]
+fn names_that_look_like_formulas(rt: HostRuntime) -> Result<(), Fail> {
+    for name in ["=1+1", "+R", "-R", "@R"] {
+        let room = format!(in rt.alloc(); "{name} 11")?;
+        let instance = edited(rt.alloc(), MINI, "R 11", &room)?;
+        let solution = format!(in rt.alloc(); "a {name} 0 0")?;
+        for (words, mark) in [
+            (["--csv"].as_slice(), ""),
+            (["--csv", "--no-formulas"].as_slice(), "'"),
+        ] {
+            let table = exported(rt.alloc(), &instance, &solution, words)?;
+            let row = format!(in rt.alloc(); "\"a\",\"t1\",\"{mark}{name}\",0,0\r\n")?;
+            assert!(rt; table.out.as_str().ends_with(row.as_str()), "{row}");
+        }
+    }
+    Ok(())
+}
+
+#[test]
+fn controls_in_a_calendar(rt: HostRuntime) -> Result<(), Fail> {
+    let instance = edited(rt.alloc(), MINI, "a t1 ", "a t\u{1}\u{7f}\u{85} ")?;
+    let words = [
+        "--by",
+        "room",
+        "--ics",
+        "R",
+        "--first-day",
+        "9999-12-31",
+        "--times",
+        "8:00,9:05,23:30",
+    ];
+    let outcome = exported(rt.alloc(), &instance, "a R 0 2", &words)?;
+    let out = outcome.out.as_str();
+    assert!(rt; out.contains("\r\nDESCRIPTION:t???\r\n"), "{out}");
+    assert!(rt;
+        out.contains("\r\nDTSTART:99991231T233000\r\nDURATION:PT45M\r\n"),
+        "{out}"
+    );
+    Ok(())
+}
+
+#[test]
 fn a_calendar(rt: HostRuntime) -> Result<(), Fail> {
     let words = [
         "--by",
@@ -83,6 +124,28 @@ fn a_calendar(rt: HostRuntime) -> Result<(), Fail> {
     let out =
         "BEGIN:VCALENDAR\r\nVERSION:2.0\r\nPRODID:-//tt//course timetable//EN\r\nBEGIN:VEVENT\r\nUID:1.1.b@tt-Mini\r\nDTSTAMP:20270228T000000Z\r\nDTSTART:20270228T090500\r\nDURATION:PT90M\r\nSUMMARY:b\r\nLOCATION:R\r\nDESCRIPTION:t2\r\nEND:VEVENT\r\nEND:VCALENDAR\r\n";
     assert_eq!(rt; outcome.answer(), (0, out, ""));
+    Ok(())
+}
+
+#[test]
+fn the_dates_and_times_of_three_days(rt: HostRuntime) -> Result<(), Fail> {
+    let instance = edited(rt.alloc(), MINI, "Days: 1", "Days: 3")?;
+    let words = [
+        "--by",
+        "room",
+        "--ics",
+        "R",
+        "--first-day",
+        "2028-02-28",
+        "--times",
+        "8:00,9:05,23:30",
+    ];
+    let outcome = exported(rt.alloc(), &instance, "a R 0 0 b R 1 1 a R 2 2", &words)?;
+    let out = outcome.out.as_str();
+    for start in ["20280228T080000", "20280229T090500", "20280301T233000"] {
+        let lines = format!(in rt.alloc(); "\r\nDTSTART:{start}\r\nDURATION:PT45M\r\n")?;
+        assert!(rt; out.contains(lines.as_str()), "{out}");
+    }
     Ok(())
 }
 
@@ -144,7 +207,7 @@ fn long_names_are_folded(rt: HostRuntime) -> Result<(), Fail> {
 }
 
 /// The names, first days and times of calendars that are refused, and why.
-const REFUSED: [(&str, &str, &str, &str); 6] = [
+const REFUSED: [(&str, &str, &str, &str); 9] = [
     (
         "S",
         "2027-02-01",
@@ -159,8 +222,26 @@ const REFUSED: [(&str, &str, &str, &str); 6] = [
     ),
     (
         "R",
+        "20270201",
+        "8:00,9:00,10:00",
+        "refused: the first day is no date of the form 2027-02-01\n",
+    ),
+    (
+        "R",
+        "2027-02-01T00:00",
+        "8:00,9:00,10:00",
+        "refused: the first day is no date of the form 2027-02-01\n",
+    ),
+    (
+        "R",
         "2027-02-01",
         "8:00,9:00,24:00",
+        "refused: the times are not of the form 8:00,9:00\n",
+    ),
+    (
+        "R",
+        "2027-02-01",
+        "8:00,9:00,8:75",
         "refused: the times are not of the form 8:00,9:00\n",
     ),
     (

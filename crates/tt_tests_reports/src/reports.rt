@@ -8,7 +8,7 @@ use tt_app::{AppFault, report};
 use tt_report::By;
 use tt_testing_files::StoredFile;
 use tt_testing_runs::{Outcome, run_with};
-use tt_testing_samples::MINI;
+use tt_testing_samples::{MINI, edited};
 use tt_text::{Sink, Writing};
 
 /// Mini's first course in the first period, and its second course in the next.
@@ -36,6 +36,22 @@ fn weeks_of_each_kind(rt: HostRuntime) -> Result<(), Fail> {
     ] {
         let outcome = reported(rt.alloc(), MINI, by)?;
         assert_eq!(rt; outcome.answer(), (0, out, ""), "by {by}");
+    }
+    Ok(())
+}
+
+#[test]
+fn names_that_would_control_a_terminal(rt: HostRuntime) -> Result<(), Fail> {
+    for name in ["R\u{1b}]0;x\u{7}", "R\u{9b}2J", "R\u{7f}"] {
+        let teacher = format!(in rt.alloc(); "a {name} ")?;
+        let instance = edited(rt.alloc(), MINI, "a t1 ", &teacher)?;
+        let outcome = reported(rt.alloc(), &instance, "teacher")?;
+        let out = outcome.out.as_str();
+        assert!(rt; out.starts_with("teacher R?"), "{out}");
+        assert!(rt;
+            out.chars()
+                .all(|letter| letter == '\n' || !letter.is_control())
+        );
     }
     Ok(())
 }

@@ -14,9 +14,15 @@ use tt_instance_read::read_instance;
 use tt_report_export::write_table;
 use tt_table::read_solution;
 
-/// Returns the solution of an instance as comma-separated values, with a row for each entry; the status is 0.
-pub fn table(alloc: Global, instance: &[u8], solution: &[u8]) -> Result<Answer, AppFault>
-    ensures found { IfOk result (IsTable instance.now solution.now) }
+/// Returns the solution of an instance as comma-separated values, with a row for each entry; the status is 0. If formulas are barred, an apostrophe
+/// comes before each name that a spreadsheet would take for one.
+pub fn table(
+    alloc: Global,
+    instance: &[u8],
+    solution: &[u8],
+    bars_formulas: bool,
+) -> Result<Answer, AppFault>
+    ensures found { IfOk result (IsTable bars_formulas instance.now solution.now) }
     // A refusal reports the first error.
     ensures fault { IfErr result (IsFileRefusal instance.now solution.now) }
     // If both files are spelled, there is a table, unless memory runs out.
@@ -27,7 +33,7 @@ pub fn table(alloc: Global, instance: &[u8], solution: &[u8]) -> Result<Answer, 
     let table = read_solution(alloc, &instance, solution)?;
     Ok(Answer {
         status: 0,
-        out: write_table(alloc, &instance, &table)?,
+        out: write_table(alloc, &instance, &table, bars_formulas)?,
         table: None,
         proof: None,
     })

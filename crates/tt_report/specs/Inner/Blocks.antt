@@ -8,6 +8,7 @@ use Rattle.tt_instance.specs.Cells.{all_days, slot, is_in}
 use Rattle.tt_instance.specs.Courses.{no_room, no_curriculum, teachers, in_curriculum}
 use Rattle.tt_instance.specs.declared.cell.Cell.{Cell}
 use Rattle.tt_instance.specs.declared.cell.Slot.{Slot}
+use Rattle.tt_report.specs.Names.{shown}
 use Rattle.tt_report.specs.Reports.{course_text, course_and_room, is_taught_by, slot_line}
 use Rattle.tt_report.specs.declared.blocks.Block.{Block}
 use Rattle.tt_report.specs.declared.blocks.Block.TheVariants as of
@@ -20,9 +21,9 @@ IsBlock p (of.Curriculum q) = q < length p.curricula
 
 -- The head line of a block: the name of its room, teacher or curriculum, after the word for it.
 abbrev pub head_of : Problem → Block → List Piece
-head_of p (of.Room r) = Text (codes "room") ∷ Text (slice_index_or p.rooms r no_room).id ∷ []
-head_of p (of.Teacher k) = Text (codes "teacher") ∷ Text (slice_index_or (teachers p) k []) ∷ []
-head_of p (of.Curriculum q) = Text (codes "curriculum") ∷ Text (slice_index_or p.curricula q no_curriculum).id ∷ []
+head_of p (of.Room r) = Text (codes "room") ∷ Text (shown (slice_index_or p.rooms r no_room).id) ∷ []
+head_of p (of.Teacher k) = Text (codes "teacher") ∷ Text (shown (slice_index_or (teachers p) k [])) ∷ []
+head_of p (of.Curriculum q) = Text (codes "curriculum") ∷ Text (shown (slice_index_or p.curricula q no_curriculum).id) ∷ []
 
 -- The pieces shown for an entry.
 abbrev pub shown_in : Problem → Block → Cell → List Piece
