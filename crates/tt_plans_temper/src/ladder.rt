@@ -17,8 +17,8 @@ const LEAST_GAP: i64 = 5;
 /// The chance with which two places are to exchange their plans: a quarter.
 const WANTED: i64 = CERTAIN / 4;
 
-/// The share of a cycle in which the places cool down, in tenths.
-const COOLING: u64 = 3;
+/// The share of the steps in which the places cool down, in tenths.
+const COOLING: u64 = 9;
 
 /// The temperatures of the places, the coldest first.
 #[derive(Drop)]
@@ -30,7 +30,7 @@ pub struct Ladder {
     chances: Vec<i64>,
     coldest: i64,
     hottest: i64,
-    /// The minimum level, which falls in each cycle.
+    /// The minimum level, which falls.
     floor: i64,
 }
 
@@ -63,14 +63,14 @@ impl Ladder {
         }
     }
 
-    /// Returns the floor at this time of the cycle.
+    /// Returns the floor after the steps that were made.
     fn floor_at(&self, dice: &Dice, schedule: Schedule) -> i64 {
         let hottest = logarithm(self.hottest.cast_unsigned());
         let coldest = logarithm(self.coldest.cast_unsigned());
         let height = hottest.saturating_sub(coldest).saturating_add(NAT / 100);
-        let cooling = schedule.cycle().saturating_mul(COOLING) / 10;
+        let cooling = (schedule.steps / 10).saturating_mul(COOLING);
         let fallen = height
-            .saturating_mul(schedule.made_in_cycle())
+            .saturating_mul(schedule.made)
             .checked_div(cooling.max(1))
             .unwrap_or(0);
         let chance = dice.chance(i64::try_from(fallen).unwrap_or(i64::MAX));
