@@ -1,5 +1,7 @@
 //! The steps of a search, and what each is spent on.
 
+use tt_plans::Sizes;
+
 /// The number of steps at each place between two exchanges.
 pub const ROUND: u64 = 300;
 
@@ -17,6 +19,9 @@ const MOST_SETTLING: u64 = 100_000;
 /// The number of steps for each lecture in which a plan forgets its start.
 const MELTING: u64 = 100;
 
+/// The number of places of lectures that are weighed in the time of a step.
+const PLACES_WEIGHED: u64 = 8;
+
 /// The steps of a search.
 #[derive(Clone, Copy)]
 pub struct Schedule {
@@ -25,15 +30,22 @@ pub struct Schedule {
     /// The steps that were made.
     pub made: u64,
     lectures: u64,
+    /// The steps that take as long as rooms for a plan.
+    seating: u64,
+    /// The steps since rooms were last given.
+    since: u64,
 }
 
 impl Schedule {
-    /// Returns the schedule of this many steps for this many lectures.
-    pub fn new(steps: u64, lectures: usize) -> Schedule {
+    /// Returns the schedule of this many steps for an instance of these sizes.
+    pub fn new(steps: u64, sizes: Sizes) -> Schedule {
+        let (lectures, rooms) = (sizes.lectures as u64, sizes.rooms as u64);
         Schedule {
             steps,
             made: 0,
-            lectures: lectures as u64,
+            lectures,
+            seating: lectures.saturating_mul(rooms) / PLACES_WEIGHED,
+            since: 0,
         }
     }
 
@@ -63,6 +75,17 @@ impl Schedule {
     /// Counts steps.
     pub fn count(&mut self, steps: u64) {
         self.made = self.made.saturating_add(steps);
+    }
+
+    /// Counts steps since rooms were last given, and checks whether plans that were kept are to be given rooms now: these steps are the
+    /// last ones, or there were enough of them.
+    pub fn is_seating_due(&mut self, steps: u64, are_last: bool) -> bool {
+        self.since = self.since.saturating_add(steps);
+        let is_due = are_last || self.since >= self.seating;
+        if is_due {
+            self.since = 0;
+        }
+        is_due
     }
 
     /// Returns the number of steps in which a plan forgets its start.

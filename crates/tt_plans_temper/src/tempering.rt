@@ -21,6 +21,14 @@ const DEARER_DAYS: i64 = 3 * POINT;
 /// The amount that a clash costs more in one of the plans of a round that are kept, in quarters of a point.
 const DEARER_CLASHES: i64 = 29 * POINT;
 
+/// The amount that a clash costs less in the plan whose homes are searched alone next, in quarters of a point.
+const CHEAPER_CLASHES: i64 = POINT / 2;
+
+/// The number of rounds between two such searches, and the number of steps of each at every temperature.
+const ROUNDS_BETWEEN_HOMES: u64 = 20;
+
+const HOME_STEPS: u64 = 3_000;
+
 /// The temperature at which the search for homes alone begins, and that at which it ends, in hundredths of a point.
 const WARM_HOMES: i64 = 100;
 
@@ -45,10 +53,14 @@ pub struct Tempering {
     /// The plan at each place, the coldest place first.
     order: Vec<usize>,
     incumbent: Incumbent,
-    /// The plan of least cost of a round, if it costs less than the best timetable.
+    /// The plan of least cost since rooms were last given, if it costs less than the best timetable.
     cheapest: Draft,
     /// The same, with dearer clashes.
     clearest: Draft,
+    /// The plan of least cost with cheaper clashes since homes were last searched alone, if that costs less than the best timetable.
+    barest: Draft,
+    /// The plan whose homes are searched alone.
+    homed: Plan,
     melted: usize,
     rounds: u64,
     settled: u64,
@@ -114,6 +126,26 @@ fn heat_of_stage(dice: &Dice, stage: u64) -> Heat {
     Heat::new(Heat::POINT_LEVEL.wrapping_mul(chance) / CERTAIN)
 }
 
+/// Anneals the homes of a plan, with this many steps at each temperature, and keeps the cheapest ones.
+fn anneal_homes(
+    facts: &Facts,
+    stepper: &Stepper,
+    plan: &mut Plan,
+    dice: &mut Dice,
+    steps: u64,
+    kept: &mut Draft,
+) {
+    for stage in 0..STAGES {
+        let heat = heat_of_stage(dice, stage);
+        for _ in 0..steps {
+            if stepper.settle(facts, plan, dice, heat) {
+                let cost = plan.cost;
+                kept.keep(plan, cost);
+            }
+        }
+    }
+}
+
 impl Tempering {
     /// Begins with a timetable that breaks no hard rule. No later call allocates memory.
     pub fn new(
@@ -126,17 +158,25 @@ impl Tempering {
         let load = Load::new(&facts);
         let start = start_of(alloc, &facts, occupied)?;
         let plans = plans_of(alloc, &facts, &start, load.plans())?;
+        let mut cheapest = Draft::new(alloc, &facts)?;
+        let mut clearest = Draft::new(alloc, &facts)?;
+        let mut barest = Draft::new(alloc, &facts)?;
+        cheapest.cost = start.cost;
+        clearest.cost = start.cost;
+        barest.cost = start.cost;
         Ok(Tempering {
             order: numbers_below(alloc, plans.len())?,
             dice: Dice::new(alloc, seed)?,
             stepper: Stepper::new(alloc, &facts)?,
             ladder: Ladder::new(alloc, load, plans.len())?,
-            schedule: Schedule::new(steps, facts.sizes.lectures),
+            schedule: Schedule::new(steps, facts.sizes),
             load,
             plans,
             incumbent: Incumbent::new(alloc, &facts, start)?,
-            cheapest: Draft::new(alloc, &facts)?,
-            clearest: Draft::new(alloc, &facts)?,
+            cheapest,
+            clearest,
+            barest,
+            homed: Plan::new(alloc, &facts)?,
             facts,
             melted: 0,
             rounds: 0,
@@ -173,11 +213,52 @@ impl Tempering {
         if self.schedule.is_over() {
             return self.settle_homes();
         }
+        let made = self.schedule.made;
         self.make_round();
+        let steps = self.schedule.made.saturating_sub(made);
+        let is_last = self.schedule.is_over();
+        let is_search_due = is_last || self.rounds % ROUNDS_BETWEEN_HOMES == 0;
+        let is_homed = is_search_due && self.challenge_by_barest();
+        let is_seated = self.schedule.is_seating_due(steps, is_last) && self.challenge();
+        is_homed || is_seated
+    }
+
+    /// Searches for homes of the barest plan, and challenges the best timetable with what is found. Returns whether a better timetable was
+    /// found.
+    fn challenge_by_barest(&mut self) -> bool {
+        if self.barest.cost >= self.incumbent.best.cost {
+            return false;
+        }
+        self.homed.weigh_days(DAY_COST);
+        self.homed
+            .read(&self.facts, &self.barest.slots, &self.barest.homes);
+        self.barest.cost = i64::MAX;
+        anneal_homes(
+            &self.facts,
+            &self.stepper,
+            &mut self.homed,
+            &mut self.dice,
+            HOME_STEPS,
+            &mut self.barest,
+        );
+        let is_better = self.incumbent.challenge(&self.facts, &self.barest);
+        self.barest.cost = self.incumbent.best.cost;
+        is_better
+    }
+
+    /// Challenges the best timetable with the plans that were kept, and keeps new ones. Returns whether a better timetable was found.
+    fn challenge(&mut self) -> bool {
         let is_cheaper = self.incumbent.best.cost > self.cheapest.cost
             && self.incumbent.challenge(&self.facts, &self.cheapest);
         let is_clearer = self.incumbent.best.cost > self.clearest.cost
             && self.incumbent.challenge(&self.facts, &self.clearest);
+        let is_over = self.schedule.is_over();
+        self.cheapest.cost = if is_over {
+            i64::MAX
+        } else {
+            self.incumbent.best.cost
+        };
+        self.clearest.cost = self.incumbent.best.cost;
         is_cheaper || is_clearer
     }
 
@@ -211,8 +292,6 @@ impl Tempering {
         if self.rounds % ROUNDS == 0 {
             self.ladder.adjust(&self.dice, self.schedule);
         }
-        self.cheapest.cost = self.incumbent.best.cost;
-        self.clearest.cost = self.incumbent.best.cost;
         let places = self.order.len();
         for place in 0..places {
             self.walk(place);
@@ -241,6 +320,8 @@ impl Tempering {
                 self.cheapest.keep(plan, cost);
                 let dearer = plan.clashes.wrapping_mul(DEARER_CLASHES);
                 self.clearest.keep(plan, cost.wrapping_add(dearer));
+                let cheaper = plan.clashes.wrapping_mul(CHEAPER_CLASHES);
+                self.barest.keep(plan, cost.wrapping_sub(cheaper));
             }
         }
     }
@@ -276,22 +357,26 @@ impl Tempering {
     /// Searches for homes of the best plan. Returns whether a better timetable was found.
     fn settle_homes(&mut self) -> bool {
         self.settled = self.settled.saturating_add(1);
-        self.cheapest.cost = i64::MAX;
-        let Some(plan) = self.plans.get_mut(0) else {
-            return false;
-        };
-        plan.weigh_days(DAY_COST);
+        self.homed.weigh_days(DAY_COST);
         let best = &self.incumbent.best;
-        plan.read(&self.facts, &best.slots, &best.homes);
-        for stage in 0..STAGES {
-            let heat = heat_of_stage(&self.dice, stage);
-            for _ in 0..self.schedule.settling() / STAGES {
-                if self.stepper.settle(&self.facts, plan, &mut self.dice, heat) {
-                    let cost = plan.cost;
-                    self.cheapest.keep(plan, cost);
-                }
-            }
-        }
-        self.cheapest.cost < i64::MAX && self.incumbent.challenge(&self.facts, &self.cheapest)
+        self.homed.read(&self.facts, &best.slots, &best.homes);
+        anneal_homes(
+            &self.facts,
+            &self.stepper,
+            &mut self.homed,
+            &mut self.dice,
+            self.schedule.settling() / STAGES,
+            &mut self.cheapest,
+        );
+        let (steps, is_last) = (self.schedule.settling(), self.settled >= SETTLINGS);
+        self.schedule.is_seating_due(steps, is_last) && self.challenge_by_homes()
+    }
+
+    /// Challenges the best timetable with the homes that were kept. Returns whether a better timetable was found.
+    fn challenge_by_homes(&mut self) -> bool {
+        let is_better = self.cheapest.cost < i64::MAX
+            && self.incumbent.challenge(&self.facts, &self.cheapest);
+        self.cheapest.cost = i64::MAX;
+        is_better
     }
 }
