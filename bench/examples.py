@@ -49,6 +49,22 @@ WRONG_SOLUTIONS = [
     ("Optics Hall 5 0", "lecture 1: '5' is no day from 0 to 4"),
     ("Optics Hall 0 x", "lecture 1: 'x' is no period from 0 to 3"),
 ]
+# The names of days and periods, and a solution with the table that from_solution.py makes of it with them.
+DAY_NAMES, PERIOD_NAMES = "Mo,Di,Mi,Do,Fr", "8:00,10:00,12:00,14:00"
+NAMES = ["--days", DAY_NAMES, "--periods", PERIOD_NAMES]
+FEW = "Linear_algebra Hall 0 1\nGroups,_rings_and_fields Room_1.07 2 0\nOptics Seminar 4 3\n"
+FEW_TABLE = [
+    ["day", "period", "course", "teacher", "room", "curricula"],
+    ["Mo", "10:00", "Linear algebra", "Hilbert", "Hall", "Mathematics 1; Physics 1"],
+    ["Mi", "8:00", "Groups, rings and fields", "Noether", "Room 1.07", "Mathematics 2"],
+    ["Fr", "14:00", "Optics", "Curie", "Seminar", "Physics 2"],
+]
+# Rows of a table, and what to_solution.py has to say of them.
+WRONG_TABLES = [
+    ("Optik,Hall,0,0", ["column course: there is no course 'Optik' in the instance"]),
+    ("Optics,Halle,0,9", ["column room: there is no room 'Halle' in the instance", "column period: '9' is no period from 0 to 3, and no name of one"]),
+    ("Optics,Hall,,Mittag", ["column day: is empty", "column period: 'Mittag' is no period from 0 to 3, and no name of one"]),
+]
 # Names that a calendar has to escape, to fold and to clean.
 HARD_NAMES = """Name: hard
 Courses: 1 Rooms: 1 Days: 5 Periods_per_day: 4 Curricula: 1 Constraints: 0
@@ -117,6 +133,40 @@ def solution_mistake_checks(folder):
             file.write(text)
         done = script("from_solution.py", SHEETS + "/department.ctt", "wrong.sol", "--csv", folder=folder)
         check(f"a mistake in a solution: {line}", (done.stderr, done.stdout, done.returncode) == (f"wrong.sol, {line}\n", "", 2), done.stderr)
+
+
+def back(table, folder, *words):
+    """What to_solution.py makes of a table for department.ctt, on both streams, and its status."""
+    with open(folder + "/table.csv", "w", encoding="utf-8", newline="") as file:
+        file.write(table)
+    done = script("to_solution.py", SHEETS + "/department.ctt", "table.csv", *words, folder=folder)
+    return done.stdout, done.stderr, done.returncode
+
+
+def table_checks(folder):
+    """Looks whether a table becomes a solution, and a solution a table."""
+    with open(folder + "/few.sol", "w", encoding="utf-8") as file:
+        file.write(FEW)
+    done = script("from_solution.py", SHEETS + "/department.ctt", "few.sol", "--csv", *NAMES, folder=folder)
+    check("a table with the names of days and periods", list(csv.reader(io.StringIO(done.stdout))) == FEW_TABLE, done.stdout + done.stderr)
+    check("it becomes the solution again", back(done.stdout, folder, *NAMES) == (FEW, "", 0), back(done.stdout, folder, *NAMES))
+    turned = "\ufeff" + "".join(";".join(f'"{row[at]}"' for at in (4, 2, 1, 0)) + "\r\n" for row in FEW_TABLE).replace('"Mo"', '"mo"')
+    check("so does one with other columns, semicolons and a mark", back(turned, folder, *NAMES) == (FEW, "", 0), back(turned, folder, *NAMES))
+    done = run([TT, "report", SHEETS + "/department.ctt", "few.sol", "--csv"], folder)
+    check("the table of report --csv becomes the solution", back(done.stdout, folder) == (FEW, "", 0), back(done.stdout, folder))
+    for row, lines in WRONG_TABLES:
+        said = "".join(f"table.csv, line 2, {line}\n" for line in lines)
+        found = back(f"course,room,day,period\n{row}\n", folder, *NAMES)
+        check(f"a mistake in a table: {lines[0]}", found == ("", said, 2), found)
+    found = back("course,room,day,period\nOptik,Hall,0,0\nOptics,Seminar,4,3\n", folder, "--drop")
+    check("a course that isn't there is left out", found == ("Optics Seminar 4 3\n", "table.csv, line 2, column course: there is no course 'Optik' in the instance\n", 0), found)
+    sheets = folder + "/named"
+    shutil.copytree(SHEETS, sheets)
+    with open(sheets + "/unavailability.csv", "w", encoding="utf-8") as file:
+        file.write("course,day,period\nLinear algebra,mo,8:00\nLogic,Monday,0\nMechanics,Fr,12:00\nMechanics,4,3\n")
+    done = script("to_instance.py", sheets, "--name", "department", *NAMES, folder=folder)
+    with open(SHEETS + "/department.ctt", encoding="utf-8") as file:
+        check("tables with names of days and periods make department.ctt", (done.stdout, done.stderr) == (file.read(), ""), done.stderr)
 
 
 def lectures_of(solution):
@@ -350,7 +400,7 @@ def calling_checks(_folder):
         check(f"CALLING's imports are those of {re.search(r'crates/[^]]*', line)[0]}", not missing, missing)
 
 
-GROUPS = [instance_checks, mistake_checks, solution_mistake_checks, hard_name_checks, extended_checks, calling_checks, week_checks, no_parallel_checks, many_checks]
+GROUPS = [instance_checks, mistake_checks, solution_mistake_checks, table_checks, hard_name_checks, extended_checks, calling_checks, week_checks, no_parallel_checks, many_checks]
 
 
 def main():

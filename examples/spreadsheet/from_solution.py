@@ -1,12 +1,13 @@
 #!/usr/bin/env python3
 """Shows a timetable as a table for a spreadsheet, or as a calendar of the term's first week.
 
-    python3 from_solution.py INSTANCE SOLUTION --csv > week.csv
+    python3 from_solution.py INSTANCE SOLUTION --csv [--days Mon,Tue,Wed,Thu,Fri] [--periods 8:00,10:00,12:00,14:00] > week.csv
     python3 from_solution.py INSTANCE SOLUTION --ics --first-day 2027-02-01 --times 8:00,10:00,12:00,14:00 > week.ics
 
 Day 0 of the instance is the first day, and the times are those at which its periods begin. Calendar programs take the times as local.
-With --first-day and --times the table has dates and times too. An underscore in a name is shown as a space. If something is wrong, it
-is one line on standard error, and the exit status is 2.
+With --first-day and --times the table has dates and times too, and with --days and --periods the names of days and periods in place of their
+numbers from 0. An underscore in a name is shown as a space. If something is wrong, it is one line on standard error, and the exit status
+is 2. to_solution.py makes a solution of the table again.
 """
 import argparse
 import csv
@@ -92,6 +93,18 @@ def read_times(text, periods):
     return times
 
 
+def read_names(option, text, count):
+    """The names of days or of periods, one for each, or None if none are given."""
+    if text is None:
+        return None
+    names = [part.strip() for part in text.split(",")]
+    if len(names) != count:
+        raise Wrong(f"{option}: there are {count}, and {len(names)} names were given")
+    if len({name.casefold() for name in names}) < count or not all(names):
+        raise Wrong(f"{option}: two names are the same, or one is empty")
+    return names
+
+
 def begin_of(options, day, period):
     """When a period of the first week begins."""
     return datetime.datetime.combine(options.first_day + datetime.timedelta(days=day), options.times[period])
@@ -116,7 +129,8 @@ def put_csv(out, instance, week, options):
             end = begin + datetime.timedelta(minutes=options.minutes)
             row = [begin.date().isoformat(), begin.strftime("%H:%M"), end.strftime("%H:%M")]
         groups = "; ".join(map(text, curricula[course]))
-        rows.writerow(row + [day, period, text(course), text(courses[course][0]), text(room), groups])
+        place = [options.days[day] if options.days else day, options.periods[period] if options.periods else period]
+        rows.writerow(row + place + [text(course), text(courses[course][0]), text(room), groups])
 
 
 def escaped(text):
@@ -182,6 +196,8 @@ def main():
     form.add_argument("--csv", action="store_true", help="a table with one line for each lecture")
     form.add_argument("--ics", action="store_true", help="an iCalendar file of the first week")
     parser.add_argument("--no-formulas", action="store_true", help="with --csv: an apostrophe before each name that looks like a formula")
+    parser.add_argument("--days", metavar="NAME,..", help="the names of the days in the table")
+    parser.add_argument("--periods", metavar="NAME,..", help="the names of the periods of a day in the table")
     parser.add_argument("--first-day", type=datetime.date.fromisoformat, metavar="YYYY-MM-DD", help="the date of day 0")
     parser.add_argument("--times", metavar="HH:MM,..", help="when the periods of a day begin")
     parser.add_argument("--minutes", type=int, default=90, help="how long a lecture is (default: 90)")
@@ -192,6 +208,8 @@ def main():
     try:
         instance = read_instance(options.instance)
         week = read_week(options.solution, instance)
+        options.days = read_names("--days", options.days, instance[1])
+        options.periods = read_names("--periods", options.periods, instance[2])
         if options.times is not None:
             options.times = read_times(options.times, instance[2])
         (put_csv if options.csv else put_ics)(out, instance, week, options)

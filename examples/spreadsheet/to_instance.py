@@ -4,8 +4,9 @@
     python3 to_instance.py FOLDER [--name NAME] [--days 5] [--periods 4] > INSTANCE
 
 FOLDER has courses.csv, rooms.csv, curricula.csv and unavailability.csv, as a spreadsheet program saves them. The first line of
-each names the columns; unavailability.csv may be missing. If something is wrong, nothing is written: each problem is one line on standard error,
-with its file, line and column, and how many more lines have it, and the exit status is 2.
+each names the columns; unavailability.csv may be missing. In place of their numbers --days and --periods may have the names that the tables give
+to days and periods, as --days Montag,Dienstag,Mittwoch --periods 8:00,10:00. If something is wrong, nothing is written: each problem is one line
+on standard error, with its file, line and column, and how many more lines have it, and the exit status is 2.
 """
 import argparse
 import csv
@@ -125,10 +126,18 @@ def read_curricula(folder, courses):
     return curricula
 
 
-def day_of(file, line, text, days):
-    """The number of a day: the name of a weekday, where Monday is 0, or its number."""
+def named(text, names):
+    """The number of a name among those given, or None."""
+    found = [at for at, name in enumerate(names) if word(name).casefold() == text.casefold()]
+    return found[0] if found else None
+
+
+def day_of(file, line, text, days, day_names):
+    """The number of a day: one of the names given, the name of a weekday, where Monday is 0, or its number."""
     if not text:
         return None
+    if named(text, day_names) is not None:
+        return named(text, day_names)
     names = [at for at, name in enumerate(WEEKDAYS) if len(text) >= 2 and name.startswith(text.lower())]
     if names and names[0] >= days:
         report(file, line, "day", f"'{text}' is day {names[0]}, but the week has only the days 0 to {days - 1}")
@@ -141,14 +150,22 @@ def day_of(file, line, text, days):
     return None
 
 
+def period_of(file, line, text, periods, period_names):
+    """The number of a period: one of the names given, or its number."""
+    if named(text, period_names) is not None:
+        return named(text, period_names)
+    return number(file, line, "period", text, periods - 1)
+
+
 def read_unavailability(folder, courses, days, periods):
+    """The periods in which courses can't meet; days and periods are each a number and their names."""
     file, found = "unavailability.csv", {}
     if not os.path.lexists(os.path.join(folder, file)):
         return []
     for line, cells in read_rows(folder, file):
         check_course(file, line, cells["course"], courses)
-        day = day_of(file, line, cells["day"], days)
-        period = number(file, line, "period", cells["period"], periods - 1)
+        day = day_of(file, line, cells["day"], *days)
+        period = period_of(file, line, cells["period"], *periods)
         found[cells["course"], day, period] = None
     return list(found)
 
@@ -170,13 +187,26 @@ def instance_text(name, days, periods, courses, rooms, curricula, bars):
     return "\n".join(lines + ["", "END.", ""])
 
 
+def counted(text):
+    """A number of days or of periods and their names, if names are given."""
+    if text.isascii() and text.isdigit():
+        return int(text), []
+    names = text.split(",")
+    if not all(word(name) for name in names) or len({word(name).casefold() for name in names}) < len(names):
+        raise argparse.ArgumentTypeError("a number, or names that differ, separated by commas")
+    return len(names), names
+
+
 def main():
     parser = argparse.ArgumentParser(description="Writes an instance file from the four tables of a spreadsheet.")
     parser.add_argument("folder")
     parser.add_argument("--name", help="the name of the instance; that of the folder if none is given")
-    parser.add_argument("--days", type=int, choices=range(1, 8), default=5, help="how many days the week has (default: 5)")
-    parser.add_argument("--periods", type=int, choices=range(1, 65), metavar="1..64", default=4, help="how many periods a day has (default: 4)")
+    parser.add_argument("--days", type=counted, default="5", help="how many days the week has, 1 to 7, or their names (default: 5)")
+    parser.add_argument("--periods", type=counted, default="4", help="how many periods a day has, 1 to 64, or their names (default: 4)")
     options = parser.parse_args()
+    for option, (count, _), most in (("--days", options.days, 7), ("--periods", options.periods, 64)):
+        if not 1 <= count <= most:
+            parser.error(f"{option}: {count} is not from 1 to {most}")
     name = word(options.name or os.path.basename(os.path.abspath(options.folder)))
     courses = read_records(options.folder, "courses.csv")
     rooms = read_records(options.folder, "rooms.csv")
@@ -187,7 +217,7 @@ def main():
     if problems:
         print("\n".join(problem_lines()), file=sys.stderr)
         return 2
-    text = instance_text(name, options.days, options.periods, courses, rooms, curricula, bars)
+    text = instance_text(name, options.days[0], options.periods[0], courses, rooms, curricula, bars)
     sys.stdout.buffer.write(text.encode("utf-8"))
     return 0
 

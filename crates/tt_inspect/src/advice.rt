@@ -2,6 +2,7 @@
 
 ghost use Rattle.std.specs.Prelude.{◌<◌, length};
 
+use crate::alike::put_alike;
 use crate::counts::Counts;
 use crate::impossible::put_impossible;
 use crate::lists::put_concerns;
@@ -101,6 +102,7 @@ pub fn put_advice(
     let some = put_impossible(text, instance, counts)?;
     put_courses(text, instance)?;
     put_concerns(text, instance, counts)?;
+    put_alike(text, instance)?;
     if text.len() == before {
         text.push_str("nothing to look at\n")?;
     }

@@ -2,6 +2,7 @@
 #![tactic(auto)]
 
 mod advice;
+mod alike;
 mod counts;
 mod course_names;
 mod excerpt;

@@ -321,3 +321,28 @@ fn files_that_cannot_be_read(rt: HostRuntime) -> Result<(), Fail> {
     }
     Ok(())
 }
+
+/// Five courses; one teacher is typed in three ways.
+const TYPED: &str =
+    "Name: Typed\nCourses: 5\nRooms: 1\nDays: 2\nPeriods_per_day: 3\nCurricula: 1\nConstraints: 0\n\nCOURSES:\na Prof._Curie 1 1 1\nb Prof_Curie 1 1 1\nc Curie 1 1 1\nd prof-curie 1 1 1\ne Żak 1 1 1\n\nROOMS:\nR 1\n\nCURRICULA:\nq 5 a b c d e\n\nUNAVAILABILITY_CONSTRAINTS:\n\nEND.\n";
+
+#[test]
+fn teachers_typed_in_two_ways(rt: HostRuntime) -> Result<(), Fail> {
+    let alloc = rt.alloc();
+    let outcome = inspected(alloc, TYPED)?;
+    assert!(rt;
+        outcome.out.as_str().ends_with(
+            "look at: alike: \"Prof._Curie\", \"Prof_Curie\"\nlook at: alike: \"Prof._Curie\", \"prof-curie\"\n"
+        )
+    );
+    // Letters beyond ASCII tell names apart.
+    let others = edited(alloc, TYPED, "Prof._Curie", "Źak")?;
+    let outcome = inspected(alloc, &others)?;
+    assert!(rt;
+        outcome
+            .out
+            .as_str()
+            .ends_with("look at: alike: \"Prof_Curie\", \"prof-curie\"\n")
+    );
+    Ok(())
+}

@@ -1,0 +1,4 @@
+pub mod Counts
+pub mod Inner
+pub mod Lines
+pub mod Lists
