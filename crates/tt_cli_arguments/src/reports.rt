@@ -31,6 +31,14 @@ pub struct ReportRequest<'a> {
     pub by: By,
 }
 
+/// The files of `report --changes`.
+#[derive(Clone, Copy, Debug)]
+pub struct ChangesRequest<'a> {
+    pub files: TimetableFiles<'a>,
+    /// The solution from which lectures moved.
+    pub older: &'a str,
+}
+
 /// The files of `report --ics`, and the calendar.
 #[derive(Clone, Copy, Debug)]
 pub struct CalendarRequest<'a> {
@@ -43,7 +51,7 @@ const BY: Argument<'static> = Argument {
     id: "by",
     form: Form::Choice("KIND", &By::WORDS),
     help: "Whose weeks are shown",
-    condition: Some(Condition::RequiredUnless("csv")),
+    condition: Some(Condition::RequiredUnless(&["csv", "changes"])),
 };
 
 /// The option that prints a table instead of weeks.
@@ -51,7 +59,15 @@ const CSV: Argument<'static> = Argument {
     id: "csv",
     form: Form::Flag,
     help: "Prints one line for each lecture, for a spreadsheet",
-    condition: Some(Condition::ConflictsWith("by")),
+    condition: Some(Condition::ConflictsWith(&["by"])),
+};
+
+/// The option that prints what changed instead of weeks.
+const CHANGES: Argument<'static> = Argument {
+    id: "changes",
+    form: Form::Value("OLDER"),
+    help: "Prints each lecture that moved since this older solution, and how many did",
+    condition: Some(Condition::ConflictsWith(&["by", "csv"])),
 };
 
 /// The option that prints a calendar instead of weeks.
@@ -104,7 +120,8 @@ pub const REPORT: Description<'static> = Description {
     about: "Prints the week of each room, teacher or curriculum",
     example: "Example: tt report week.ctt week.sol --by teacher",
     arguments: &[
-        INSTANCE, SOLUTION, BY, CSV, ICS, FIRST_DAY, TIMES, MINUTES, WEEKS, PROGRESS, QUIET,
+        INSTANCE, SOLUTION, BY, CSV, CHANGES, ICS, FIRST_DAY, TIMES, MINUTES, WEEKS, PROGRESS,
+        QUIET,
     ],
 };
 
@@ -141,6 +158,9 @@ pub fn report_request<'a>(found: &ArgMatches<'a>) -> Option<Request<'a>> {
     };
     if found.get_flag("csv") {
         return Some(Request::Table(files));
+    }
+    if let Some(older) = found.get_str("changes") {
+        return Some(Request::Changes(ChangesRequest { files, older }));
     }
     if let Some(name) = found.get_str("ics") {
         let calendar = calendar_wish(found, name)?;
