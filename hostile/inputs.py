@@ -259,6 +259,8 @@ def missing_files(desk):
         ("improve instance none out", "solution"),
         ("solve none out proof", "instance"),
         ("report instance none --by room", "solution"),
+        ("report instance none --changes solution", "solution"),
+        ("report instance solution --changes none", "older solution"),
         ("page instance none out", "solution"),
         ("sum none proof", "instance"),
         ("sum instance --solution none proof", "solution"),

@@ -827,7 +827,7 @@ def a_closed_output(desk):
     desk.put(instance=GAP, solution=APART, proof=GAP_PROOF)
     full = b"refused: cannot write: standard output: No space left on device (os error 28)\n"
     for words in ["", "--help", "check instance solution proof", "sum instance proof", "report instance solution --by room", "report instance solution --csv",
-                  "inspect instance", "solve instance out other"]:
+                  "report instance solution --changes solution", "inspect instance", "solve instance out other"]:
         with open("/dev/full", "wb") as taken:
             done = subprocess.run([PROGRAM, *words.split()], cwd=desk.folder, stdout=taken, stderr=subprocess.PIPE, timeout=60)
         same((done.returncode, done.stderr), (2, full))

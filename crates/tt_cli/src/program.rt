@@ -4,8 +4,8 @@ use clap::error::ErrorKind;
 use std::io::Write;
 use tt_cli_arguments::{Request, parse_arguments};
 use tt_cli_checks::{
-    answer_bound, answer_calendar, answer_check, answer_inspect, answer_page, answer_stored,
-    answer_sum, answer_table, answer_upgrade, answer_validate, report_to,
+    answer_bound, answer_calendar, answer_changes, answer_check, answer_inspect, answer_page,
+    answer_stored, answer_sum, answer_table, answer_upgrade, answer_validate, report_to,
 };
 use tt_cli_files::{Printed, Rescued, StandardStream, Unwritten, Whereabouts, WriteFault};
 use tt_cli_saving::{CommandFault, Reply, World};
@@ -79,6 +79,7 @@ fn reply_to<R: World, O: Write, E: Write>(
         Request::Best(request) => answer_best(rt, err, *request),
         Request::Report(request) => { Ok(Reply::silent(rt.alloc(), report_to(rt, *request, out)?)) }
         Request::Table(request) => answer_table(rt, *request),
+        Request::Changes(request) => answer_changes(rt, *request),
         Request::Calendar(request) => answer_calendar(rt, *request),
     }
 }

@@ -10,7 +10,9 @@ use crate::files::TimetableFiles;
 use crate::inspect::{INSPECT, InspectRequest, inspect_request};
 use crate::pages::{PAGE, PageRequest, page_request};
 use crate::parts::{PARTS, PartsRequest, parts_request};
-use crate::reports::{CalendarRequest, REPORT, ReportRequest, TableRequest, report_request};
+use crate::reports::{
+    CalendarRequest, ChangesRequest, REPORT, ReportRequest, TableRequest, report_request,
+};
 use crate::searches::{
     IMPROVE, ImproveRequest, SOLVE, SolveRequest, improve_request, solve_request,
 };
@@ -34,6 +36,7 @@ pub enum Request<'a> {
     Best(BestRequest<'a>),
     Report(ReportRequest<'a>),
     Table(TableRequest<'a>),
+    Changes(ChangesRequest<'a>),
     Calendar(CalendarRequest<'a>),
 }
 

@@ -36,10 +36,10 @@ pub struct Range<'a> {
 /// A condition on other arguments under which an argument may or must be given.
 #[derive(Clone, Copy)]
 pub enum Condition<'a> {
-    /// The argument must be given unless this one is.
-    RequiredUnless(&'a str),
-    /// The argument can't be given together with this one.
-    ConflictsWith(&'a str),
+    /// The argument must be given unless one of these is.
+    RequiredUnless(&'a [&'a str]),
+    /// The argument can't be given together with one of these.
+    ConflictsWith(&'a [&'a str]),
     /// The argument can be given only together with each of these.
     Requires(&'a [&'a str]),
 }
@@ -104,8 +104,8 @@ fn with_condition<'a>(
 ) -> Result<Arg<'a>, AllocError> {
     match condition {
         None => Ok(arg),
-        Some(Condition::RequiredUnless(id)) => arg.required_unless_present(id),
-        Some(Condition::ConflictsWith(id)) => arg.conflicts_with(id),
+        Some(Condition::RequiredUnless(ids)) => arg.required_unless_present_any(ids),
+        Some(Condition::ConflictsWith(ids)) => arg.conflicts_with_all(ids),
         Some(Condition::Requires(ids)) => arg.requires_all(ids),
     }
 }

@@ -21,7 +21,7 @@ pub use files::TimetableFiles;
 pub use inspect::InspectRequest;
 pub use pages::{NamesWish, PageRequest};
 pub use parts::{PartSearch, PartsRequest};
-pub use reports::{CalendarRequest, CalendarWish, ReportRequest, TableRequest};
+pub use reports::{CalendarRequest, CalendarWish, ChangesRequest, ReportRequest, TableRequest};
 pub use searches::{ImproveRequest, MAX_SOLVE_NODES, Search, SolveRequest, TreeSearch};
 pub use showing::Showing;
 pub use sums::SumRequest;

@@ -38,6 +38,14 @@ pub struct TableRequest<'a> {
     pub bars_formulas: bool,
 }
 
+/// The files of `report --changes`.
+#[derive(Clone, Copy, Debug)]
+pub struct ChangesRequest<'a> {
+    pub files: TimetableFiles<'a>,
+    /// The solution from which lectures moved.
+    pub older: &'a str,
+}
+
 /// The files of `report --ics`, and the calendar.
 #[derive(Clone, Copy, Debug)]
 pub struct CalendarRequest<'a> {
@@ -50,7 +58,7 @@ const BY: Argument<'static> = Argument {
     id: "by",
     form: Form::Choice("KIND", &By::WORDS),
     help: "Whose weeks are shown",
-    condition: Some(Condition::RequiredUnless("csv")),
+    condition: Some(Condition::RequiredUnless(&["csv", "changes"])),
 };
 
 /// The option that prints a table instead of weeks.
@@ -58,7 +66,15 @@ const CSV: Argument<'static> = Argument {
     id: "csv",
     form: Form::Flag,
     help: "Prints one line for each lecture, for a spreadsheet",
-    condition: Some(Condition::ConflictsWith("by")),
+    condition: Some(Condition::ConflictsWith(&["by"])),
+};
+
+/// The option that prints what changed instead of weeks.
+const CHANGES: Argument<'static> = Argument {
+    id: "changes",
+    form: Form::Value("OLDER"),
+    help: "Prints each lecture that moved since this older solution, and how many did",
+    condition: Some(Condition::ConflictsWith(&["by", "csv"])),
 };
 
 /// The option that lets no name be a formula.
@@ -124,6 +140,7 @@ pub const REPORT: Description<'static> = Description {
         BY,
         CSV,
         NO_FORMULAS,
+        CHANGES,
         ICS,
         FIRST_DAY,
         TIMES,
@@ -171,6 +188,9 @@ pub fn report_request<'a>(found: &ArgMatches<'a>) -> Option<Request<'a>> {
             files,
             bars_formulas,
         }));
+    }
+    if let Some(older) = found.get_str("changes") {
+        return Some(Request::Changes(ChangesRequest { files, older }));
     }
     if let Some(name) = found.get_str("ics") {
         let calendar = calendar_wish(found, name)?;

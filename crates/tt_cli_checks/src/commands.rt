@@ -2,6 +2,7 @@
 
 pub mod bound;
 pub mod calendar;
+pub mod changes;
 pub mod check;
 pub mod inspect;
 pub mod page;

@@ -7,6 +7,7 @@ mod timetable;
 
 pub use commands::bound::answer_bound;
 pub use commands::calendar::answer_calendar;
+pub use commands::changes::answer_changes;
 pub use commands::check::{answer_check, answer_stored};
 pub use commands::inspect::answer_inspect;
 pub use commands::page::answer_page;

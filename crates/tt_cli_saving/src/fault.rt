@@ -5,6 +5,7 @@ use std::alloc::{AllocError, AllocFailed};
 use std::io;
 use thiserror::Error;
 use tt_call_answers::AppFault;
+use tt_call_changes::ChangesFault;
 use tt_cli_files::WriteFault;
 
 /// The reason why a command is refused.
@@ -14,6 +15,8 @@ pub enum CommandFault {
     OutOfMemory,
     #[error("{0}")]
     Call(AppFault),
+    #[error("{0}")]
+    Changes(ChangesFault),
     /// A call was refused since the file of this path couldn't be read.
     #[error("{fault}: {path}: {reason}")]
     Unread {
@@ -42,6 +45,12 @@ impl<T: Drop> From<AllocFailed<T>> for CommandFault {
 impl From<AppFault> for CommandFault {
     fn from(fault: AppFault) -> CommandFault {
         CommandFault::Call(fault)
+    }
+}
+
+impl From<ChangesFault> for CommandFault {
+    fn from(fault: ChangesFault) -> CommandFault {
+        CommandFault::Changes(fault)
     }
 }
 

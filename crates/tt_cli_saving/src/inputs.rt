@@ -20,6 +20,9 @@ pub enum Input {
     Instance,
     #[error("solution")]
     Solution,
+    /// The solution with which another one is compared.
+    #[error("older solution")]
+    OlderSolution,
     #[error("proof")]
     Proof,
     /// One of several proofs, by its number from 1 on.

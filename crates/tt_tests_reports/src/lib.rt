@@ -4,6 +4,8 @@
 #[cfg(test)]
 mod buffers;
 #[cfg(test)]
+mod changes;
+#[cfg(test)]
 mod explaining;
 #[cfg(test)]
 mod exports;
