@@ -1,10 +1,10 @@
-//! A search for plans of low cost: several plans at temperatures of their own, which change places now and then (tempering). Nothing is
-//! proved about what it finds; what it hands out is a list of moves.
+//! A search for plans of low cost: one plan is heated and cooled slowly, in cycles. Nothing is proved about what it finds; what it hands out
+//! is a list of moves.
 #![tactic(auto)]
 
+mod cooling;
 mod draft;
 mod incumbent;
-mod ladder;
 mod scale;
 mod schedule;
 mod stepping;

@@ -9,18 +9,10 @@ const UNIT: u64 = 1_024;
 /// The number of curricula of a course whose load is 1.
 const CURRICULA: u64 = 3;
 
-/// The number of plans at a load of 1.
-const PLANS: u64 = 6;
-
-/// The minimum and the maximum number of plans.
-const FEWEST_PLANS: u64 = 3;
-
-const MOST_PLANS: u64 = 16;
-
-/// The temperature of the coldest place, in hundredths of a point.
+/// The temperature at the end of a cycle, in hundredths of a point.
 const COLDEST: i64 = 23;
 
-/// The temperature of the hottest place at a load of 1, in hundredths of a point.
+/// The temperature at the beginning of a cycle at a load of 1, in hundredths of a point.
 const HOTTEST: i64 = 90;
 
 /// The temperature at which a plan forgets its start at a load of 1, in hundredths of a point.
@@ -64,18 +56,12 @@ impl Load {
         self.units.saturating_mul(UNIT).isqrt()
     }
 
-    /// Returns the number of plans.
-    pub fn plans(self) -> usize {
-        let plans = self.root().saturating_mul(PLANS).saturating_add(UNIT / 2) / UNIT;
-        plans.clamp(FEWEST_PLANS, MOST_PLANS) as usize
-    }
-
-    /// Returns the level of the coldest place.
+    /// Returns the level at the end of a cycle.
     pub fn coldest() -> i64 {
         level(COLDEST, UNIT)
     }
 
-    /// Returns the level of the hottest place: it grows with the load to the power of 1.75.
+    /// Returns the level at the beginning of a cycle: it grows with the load to the power of 1.75.
     pub fn hottest(self) -> i64 {
         let quarter_root = self.root().saturating_mul(UNIT).isqrt().max(1);
         let square = self.units.saturating_mul(self.units);

@@ -2,11 +2,13 @@
 
 use tt_plans::Sizes;
 
-/// The number of steps at each place between two exchanges.
+/// The number of steps between two looks at what else is due.
 pub const ROUND: u64 = 300;
 
-/// The number of steps from which on there are two cycles. In the last one, missing days weigh more the hotter the place is.
-const TWO_CYCLES: u64 = 20_000_000;
+/// The number of steps of a cycle for each lecture, and the minimum number, if there are several cycles.
+const CYCLE: u64 = 45_000;
+
+const LEAST_CYCLE: u64 = 12_000_000;
 
 /// The number of times that homes alone are searched at the end.
 pub const SETTLINGS: u64 = 10;
@@ -25,15 +27,25 @@ const PLACES_WEIGHED: u64 = 8;
 /// The steps of a search.
 #[derive(Clone, Copy)]
 pub struct Schedule {
-    /// All steps of all plans.
+    /// All steps.
     pub steps: u64,
     /// The steps that were made.
     pub made: u64,
+    /// The steps of each cycle.
+    pub cycle: u64,
     lectures: u64,
     /// The steps that take as long as rooms for a plan.
     seating: u64,
     /// The steps since rooms were last given.
     since: u64,
+}
+
+/// Returns the number of steps of each cycle. All are about as long.
+fn cycle_of(steps: u64, lectures: u64) -> u64 {
+    let wanted = lectures.saturating_mul(CYCLE).max(LEAST_CYCLE);
+    let cycles = steps.saturating_add(wanted / 2).checked_div(wanted);
+    let cycle = steps.checked_div(cycles.unwrap_or(1).max(1));
+    cycle.unwrap_or(steps).max(1)
 }
 
 impl Schedule {
@@ -43,28 +55,16 @@ impl Schedule {
         Schedule {
             steps,
             made: 0,
+            cycle: cycle_of(steps, lectures),
             lectures,
             seating: lectures.saturating_mul(rooms) / PLACES_WEIGHED,
             since: 0,
         }
     }
 
-    /// Returns the number of steps of a cycle.
-    pub fn cycle(self) -> u64 {
-        if self.steps < TWO_CYCLES {
-            return self.steps.max(1);
-        }
-        self.steps / 2
-    }
-
     /// Returns the number of steps that were made in the present cycle.
     pub fn made_in_cycle(self) -> u64 {
-        self.made.checked_rem(self.cycle()).unwrap_or(0)
-    }
-
-    /// Checks whether the present cycle is one in which hot places weigh missing days more.
-    pub fn is_weighing_days(self) -> bool {
-        self.steps < TWO_CYCLES || self.made >= self.cycle()
+        self.made.checked_rem(self.cycle).unwrap_or(0)
     }
 
     /// Checks whether all steps are made.

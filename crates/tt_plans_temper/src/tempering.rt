@@ -1,8 +1,8 @@
-//! Tempering.
+//! The search, by heat.
 
+use crate::cooling::{Cooling, ROUNDS};
 use crate::draft::Draft;
 use crate::incumbent::Incumbent;
-use crate::ladder::{Ladder, ROUNDS};
 use crate::scale::Load;
 use crate::schedule::{ROUND, SETTLINGS, Schedule};
 use crate::stepping::Stepper;
@@ -15,9 +15,6 @@ use tt_plans_odds::{CERTAIN, Dice, Heat, POINT, logarithm};
 use tt_plans_redraw::can_redraw;
 use tt_plans_tables::put;
 
-/// The amount that a missing day costs more at the hottest place, in quarters of a point, in a cycle that weighs days.
-const DEARER_DAYS: i64 = 3 * POINT;
-
 /// The amount that a clash costs more in one of the plans of a round that are kept, in quarters of a point.
 const DEARER_CLASHES: i64 = 29 * POINT;
 
@@ -25,7 +22,7 @@ const DEARER_CLASHES: i64 = 29 * POINT;
 const CHEAPER_CLASHES: i64 = POINT / 2;
 
 /// The number of rounds between two such searches, and the number of steps of each at every temperature.
-const ROUNDS_BETWEEN_HOMES: u64 = 20;
+const ROUNDS_BETWEEN_HOMES: u64 = 40;
 
 const HOME_STEPS: u64 = 3_000;
 
@@ -40,18 +37,17 @@ const STAGES: u64 = 64;
 /// The maximum number of rooms.
 const MOST_ROOMS: u32 = 512;
 
-/// Several plans at temperatures of their own.
+/// A plan that is heated and cooled slowly.
 #[derive(Drop)]
 pub struct Tempering {
     facts: Facts,
     dice: Dice,
     stepper: Stepper,
-    ladder: Ladder,
-    schedule: Schedule,
     load: Load,
-    plans: Vec<Plan>,
-    /// The plan at each place, the coldest place first.
-    order: Vec<usize>,
+    cooling: Cooling,
+    schedule: Schedule,
+    plan: Plan,
+    heat: Heat,
     incumbent: Incumbent,
     /// The plan of least cost since rooms were last given, if it costs less than the best timetable.
     cheapest: Draft,
@@ -61,7 +57,7 @@ pub struct Tempering {
     barest: Draft,
     /// The plan whose homes are searched alone.
     homed: Plan,
-    melted: usize,
+    is_melted: bool,
     rounds: u64,
     settled: u64,
 }
@@ -89,31 +85,6 @@ fn start_of(
     let cost = i64::try_from(occupied.score().cost()).unwrap_or(i64::MAX);
     draft.cost = cost.saturating_mul(POINT);
     Ok(draft)
-}
-
-/// Returns this many copies of a plan. Fails if memory runs out.
-fn plans_of(
-    alloc: Global,
-    facts: &Facts,
-    start: &Draft,
-    count: usize,
-) -> Result<Vec<Plan>, AllocError> {
-    let mut plans = Vec::new(alloc);
-    for _ in 0..count {
-        let mut plan = Plan::new(alloc, facts)?;
-        plan.read(facts, &start.slots, &start.homes);
-        plans.push(plan)?;
-    }
-    Ok(plans)
-}
-
-/// Returns the numbers below a limit.
-fn numbers_below(alloc: Global, limit: usize) -> Result<Vec<usize>, AllocError> {
-    let mut numbers = Vec::new(alloc);
-    for number in 0..limit {
-        numbers.push(number)?;
-    }
-    Ok(numbers)
 }
 
 /// Returns the temperature of a stage of a search for homes.
@@ -157,7 +128,8 @@ impl Tempering {
         let facts = Facts::new(alloc, occupied)?;
         let load = Load::new(&facts);
         let start = start_of(alloc, &facts, occupied)?;
-        let plans = plans_of(alloc, &facts, &start, load.plans())?;
+        let mut plan = Plan::new(alloc, &facts)?;
+        plan.read(&facts, &start.slots, &start.homes);
         let mut cheapest = Draft::new(alloc, &facts)?;
         let mut clearest = Draft::new(alloc, &facts)?;
         let mut barest = Draft::new(alloc, &facts)?;
@@ -165,20 +137,20 @@ impl Tempering {
         clearest.cost = start.cost;
         barest.cost = start.cost;
         Ok(Tempering {
-            order: numbers_below(alloc, plans.len())?,
             dice: Dice::new(alloc, seed)?,
             stepper: Stepper::new(alloc, &facts)?,
-            ladder: Ladder::new(alloc, load, plans.len())?,
-            schedule: Schedule::new(steps, facts.sizes),
             load,
-            plans,
+            cooling: Cooling::new(load),
+            schedule: Schedule::new(steps, facts.sizes),
+            plan,
+            heat: Heat::new(load.melting()),
             incumbent: Incumbent::new(alloc, &facts, start)?,
             cheapest,
             clearest,
             barest,
             homed: Plan::new(alloc, &facts)?,
             facts,
-            melted: 0,
+            is_melted: false,
             rounds: 0,
             settled: 0,
         })
@@ -206,20 +178,18 @@ impl Tempering {
 
     /// Makes a part of the search, of some milliseconds. Returns whether a better timetable was found.
     pub fn advance(&mut self) -> bool {
-        if self.melted < self.plans.len() {
+        if !self.is_melted {
             self.melt();
             return false;
         }
         if self.schedule.is_over() {
             return self.settle_homes();
         }
-        let made = self.schedule.made;
         self.make_round();
-        let steps = self.schedule.made.saturating_sub(made);
         let is_last = self.schedule.is_over();
         let is_search_due = is_last || self.rounds % ROUNDS_BETWEEN_HOMES == 0;
         let is_homed = is_search_due && self.challenge_by_barest();
-        let is_seated = self.schedule.is_seating_due(steps, is_last) && self.challenge();
+        let is_seated = self.schedule.is_seating_due(ROUND, is_last) && self.challenge();
         is_homed || is_seated
     }
 
@@ -262,96 +232,43 @@ impl Tempering {
         is_cheaper || is_clearer
     }
 
-    /// Lets another plan forget its start.
+    /// Lets the plan forget its start.
     fn melt(&mut self) {
-        if let Some(plan) = self.plans.get_mut(self.melted) {
-            let heat = Heat::new(self.load.melting());
-            for _ in 0..self.schedule.melting() {
-                self.stepper.melt(&self.facts, plan, &mut self.dice, heat);
-            }
+        let heat = Heat::new(self.load.melting());
+        for _ in 0..self.schedule.melting() {
+            self.stepper
+                .melt(&self.facts, &mut self.plan, &mut self.dice, heat);
         }
-        self.melted = self.melted.saturating_add(1);
+        self.is_melted = true;
     }
 
-    /// Returns the cost of a missing day at a place.
-    fn day_cost(&self, place: usize) -> i64 {
-        if !self.schedule.is_weighing_days() {
-            return DAY_COST;
-        }
-        let places = self.plans.len().saturating_sub(1).max(1);
-        let part = i64::try_from(place)
-            .unwrap_or(0)
-            .wrapping_mul(DEARER_DAYS)
-            .checked_div(i64::try_from(places).unwrap_or(1))
-            .unwrap_or(0);
-        DAY_COST.wrapping_add(part)
-    }
-
-    /// Makes the steps of a round at each place, and lets neighbours change places.
+    /// Makes the steps of a round, and keeps the cheapest plans.
     fn make_round(&mut self) {
         if self.rounds % ROUNDS == 0 {
-            self.ladder.adjust(&self.dice, self.schedule);
+            self.heat = self.cooling.heat(&self.dice, self.schedule);
+            self.plan.weigh_days(self.cooling.day_cost(self.heat));
         }
-        let places = self.order.len();
-        for place in 0..places {
-            self.walk(place);
-            self.schedule.count(ROUND);
+        for _ in 0..ROUND {
+            if self
+                .stepper
+                .step(&self.facts, &mut self.plan, &mut self.dice, self.heat)
+            {
+                self.keep();
+            }
         }
-        for pair in 0..places / 2 {
-            let place = pair
-                .wrapping_mul(2)
-                .wrapping_add((self.rounds % 2) as usize);
-            self.exchange(place);
-        }
+        self.schedule.count(ROUND);
         self.rounds = self.rounds.saturating_add(1);
     }
 
-    /// Makes the steps of a round at a place.
-    fn walk(&mut self, place: usize) {
-        let (heat, day_cost) = (self.ladder.heat(place), self.day_cost(place));
-        let number = self.order.get(place).copied().unwrap_or(0);
-        let Some(plan) = self.plans.get_mut(number) else {
-            return;
-        };
-        plan.weigh_days(day_cost);
-        for _ in 0..ROUND {
-            if self.stepper.step(&self.facts, plan, &mut self.dice, heat) {
-                let cost = plan.cost_with(DAY_COST);
-                self.cheapest.keep(plan, cost);
-                let dearer = plan.clashes.wrapping_mul(DEARER_CLASHES);
-                self.clearest.keep(plan, cost.wrapping_add(dearer));
-                let cheaper = plan.clashes.wrapping_mul(CHEAPER_CLASHES);
-                self.barest.keep(plan, cost.wrapping_sub(cheaper));
-            }
-        }
-    }
-
-    /// Returns the wait for an exchange of the plans at a place and at the next one.
-    fn wait_for_exchange(&self, place: usize) -> Option<i64> {
-        let next = place.saturating_add(1);
-        let plan = self.plans.get(*self.order.get(place)?)?;
-        let other = self.plans.get(*self.order.get(next)?)?;
-        let (here, there) = (self.day_cost(place), self.day_cost(next));
-        let colder = other.cost_with(here).wrapping_sub(plan.cost_with(here));
-        let warmer = plan.cost_with(there).wrapping_sub(other.cost_with(there));
-        let wait = self.ladder.heat(place).wait(colder);
-        Some(wait.saturating_add(self.ladder.heat(next).wait(warmer)))
-    }
-
-    /// Lets the plans at a place and at the next one change places, by their odds.
-    fn exchange(&mut self, place: usize) {
-        let Some(wait) = self.wait_for_exchange(place) else {
-            return;
-        };
-        let chance = self.dice.chance(wait);
-        self.ladder.count(place, chance);
-        if wait <= self.dice.wait() {
-            let next = place.saturating_add(1);
-            let number = self.order.get(place).copied().unwrap_or(0);
-            let other = self.order.get(next).copied().unwrap_or(0);
-            put(&mut self.order, place, other);
-            put(&mut self.order, next, number);
-        }
+    /// Keeps the plan where it is cheaper than those that were kept.
+    fn keep(&mut self) {
+        let cost = self.plan.cost_with(DAY_COST);
+        let clashes = self.plan.clashes;
+        let dearer = cost.wrapping_add(clashes.wrapping_mul(DEARER_CLASHES));
+        let cheaper = cost.wrapping_sub(clashes.wrapping_mul(CHEAPER_CLASHES));
+        self.cheapest.keep(&self.plan, cost);
+        self.clearest.keep(&self.plan, dearer);
+        self.barest.keep(&self.plan, cheaper);
     }
 
     /// Searches for homes of the best plan. Returns whether a better timetable was found.

@@ -1,0 +1,59 @@
+//! The temperature of a plan.
+
+use crate::scale::Load;
+use crate::schedule::Schedule;
+use tt_plans::DAY_COST;
+use tt_plans_odds::{CERTAIN, Dice, Heat, NAT, POINT, logarithm};
+
+/// The number of rounds after which the temperature is set anew.
+pub const ROUNDS: u64 = 40;
+
+/// The amount that a missing day costs more while it is hot, in quarters of a point: a plan that gives up a day has more freedom, so heat
+/// prefers it.
+const DEARER_DAYS: i64 = 3 * POINT;
+
+/// The part of the way from the coldest temperature to the hottest one from which on it is hot, in hundredths.
+const DEARER_WAY: i64 = 40;
+
+/// The temperatures at which a cycle begins and ends.
+#[derive(Clone, Copy)]
+pub struct Cooling {
+    hottest: i64,
+    coldest: i64,
+}
+
+impl Cooling {
+    /// Returns the cooling for a load.
+    pub fn new(load: Load) -> Cooling {
+        Cooling {
+            hottest: load.hottest(),
+            coldest: Load::coldest(),
+        }
+    }
+
+    /// Returns the temperature after the steps of a cycle that were made: it falls by the same factor in the same time.
+    pub fn heat(self, dice: &Dice, schedule: Schedule) -> Heat {
+        let hottest = logarithm(self.hottest.cast_unsigned());
+        let coldest = logarithm(self.coldest.cast_unsigned());
+        let height = hottest.saturating_sub(coldest).saturating_add(NAT / 100);
+        let fallen = height
+            .saturating_mul(schedule.made_in_cycle())
+            .checked_div(schedule.cycle)
+            .unwrap_or(0);
+        let chance = dice.chance(i64::try_from(fallen).unwrap_or(i64::MAX));
+        let level = self.hottest.saturating_mul(chance) / CERTAIN;
+        Heat::new(level.max(self.coldest))
+    }
+
+    /// Returns the cost of a missing day at a temperature.
+    pub fn day_cost(self, heat: Heat) -> i64 {
+        let above = heat.level().saturating_sub(self.coldest);
+        let height = self.hottest.saturating_sub(self.coldest);
+        let way = height.saturating_mul(DEARER_WAY) / 100;
+        let more = above
+            .saturating_mul(DEARER_DAYS)
+            .checked_div(way)
+            .unwrap_or(0);
+        DAY_COST.wrapping_add(more.clamp(0, DEARER_DAYS))
+    }
+}
