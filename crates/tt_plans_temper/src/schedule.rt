@@ -24,6 +24,9 @@ const MELTING: u64 = 100;
 /// The number of places of lectures that are weighed in the time of a step.
 const PLACES_WEIGHED: u64 = 8;
 
+/// The minimum number of steps between two searches for homes alone.
+const BETWEEN_HOMES: u64 = 12_000;
+
 /// The steps of a search.
 #[derive(Clone, Copy)]
 pub struct Schedule {
@@ -86,6 +89,12 @@ impl Schedule {
             self.since = 0;
         }
         is_due
+    }
+
+    /// Checks whether homes alone are to be searched after this round: all steps are made, or enough since the last search.
+    pub fn is_home_search_due(self) -> bool {
+        let between = self.seating.max(BETWEEN_HOMES);
+        self.is_over() || self.made.checked_rem(between).unwrap_or(0) < ROUND
     }
 
     /// Returns the number of steps in which a plan forgets its start.

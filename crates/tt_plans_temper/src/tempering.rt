@@ -21,9 +21,7 @@ const DEARER_CLASHES: i64 = 29 * POINT;
 /// The amount that a clash costs less in the plan whose homes are searched alone next, in quarters of a point.
 const CHEAPER_CLASHES: i64 = POINT / 2;
 
-/// The number of rounds between two such searches, and the number of steps of each at every temperature.
-const ROUNDS_BETWEEN_HOMES: u64 = 40;
-
+/// The number of steps of such a search at each temperature.
 const HOME_STEPS: u64 = 3_000;
 
 /// The temperature at which the search for homes alone begins, and that at which it ends, in hundredths of a point.
@@ -187,8 +185,7 @@ impl Tempering {
         }
         self.make_round();
         let is_last = self.schedule.is_over();
-        let is_search_due = is_last || self.rounds % ROUNDS_BETWEEN_HOMES == 0;
-        let is_homed = is_search_due && self.challenge_by_barest();
+        let is_homed = self.schedule.is_home_search_due() && self.challenge_by_barest();
         let is_seated = self.schedule.is_seating_due(ROUND, is_last) && self.challenge();
         is_homed || is_seated
     }
