@@ -79,7 +79,14 @@ fn the_page_of_no_timetable(rt: HostRuntime) -> Result<(), Fail> {
     let words = ["validate", "a.ctt", "found/partial.sol"];
     let counts = run_on(rt.alloc(), &words, &memory)?;
     assert_eq!(rt; counts.status, 1);
-    let words = ["page", "a.ctt", "found/partial.sol", "b.html", "--proof", "found/tree.proof"];
+    let words = [
+        "page",
+        "a.ctt",
+        "found/partial.sol",
+        "b.html",
+        "--proof",
+        "found/tree.proof",
+    ];
     let shown = run_on(rt.alloc(), &words, &memory)?;
     assert_eq!(rt; shown.status, 0);
     assert_eq!(rt; memory.text("b.html")?, page);

@@ -20,9 +20,13 @@ use Rattle.tt_call_texts.proofs.calls.page.proved_page.Goals as goal
 pub returns-in_err-instance-clause-only : goal.returns-in_err-instance-clause-only
 returns-in_err-instance-clause-only g c =
     let e = err_from_is_err_and c.from_residual.result c.from_residual.ensures.1 in
-    λ p t l files b both named given h within. (proved_of b, by_bound p b, rw (e.1, e.2)
-    (inl (inl (only_memory c.args.instance.now c.args.solution.now p t _ both
-    (tells_instance c.args.instance.now c.args.solution.now c.in_err-instance.field-0.0 c.in_err-instance.ensures.exact)))))
+    λ p t l files b both named given h within. (
+      proved_of b,
+      by_bound p b,
+      rw (e.1, e.2)
+          (inl (inl (only_memory c.args.instance.now c.args.solution.now p t _ both
+          (tells_instance c.args.instance.now c.args.solution.now c.in_err-instance.field-0.0 c.in_err-instance.ensures.exact)))),
+    )
 
 pub returns-in_err-instance-clause-lower : goal.returns-in_err-instance-clause-lower
 returns-in_err-instance-clause-lower g c =
@@ -32,10 +36,14 @@ returns-in_err-instance-clause-lower g c =
 pub returns-in_err-table-clause-only : goal.returns-in_err-table-clause-only
 returns-in_err-table-clause-only g c =
     let e = err_from_is_err_and c.from_residual-in_err-table.result c.from_residual-in_err-table.ensures.1 in
-    λ p t l files b both named given h within. (proved_of b, by_bound p b, rw (e.1, e.2)
-    (inl (inl (only_memory c.args.instance.now c.args.solution.now p t _ both
-    (tells_solution c.args.instance.now c.args.solution.now c.in_ok-instance.instance c.in_err-table.field-0.0
-    c.in_ok-instance.ensures.found c.in_err-table.ensures.exact)))))
+    λ p t l files b both named given h within. (
+      proved_of b,
+      by_bound p b,
+      rw (e.1, e.2)
+          (inl (inl (only_memory c.args.instance.now c.args.solution.now p t _ both
+          (tells_solution c.args.instance.now c.args.solution.now c.in_ok-instance.instance c.in_err-table.field-0.0
+          c.in_ok-instance.ensures.found c.in_err-table.ensures.exact)))),
+    )
 
 pub returns-in_err-table-clause-lower : goal.returns-in_err-table-clause-lower
 returns-in_err-table-clause-lower g c =
@@ -53,9 +61,13 @@ returns-in_err-labels-clause-fault g c =
 pub returns-in_err-labels-clause-only : goal.returns-in_err-labels-clause-only
 returns-in_err-labels-clause-only g c =
     let e = err_from_is_err_and c.from_residual-in_err-labels.result c.from_residual-in_err-labels.ensures.1 in
-    λ p t l files b both named given h within. (proved_of b, by_bound p b, rw (e.1, e.2)
-    (inl (inl (names_memory c.args.instance.now p c.in_ok-instance.instance c.args.names l c.in_err-labels.field-0.0 both.spelled
-    c.in_ok-instance.ensures.found named c.in_err-labels.ensures))))
+    λ p t l files b both named given h within. (
+      proved_of b,
+      by_bound p b,
+      rw (e.1, e.2)
+          (inl (inl (names_memory c.args.instance.now p c.in_ok-instance.instance c.args.names l c.in_err-labels.field-0.0 both.spelled
+          c.in_ok-instance.ensures.found named c.in_err-labels.ensures))),
+    )
 
 pub returns-in_err-labels-clause-lower : goal.returns-in_err-labels-clause-lower
 returns-in_err-labels-clause-lower g c =
@@ -75,9 +87,11 @@ pub returns-in_err-bound-clause-only : goal.returns-in_err-bound-clause-only
 returns-in_err-bound-clause-only g c =
     let e = err_from_is_err_and c.from_residual-in_err-bound.result c.from_residual-in_err-bound.ensures.1 in
     λ p t l files b both named given h within.
-    let here = sum_here c.args.instance.now files p c.in_ok-instance.instance b both.spelled c.in_ok-instance.ensures.found h within in
-    (proved_of b, by_bound p b,
-    rw (e.1, e.2) (inl (silent_refusal c.in_err-bound.field-0.0 (c.in_err-bound.ensures.only files b given here.is here.within))))
+    let here = sum_here c.args.instance.now files p c.in_ok-instance.instance b both.spelled c.in_ok-instance.ensures.found h within in (
+      proved_of b,
+      by_bound p b,
+      rw (e.1, e.2) (inl (silent_refusal c.in_err-bound.field-0.0 (c.in_err-bound.ensures.only files b given here.is here.within))),
+    )
 
 pub returns-in_err-bound-clause-lower : goal.returns-in_err-bound-clause-lower
 returns-in_err-bound-clause-lower g c =
