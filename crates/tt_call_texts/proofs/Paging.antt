@@ -98,28 +98,28 @@ module _ (i s : List ℕ) (p : Problem) (t : List Cell) (names : PageNames) (spe
       record { problem = p; table = t; labels = l; both = both; named = named; large = size }
   plain_page_tells style l before after page.OutOfMemory named part size = tt
 
-  pub page_tells : (style : List ℕ) (l : Labelled) (b : Bound) (proved : Proved) (gives : List (List ℕ) → Type 0)
+  pub page_tells : (style : List ℕ) (l : Labelled) (b : Bound) (shown : Proved) (gives : List (List ℕ) → Type 0)
       (before after : Option (List ℕ)) (f : PageFault) → labels_for p names ≡ Ok l
-      → ((proofs : List (List ℕ)) → gives proofs → IsSum p proofs b) → HoldsOfAll p b → IsProvedBy p b proved
-      → (f ≡ page.Write → TakesPart before after (page_text p t l proved style)) → ExplainsSize f (page_text p t l proved style)
+      → ((proofs : List (List ℕ)) → gives proofs → IsSum p proofs b) → HoldsOfAll p b → IsProvedBy p b shown
+      → (f ≡ page.Write → TakesPart before after (page_text p t l shown style)) → ExplainsSize f (page_text p t l shown style)
       → IsProvedPageRefusal i s names style gives before after (fault_from_page f)
-  page_tells style l b proved gives before after page.Write named sum holds by part size = record {
+  page_tells style l b shown gives before after page.Write named sum holds by part size = record {
     bound = b;
-    proved = proved;
+    proved = shown;
     paged = record { problem = p; table = t; labels = l; both = both; named = named; within = size; part = part refl };
     proved_by = by;
     sum = sum;
     holds = holds;
   }
-  page_tells style l b proved gives before after page.TooLarge named sum holds by part size = record {
+  page_tells style l b shown gives before after page.TooLarge named sum holds by part size = record {
     bound = b;
-    proved = proved;
+    proved = shown;
     paged = record { problem = p; table = t; labels = l; both = both; named = named; large = size };
     proved_by = by;
     sum = sum;
     holds = holds;
   }
-  page_tells style l b proved gives before after page.OutOfMemory named sum holds by part size = tt
+  page_tells style l b shown gives before after page.OutOfMemory named sum holds by part size = tt
 
 -- the page of the instance and the timetable that were read is that of those that the bytes spell
 pub page_same : (i s : List ℕ) (p read : Problem) (t found : List Cell) (names : PageNames) (l m : Labelled) (a c : Proved)
@@ -134,8 +134,8 @@ page_same i s p read t found names l m a c style both spells solved named given 
     cc
 
 -- what is proved by the bound of the instance that was read is proved by that of the instance that the bytes spell
-pub proved_same : (i : List ℕ) (p read : Problem) (b found : Bound) (proved : Proved) → Spells i p → Spells i read → found ≡ b
-    → IsProvedBy read found proved → IsProvedBy p b proved
-proved_same i p read b found proved spells spelled same by =
+pub proved_same : (i : List ℕ) (p read : Problem) (b found : Bound) (shown : Proved) → Spells i p → Spells i read → found ≡ b
+    → IsProvedBy read found shown → IsProvedBy p b shown
+proved_same i p read b found shown spells spelled same by =
     let here : read ≡ p = spelled_once i read p spelled spells in
-    subst (λ (q : Problem). IsProvedBy q b proved) here (subst (λ (x : Bound). IsProvedBy read x proved) same by)
+    subst (λ (q : Problem). IsProvedBy q b shown) here (subst (λ (x : Bound). IsProvedBy read x shown) same by)

@@ -119,6 +119,11 @@ returns-in_err-proved-clause-only g c =
     let e = err_from_is_err_and c.from_residual-in_err-proved.result c.from_residual-in_err-proved.ensures.1 in
     λ p t l files b both named given h within. (proved_of b, by_bound p b, rw (e.1, e.2) (inl (inl refl)))
 
+pub returns-in_err-proved-clause-failed_read : goal.returns-in_err-proved-clause-failed_read
+returns-in_err-proved-clause-failed_read g c =
+    let e = err_from_is_err_and c.from_residual-in_err-proved.result c.from_residual-in_err-proved.ensures.1 in
+    λ i r found. rw (e.1, e.2) (c.in_ok-bound.ensures.failed i r found)
+
 pub returns-in_err-page-clause-fault : goal.returns-in_err-page-clause-fault
 returns-in_err-page-clause-fault g c =
     let e = err_from_is_err_and c.from_residual-in_err-page.result c.from_residual-in_err-page.ensures.1 in
@@ -175,8 +180,10 @@ returns-clause-only g c =
       proved,
       proved_same c.args.instance.now p c.in_ok-instance.instance b c.in_ok-bound.bound proved both.spelled c.in_ok-instance.ensures.found
           (c.in_ok-bound.ensures.only files b given here.is here.within) c.in_ok-proved.ensures.by,
-      subst (λ (x : List ℕ). Appends (g.W.Sink.contents c.args.sink.now) (g.W.Sink.contents c.page.new.sink) x) same c.in_ok-page.ensures.written,
-      subst IsWithinLimit same c.in_ok-page.ensures.size,
+      (
+        subst (λ (x : List ℕ). Appends (g.W.Sink.contents c.args.sink.now) (g.W.Sink.contents c.page.new.sink) x) same c.in_ok-page.ensures.written,
+        subst IsWithinLimit same c.in_ok-page.ensures.size,
+      ),
     )
 
 pub returns-in_err-instance-clause-failed_read : goal.returns-in_err-instance-clause-failed_read
