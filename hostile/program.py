@@ -52,7 +52,7 @@ IN_FOLDER = {
     "best": {"best.sol": "output solution", "partial.sol": "output solution", "page.html": "output page", "groups.proof": "output proof", "prices.proof": "output proof", "tree.proof": "output proof"},
 }
 INPUT_OPTIONS = {"--solution": "solution", "--from": "solution", "--proof": "proof"}
-FLAGS = {"--keep", "--complete", "--progress", "--quiet", "--csv", "--help", "--version"}
+FLAGS = {"--keep", "--complete", "--progress", "--quiet", "--csv", "--no-formulas", "--help", "--version"}
 
 
 def without_older(files):
