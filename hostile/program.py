@@ -108,7 +108,9 @@ class Command:
         command, words, _ = self.split()
         if command in IN_FOLDER:
             return [(f"{self.folder()}/{name}", role) for name, role in IN_FOLDER[command].items()]
-        return list(zip(words[len(INPUTS.get(command, [])) :], OUTPUTS.get(command, [])))
+        found = list(zip(words[len(INPUTS.get(command, [])) :], OUTPUTS.get(command, [])))
+        # A timetable that breaks hard rules is next to where the best one would be.
+        return found + [(name, "output solution") for name in self.written or {} if name.endswith(".partial")]
 
     def keeps(self):
         return "--keep" in self.words.split()
@@ -318,8 +320,8 @@ class Runs:
         if self.command.searches() and self.own.status != 2:
             for path, role in self.command.outputs():
                 name = str(Path(path))
-                # A timetable in partial.sol breaks hard rules.
-                if not name.endswith("partial.sol") and name in self.own_files and self.own_files[name] != self.shelf.files.get(name):
+                # A timetable in partial.sol or OUT.partial breaks hard rules.
+                if not name.endswith(("partial.sol", ".partial")) and name in self.own_files and self.own_files[name] != self.shelf.files.get(name):
                     assert self.holds(role, self.own_files[name]), f"{name} doesn't hold: {self.own_files[name][:200]}"
 
     def holds(self, role, text):
@@ -420,8 +422,7 @@ class Runs:
     def check_all_failed(self, outcome, where):
         """Where all calls fail from one on, the answer may be cut off, and the reason may be lost."""
         if outcome.status == 2:
-            err = self.after_reason(outcome.err)
-            assert self.what_is_said(err) or not err or (self.own.status == 2 and self.own.err.startswith(err)), where
+            assert self.what_is_said(self.after_reason(outcome.err)) or self.own.err.startswith(outcome.err), where
         else:
             assert outcome.told()[:2] == self.own.told()[:2], where
 
