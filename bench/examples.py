@@ -163,7 +163,7 @@ def table_checks(folder):
     sheets = folder + "/named"
     shutil.copytree(SHEETS, sheets)
     with open(sheets + "/unavailability.csv", "w", encoding="utf-8") as file:
-        file.write("course,day,period\nLinear algebra,mo,8:00\nLogic,Monday,0\nMechanics,Fr,12:00\nMechanics,4,3\n")
+        file.write("course,day,period\nLinear algebra,mo,8:00\nLogic,Monday,0\nMechanics,Fr,12:00\nMechanics,4,3\nOptics,fr,12:00\nOptics,Friday,14:00\nAlgorithms,Mi,1\n")
     done = script("to_instance.py", sheets, "--name", "department", *NAMES, folder=folder)
     with open(SHEETS + "/department.ctt", encoding="utf-8") as file:
         check("tables with names of days and periods make department.ctt", (done.stdout, done.stderr) == (file.read(), ""), done.stderr)
