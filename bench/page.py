@@ -420,7 +420,7 @@ class Page:
             '</div>\n<p class="legend">In the grids: <strong>broken</strong> breaks a hard rule, <mark>costs</mark> costs, '
             '<span class="barred">not c</span> a period that is unavailable for course c. '
             "A lecture's bar has the colour of the first curriculum that has its course. "
-            "A rule that is not in the tables counts 0. The files count days and periods from 0.</p>\n"
+            "A rule that is not in the tables counts 0. <span class=\"files\">The files count days and periods from 0.</span></p>\n"
         )
         for at, (ident, title, _, items) in enumerate(lists):
             if counts[at]:

@@ -6,7 +6,7 @@ use Rattle.tt_instance.specs.Courses.{teachers}
 use Rattle.tt_instance.specs.declared.cell.Cell.{Cell}
 use Rattle.tt_rules.specs.Score.{hard, cost}
 use Rattle.tt_page_text.specs.Markup.{markup}
-use Rattle.tt_page_plan.specs.Links.{course_link}
+use Rattle.tt_page_lists.specs.Reasons.{next_course}
 use Rattle.tt_page_plan.specs.Names.{name_text}
 use Rattle.tt_page.specs.declared.proved.Proved.{Proved}
 use Rattle.tt_page.specs.declared.proved.Proved.TheVariants.{Unproved, AtLeast, Infeasible, Clique, Slots}
@@ -47,10 +47,6 @@ least_text b = markup (Text (codes "<p class=\"proved\">no feasible timetable co
 unfoldable pub infeasible_text : List ℕ
 infeasible_text = codes "<p class=\"infeasible\">no feasible timetable exists (proved)</p>\n"
 
--- A space and the link to the row of a course.
-unfoldable pub next_course : Problem → ℕ → List ℕ
-next_course p c = codes " " ++ course_link p c
-
 -- The line for a proof by courses no two of which can meet at the same time.
 unfoldable pub clique_text : Problem → List ℕ → List ℕ
 clique_text p cs =
@@ -90,4 +86,4 @@ header_text p t proved =
 
 -- The legend: the marks in the grids, the rules that are not shown, and how the files count.
 unfoldable pub legend_text : List ℕ
-legend_text = codes "</div>\n<p class=\"legend\">In the grids: <strong>broken</strong> breaks a hard rule, <mark>costs</mark> costs, <span class=\"barred\">not c</span> a period that is unavailable for course c. A lecture's bar has the colour of the first curriculum that has its course. A rule that is not in the tables counts 0. The files count days and periods from 0.</p>\n"
+legend_text = codes "</div>\n<p class=\"legend\">In the grids: <strong>broken</strong> breaks a hard rule, <mark>costs</mark> costs, <span class=\"barred\">not c</span> a period that is unavailable for course c. A lecture's bar has the colour of the first curriculum that has its course. A rule that is not in the tables counts 0. <span class=\"files\">The files count days and periods from 0.</span></p>\n"

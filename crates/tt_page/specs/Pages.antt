@@ -8,12 +8,13 @@ use Rattle.tt_page_lists.specs.Lists.{hard_table, cost_table, lists_text}
 use Rattle.tt_page_weeks.specs.Grids.{section_text}
 use Rattle.tt_page_days.specs.Days.{days_text}
 use Rattle.tt_page.specs.Courses.{courses_text}
+use Rattle.tt_page.specs.Proofs.{courses_of}
 use Rattle.tt_page.specs.declared.proved.Proved.{Proved}
 use Rattle.tt_table.specs.declared.kind.Kind.TheVariants.{Room, Teacher, Curriculum}
 
--- The counts of the timetable, and a list for each count above 0.
+-- The counts of the timetable, and a list for each count above 0: those of hard rules name the courses of the reason, if there is one.
 unfoldable pub counts_text : Problem → List Cell → Labelled → Proved → List ℕ
-counts_text p t labels proved = header_text p t proved ++ hard_table p t ++ cost_table p t ++ legend_text ++ lists_text p t labels
+counts_text p t labels proved = header_text p t proved ++ hard_table p t ++ cost_table p t ++ legend_text ++ lists_text p t labels (courses_of proved)
 
 -- A grid for each room, teacher and curriculum, a table for each day, and a row for each course.
 unfoldable pub weeks_text : Problem → List Cell → Labelled → List ℕ

@@ -1,5 +1,5 @@
 -- What a page says is proved.
-use Rattle.std.specs.Prelude.{◌≡◌, length, ⊤}
+use Rattle.std.specs.Prelude.{ℕ, List, [], length, ⊤}
 use Rattle.tt_instance.specs.Problem.{Problem}
 use Rattle.tt_leaf.specs.Ranges.{AreBelow}
 use Rattle.tt_leaf.specs.declared.leaf.Bound.{Bound}
@@ -17,3 +17,9 @@ IsProvedOf p _ = ⊤
 abbrev pub proved_of : Bound → Proved
 proved_of (bound.AtLeast b) = AtLeast b
 proved_of bound.Nothing = Infeasible
+
+-- The courses for which every timetable breaks a hard rule, if a proof names them.
+abbrev pub courses_of : Proved → List ℕ
+courses_of (Clique cs) = cs
+courses_of (Slots cs) = cs
+courses_of _ = []

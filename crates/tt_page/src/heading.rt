@@ -1,15 +1,16 @@
 //! The head of a page, and its header.
 
-ghost use Rattle.std.specs.Prelude.{◌≡◌, ◌<◌, length, flat_map};
+ghost use Rattle.std.specs.Prelude.{◌≡◌, length};
 ghost use Rattle.tt_rules.specs.Score.{IsScore};
 ghost use Rattle.tt_page_text.specs.Puts.{put_text};
 ghost use Rattle.tt_leaf.specs.Ranges.{AreBelow};
-ghost use Rattle.tt_page.specs.Heading.{head_text, contents_text, verdict_text, best_text, gap_text, least_text, infeasible_text, next_course, clique_text, slots_text, bound_text, proved_text, sizes_text, header_text, legend_text};
+ghost use Rattle.tt_page.specs.Heading.{head_text, contents_text, verdict_text, best_text, gap_text, least_text, infeasible_text, clique_text, slots_text, bound_text, proved_text, sizes_text, header_text, legend_text};
 ghost use Rattle.tt_page.specs.Proofs.{IsProvedOf};
 
 use crate::proved::Proved;
 use tt_instance::Instance;
-use tt_page_plan::{Plan, put_course_link, put_name};
+use tt_page_lists::put_next_courses;
+use tt_page_plan::{Plan, put_name};
 use tt_page_text::{PageText, Part, put, put_token};
 use tt_rules::Score;
 
@@ -121,27 +122,6 @@ fn put_infeasible(out: &mut PageText)
     );
 }
 
-/// Appends a space and a link to the row of a course.
-#[tactic(auto, using(tt_page_text::proofs::Growing::puts), unfolding(crate::specs::Heading::next_course))]
-fn put_next_course(out: &mut PageText, instance: &Instance<'_>, course: u32)
-    requires { course < length instance.now.courses }
-    ensures { out.new ≡ put_text out.old (next_course instance.now course) }
-{
-    put_token(out, b" ");
-    put_course_link(out, instance, course);
-}
-
-/// Appends links to the rows of courses.
-#[tactic(auto, using(tt_page_text::proofs::Growing::puts))]
-fn put_courses(out: &mut PageText, instance: &Instance<'_>, courses: &[u32])
-    requires { AreBelow (length instance.now.courses) courses.now }
-    ensures { out.new ≡ put_text out.old (flat_map (next_course instance.now) courses.now) }
-{
-    for course in courses {
-        put_next_course(out, instance, *course);
-    }
-}
-
 /// Appends that courses, no two of which can meet at the same time, have too few periods.
 #[tactic(auto, using(tt_page_text::proofs::Growing::puts), unfolding(crate::specs::Heading::clique_text))]
 fn put_clique(out: &mut PageText, instance: &Instance<'_>, courses: &[u32])
@@ -152,7 +132,7 @@ fn put_clique(out: &mut PageText, instance: &Instance<'_>, courses: &[u32])
         out,
         b"<p class=\"infeasible\">no feasible timetable exists (proved): there are more lectures than open periods, and no two of them can be at the same time:",
     );
-    put_courses(out, instance, courses);
+    put_next_courses(out, instance, courses);
     put_token(out, b"</p>\n");
 }
 
@@ -166,7 +146,7 @@ fn put_slots(out: &mut PageText, instance: &Instance<'_>, courses: &[u32])
         out,
         b"<p class=\"infeasible\">no feasible timetable exists (proved): these courses have more lectures than there are rooms in all their open periods:",
     );
-    put_courses(out, instance, courses);
+    put_next_courses(out, instance, courses);
     put_token(out, b"</p>\n");
 }
 
@@ -238,7 +218,7 @@ pub fn put_header(out: &mut PageText, plan: &Plan<'_, '_>, proved: &Proved, scor
 
 /// The legend: the marks in the grids, the rules that are not shown, and how the files count.
 const LEGEND: &str =
-    "</div>\n<p class=\"legend\">In the grids: <strong>broken</strong> breaks a hard rule, <mark>costs</mark> costs, <span class=\"barred\">not c</span> a period that is unavailable for course c. A lecture's bar has the colour of the first curriculum that has its course. A rule that is not in the tables counts 0. The files count days and periods from 0.</p>\n";
+    "</div>\n<p class=\"legend\">In the grids: <strong>broken</strong> breaks a hard rule, <mark>costs</mark> costs, <span class=\"barred\">not c</span> a period that is unavailable for course c. A lecture's bar has the colour of the first curriculum that has its course. A rule that is not in the tables counts 0. <span class=\"files\">The files count days and periods from 0.</span></p>\n";
 
 /// Appends the legend.
 #[tactic(auto, unfolding(crate::specs::Heading::legend_text))]

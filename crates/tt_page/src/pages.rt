@@ -47,7 +47,7 @@ fn put_counts(
     put_hard_table(out, plan, score);
     put_cost_table(out, plan, score);
     put_legend(out);
-    put_lists(out, plan, labels, score);
+    put_lists(out, plan, labels, proved.courses(), score);
 }
 
 /// Appends the weeks, the days, and the courses.

@@ -1,5 +1,8 @@
 //! What a page says is proved.
 
+ghost use Rattle.std.specs.Prelude.{◌≡◌};
+ghost use Rattle.tt_page.specs.Proofs.{courses_of};
+
 use tt_leaf::CourseList;
 
 /// What is proved about all feasible timetables of an instance.
@@ -14,4 +17,16 @@ pub enum Proved {
     Clique(CourseList),
     /// There is none: these courses have more lectures than there are rooms in all their open periods.
     Slots(CourseList),
+}
+
+impl Proved {
+    /// Returns the courses for which every timetable breaks a hard rule, if a proof names them.
+    pub fn courses(&self) -> &[u32]
+        ensures { result.now ≡ courses_of self.now }
+    {
+        match self {
+            Proved::Clique(courses) | Proved::Slots(courses) => courses.as_slice(),
+            _ => &[],
+        }
+    }
 }

@@ -86,20 +86,16 @@ main > details:not([class]) > summary { padding: .7rem 0; }
 .index li { overflow-wrap: anywhere; }
 .index { display: flex; flex-wrap: wrap; gap: .15rem .9rem; margin-bottom: 1rem; font-size: .87rem; font-variant-numeric: tabular-nums; }
 .index [class*=hue]::before { content: ""; display: inline-block; height: .7em; margin-right: .3em; border-left: .25rem solid var(--hue); }
-.grids { display: flex; flex-wrap: wrap; gap: 1.5rem 1.25rem; align-items: flex-start; }
-.grids::after { content: ""; flex: 1 1 36rem; }
-.grid { flex: 1 1 auto; max-width: 100%; }
+.grid { margin-bottom: 1.5rem; }
 .grid, .list { overflow-x: auto; position: relative; min-width: 0; }
 .grid table, .list table { min-width: 100%; background: var(--paper); border: 1px solid var(--line); }
 .grid table { border-collapse: separate; border-spacing: 0; border-width: 0 0 1px 1px; }
-.grid th, .grid td { overflow-wrap: anywhere; }
 .grid th { font-size: .78rem; font-weight: 500; color: var(--soft); background: var(--paper); padding: .25rem .4rem; }
 .grid th, .grid td { border: solid var(--line); border-width: 1px 1px 0 0; }
-.grid thead th { overflow-wrap: normal; }
 .grid tbody th { position: sticky; left: 0; z-index: 1; text-align: center; min-width: 3.4rem; }
-.grid td { min-width: 6.3rem; height: 2.9rem; padding: 2px; }
+.grid td { min-width: 6.3rem; width: 20rem; height: 2.9rem; padding: 2px; }
 .grid td { scroll-margin: 12rem 4.5rem 2rem; }
-.lecture { position: relative; contain: inline-size; padding: .15rem .35rem .2rem .6rem; margin-bottom: 2px; background: var(--tile); border: 1px solid transparent; font-size: .78rem; line-height: 1.3; }
+.lecture { position: relative; padding: .15rem .35rem .2rem .6rem; margin-bottom: 2px; background: var(--tile); border: 1px solid transparent; font-size: .78rem; line-height: 1.3; }
 .lecture::before { content: ""; position: absolute; inset: 0 auto 0 0; border-left: .25rem solid var(--hue, transparent); }
 .lecture:last-child { margin-bottom: 0; }
 .lecture a { color: var(--soft); }
@@ -109,7 +105,7 @@ main > details:not([class]) > summary { padding: .7rem 0; }
 .lecture:has(strong) { background: var(--badtint); border: 2px solid var(--badline); }
 .barred { font-size: .75rem; line-height: 1.3; color: var(--soft); }
 td:has(.barred) { background: repeating-linear-gradient(135deg, var(--paper) 0 5px, var(--hatch) 5px 7px); }
-div.barred { contain: inline-size; padding: .1rem .35rem; margin: 2px; background: var(--paper); }
+div.barred { padding: .1rem .35rem; margin: 2px; background: var(--paper); }
 span.barred { display: inline-block; border: 1px solid var(--line); padding: 0 .35em 0 1.9em; background: repeating-linear-gradient(135deg, var(--paper) 0 5px, var(--hatch) 5px 7px) 0 0 / 1.5em 100% no-repeat var(--paper); }
 td:target, .grid:target, tr:target { outline: 3px solid var(--link); outline-offset: 1px; }
 
@@ -126,7 +122,6 @@ td:target, .grid:target, tr:target { outline: 3px solid var(--link); outline-off
   nav ul { flex-wrap: wrap; gap: 0 1rem; padding: .2rem .75rem; font-size: .85rem; }
   nav a { padding: .25rem 0; }
   .counts th { white-space: normal; }
-  .grid { flex: 1 1 100%; }
   .day th, .day tbody th { min-width: 2rem; padding: .25rem .2rem; }
   .day td { min-width: 3.7rem; padding: 1px; }
   .day .lecture { padding: .1rem .1rem .1rem .4rem; }
@@ -160,9 +155,10 @@ td:target, .grid:target, tr:target { outline: 3px solid var(--link); outline-off
   main { max-width: none; padding: 0 2px; }
   strong { background: none; border: 2px solid #000; }
   .paper { display: inline; }
-  .grids { display: block; }
-  .grids::after { content: none; }
+  .files { display: none; }
   .grid { break-before: page; overflow: visible; margin-bottom: 8mm; }
+  .grid th, .grid td { overflow-wrap: anywhere; }
+  .lecture, div.barred { contain: inline-size; }
   .grid:first-child { break-before: auto; }
   .list { overflow: visible; }
   .broken > ul, .costs > ul { grid-template-columns: repeat(auto-fill, minmax(17rem, 1fr)); }

@@ -1,4 +1,5 @@
 pub mod Grouped
 pub mod Items
 pub mod Lists
+pub mod Reasons
 pub mod Rules

@@ -8,6 +8,7 @@ use Rattle.tt_page_text.specs.Labelled.{Labelled}
 use Rattle.tt_page_text.specs.Markup.{markup}
 use Rattle.tt_page_lists.specs.Rules.{rule_count, is_hard, rule_word, rule_title, rule_meaning}
 use Rattle.tt_page_lists.specs.Grouped.{items_text}
+use Rattle.tt_page_lists.specs.Reasons.{reason_text}
 use Rattle.tt_page_lists.specs.declared.rule.Rule.{Rule}
 use Rattle.tt_page_lists.specs.declared.rule.Rule.TheVariants as rule
 
@@ -65,26 +66,27 @@ cost_table p t =
 unfoldable pub broken_head : Rule → ℕ → List ℕ
 broken_head r n = markup (
     Text (codes "<details open class=\"broken\" id=\"") ∷ Text (rule_word r) ∷ Text (codes "\">\n<summary><h2>") ∷ Text (rule_title r)
-    ∷ Text (codes " <strong>") ∷ Number n ∷ Text (codes "</strong></h2></summary>\n<ul>\n") ∷ [])
+    ∷ Text (codes " <strong>") ∷ Number n ∷ Text (codes "</strong></h2></summary>\n") ∷ [])
 
 -- The head of the list of a soft rule, with its count.
 unfoldable pub costs_head : Rule → ℕ → List ℕ
 costs_head r n = markup (
     Text (codes "<details open class=\"costs\" id=\"") ∷ Text (rule_word r) ∷ Text (codes "\">\n<summary><h2>") ∷ Text (rule_title r)
-    ∷ Text (codes " <mark>") ∷ Number n ∷ Text (codes "</mark></h2></summary>\n<ul>\n") ∷ [])
+    ∷ Text (codes " <mark>") ∷ Number n ∷ Text (codes "</mark></h2></summary>\n") ∷ [])
 
 -- The head of the list of a hard rule or of a soft rule, with its count.
 unfoldable pub list_head : Rule → ℕ → List ℕ
 list_head r n = if is_hard r then broken_head r n else costs_head r n
 
--- The list of a rule, if its count is not 0.
-unfoldable pub list_text : Problem → List Cell → Labelled → Rule → List ℕ
-list_text p t labels r =
+-- The list of a rule, if its count is not 0; a hard rule's names the courses for which every timetable breaks one.
+unfoldable pub list_text : Problem → List Cell → Labelled → List ℕ → Rule → List ℕ
+list_text p t labels cs r =
     if rule_count p t r == 0 then []
-    else list_head r (rule_count p t r) ++ items_text p t labels r ++ codes "</ul>\n</details>\n"
+    else list_head r (rule_count p t r) ++ reason_text p cs r ++ codes "<ul>\n" ++ items_text p t labels r ++ codes "</ul>\n</details>\n"
 
--- The lists of all rules whose counts are not 0, the hard rules first.
-unfoldable pub lists_text : Problem → List Cell → Labelled → List ℕ
-lists_text p t labels =
-    list_text p t labels rule.Lectures ++ list_text p t labels rule.Conflicts ++ list_text p t labels rule.Availability ++ list_text p t labels rule.RoomOccupancy
-    ++ list_text p t labels rule.RoomCapacity ++ list_text p t labels rule.WorkingDays ++ list_text p t labels rule.Compactness ++ list_text p t labels rule.RoomStability
+-- The lists of all rules whose counts are not 0, the hard rules first, with the courses for which every timetable breaks a hard rule.
+unfoldable pub lists_text : Problem → List Cell → Labelled → List ℕ → List ℕ
+lists_text p t labels cs =
+    list_text p t labels cs rule.Lectures ++ list_text p t labels cs rule.Conflicts ++ list_text p t labels cs rule.Availability
+    ++ list_text p t labels cs rule.RoomOccupancy ++ list_text p t labels cs rule.RoomCapacity ++ list_text p t labels cs rule.WorkingDays
+    ++ list_text p t labels cs rule.Compactness ++ list_text p t labels cs rule.RoomStability

@@ -4,7 +4,9 @@
 mod grouped;
 mod items;
 mod lists;
+mod reason;
 mod rule;
 
 pub use lists::{put_cost_table, put_hard_table, put_lists};
+pub use reason::put_next_courses;
 pub use rule::Rule;

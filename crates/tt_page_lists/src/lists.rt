@@ -1,11 +1,13 @@
 //! The two tables of counts, and a list for each count above 0.
 
-ghost use Rattle.std.specs.Prelude.{◌≡◌};
+ghost use Rattle.std.specs.Prelude.{◌≡◌, length};
+ghost use Rattle.tt_leaf.specs.Ranges.{AreBelow};
 ghost use Rattle.tt_rules.specs.Score.{IsScore};
 ghost use Rattle.tt_page_text.specs.Puts.{put_text};
 ghost use Rattle.tt_page_lists.specs.Lists.{row_begin, count_row, total_row, rule_row, hard_table, cost_table, list_head, broken_head, costs_head, list_text, lists_text};
 
 use crate::grouped::put_items;
+use crate::reason::put_reason;
 use crate::rule::Rule;
 use tt_page_plan::Plan;
 use tt_page_text::{Labels, PageText, Part, put, put_token};
@@ -132,7 +134,7 @@ fn put_broken_head(out: &mut PageText, rule: Rule, count: u64)
             Part::Text(rule.title()),
             Part::Text(" <strong>"),
             Part::Count(count),
-            Part::Text("</strong></h2></summary>\n<ul>\n"),
+            Part::Text("</strong></h2></summary>\n"),
         ],
     );
 }
@@ -150,38 +152,55 @@ fn put_costs_head(out: &mut PageText, rule: Rule, count: u64)
             Part::Text(rule.title()),
             Part::Text(" <mark>"),
             Part::Count(count),
-            Part::Text("</mark></h2></summary>\n<ul>\n"),
+            Part::Text("</mark></h2></summary>\n"),
         ],
     );
 }
 
-/// Appends a list if its count is above 0.
+/// Appends a list if its count is above 0. A hard rule's names the courses for which every timetable breaks one.
 #[tactic(auto, using(tt_page_text::proofs::Growing::puts), unfolding(crate::specs::Lists::list_text))]
-fn put_list(out: &mut PageText, plan: &Plan<'_, '_>, labels: &Labels, score: &Score, rule: Rule)
-    requires { IsScore plan.now.problem plan.now.table score.now }
-    ensures { out.new ≡ put_text out.old (list_text plan.now.problem plan.now.table labels.now rule) }
+fn put_list(
+    out: &mut PageText,
+    plan: &Plan<'_, '_>,
+    labels: &Labels,
+    courses: &[u32],
+    score: &Score,
+    rule: Rule,
+)
+    requires courses { AreBelow (length plan.now.problem.courses) courses.now }
+    requires score { IsScore plan.now.problem plan.now.table score.now }
+    ensures { out.new ≡ put_text out.old (list_text plan.now.problem plan.now.table labels.now courses.now rule) }
 {
     let count = rule.count(plan, score);
     if count == 0 {
         return;
     }
     put_list_head(out, rule, count);
+    put_reason(out, plan.instance(), courses, rule);
+    put_token(out, b"<ul>\n");
     put_items(out, plan, labels, rule);
     put_token(out, b"</ul>\n</details>\n");
 }
 
-/// Appends the lists of all counts above 0.
+/// Appends the lists of all counts above 0, with the courses for which every timetable breaks a hard rule.
 #[tactic(auto, using(tt_page_text::proofs::Growing::puts), unfolding(crate::specs::Lists::lists_text))]
-pub fn put_lists(out: &mut PageText, plan: &Plan<'_, '_>, labels: &Labels, score: &Score)
-    requires { IsScore plan.now.problem plan.now.table score.now }
-    ensures { out.new ≡ put_text out.old (lists_text plan.now.problem plan.now.table labels.now) }
+pub fn put_lists(
+    out: &mut PageText,
+    plan: &Plan<'_, '_>,
+    labels: &Labels,
+    courses: &[u32],
+    score: &Score,
+)
+    requires courses { AreBelow (length plan.now.problem.courses) courses.now }
+    requires score { IsScore plan.now.problem plan.now.table score.now }
+    ensures { out.new ≡ put_text out.old (lists_text plan.now.problem plan.now.table labels.now courses.now) }
 {
-    put_list(out, plan, labels, score, Rule::Lectures);
-    put_list(out, plan, labels, score, Rule::Conflicts);
-    put_list(out, plan, labels, score, Rule::Availability);
-    put_list(out, plan, labels, score, Rule::RoomOccupancy);
-    put_list(out, plan, labels, score, Rule::RoomCapacity);
-    put_list(out, plan, labels, score, Rule::WorkingDays);
-    put_list(out, plan, labels, score, Rule::Compactness);
-    put_list(out, plan, labels, score, Rule::RoomStability);
+    put_list(out, plan, labels, courses, score, Rule::Lectures);
+    put_list(out, plan, labels, courses, score, Rule::Conflicts);
+    put_list(out, plan, labels, courses, score, Rule::Availability);
+    put_list(out, plan, labels, courses, score, Rule::RoomOccupancy);
+    put_list(out, plan, labels, courses, score, Rule::RoomCapacity);
+    put_list(out, plan, labels, courses, score, Rule::WorkingDays);
+    put_list(out, plan, labels, courses, score, Rule::Compactness);
+    put_list(out, plan, labels, courses, score, Rule::RoomStability);
 }

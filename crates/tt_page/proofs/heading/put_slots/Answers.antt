@@ -4,4 +4,4 @@ use Rattle.tt_page.proofs.heading.put_slots.Goals as goal
 
 pub returns : goal.returns
 unfolding slots_text
-returns c = then_put _ _ _ _ _ (then_put _ _ _ _ _ c.put_token.ensures c.put_courses.ensures) c.put_token-2.ensures
+returns c = then_put _ _ _ _ _ (then_put _ _ _ _ _ c.put_token.ensures c.put_next_courses.ensures) c.put_token-2.ensures

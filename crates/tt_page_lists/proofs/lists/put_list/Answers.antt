@@ -14,4 +14,6 @@ returns c =
     let some : (rule_count p t c.args.rule == 0) ≡ false = ne_eqb (rule_count p t c.args.rule) 0
     (λ none. c.if-count-eq0.false (c.count-count.ensures ∙ none)) in
     let head = rw c.count-count.ensures at c.put_list_head.ensures in
-    rw some (then_put _ _ _ _ _ (then_put _ _ _ _ _ head c.put_items.ensures) c.put_token.ensures)
+    let reason = rw c.instance.ensures at c.put_reason.ensures in
+    rw some (then_put _ _ _ _ _ (then_put _ _ _ _ _ (then_put _ _ _ _ _ (then_put _ _ _ _ _ head reason)
+    c.put_token.ensures) c.put_items.ensures) c.put_token-2.ensures)
