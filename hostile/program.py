@@ -109,8 +109,8 @@ class Command:
         if command in IN_FOLDER:
             return [(f"{self.folder()}/{name}", role) for name, role in IN_FOLDER[command].items()]
         found = list(zip(words[len(INPUTS.get(command, [])) :], OUTPUTS.get(command, [])))
-        # A timetable that breaks hard rules is next to where the best one would be.
-        return found + [(name, "output solution") for name in self.written or {} if name.endswith(".partial")]
+        # A timetable that breaks hard rules and its page are next to where the best one would be.
+        return found + [(name, BESIDE[end]) for name in self.written or {} for end in BESIDE if name.endswith(end)]
 
     def keeps(self):
         return "--keep" in self.words.split()
@@ -132,6 +132,7 @@ FILES = {
     "bad": b"bad",
     "empty": b"",
 }
+BESIDE = {".partial": "output solution", ".partial.html": "output page"}
 SOLVE_GAP = {"out": None, "out.proof": None}
 PARTS_OF_GAP = {"groups.proof": None, "rooms.proof": None}
 BEST_OF_GAP = {"best.sol": None, "page.html": None, "tree.proof": None}
@@ -176,7 +177,7 @@ COMMANDS = [
     Command("solve gap - out.proof --nodes 100", written={"out.proof": None}),
     Command("solve gap out - --nodes 100", written={"out": None}),
     Command("solve gap - -", 2, b"", not_written("proof", "-", "is also output solution")),
-    Command("solve same out out.proof", 1, b"cost none bound none finished\n", None, {"out.partial": None, "out.proof": None}),
+    Command("solve same out out.proof", 1, b"cost none bound none finished\n", None, {"out.partial": None, "out.partial.html": None, "out.proof": None}),
     Command("report mini mini.sol --by room", out=b"room R\n0 0 a\n0 1 b\n0 2\n"),
     Command("report mini mini.sol --by teacher", out=b"teacher t1\n0 0 a R\n0 1\n0 2\nteacher t2\n0 0\n0 1 b R\n0 2\n"),
     Command("report mini mini.sol --by curriculum", out=b"curriculum q\n0 0 a R\n0 1 b R\n0 2\n"),
@@ -526,6 +527,7 @@ class Runs:
         is_made = "new/" in rest and all(name == "new/" or not name.startswith("new/") for name in rest)
         if is_made and (kept or outcome.counted.unlinks):
             del rest["new/"]
-        # What `solve` could place is left out if its file can't be written.
-        states = [*states, *({name: text for name, text in it.items() if name != "out.partial"} for it in states)]
+        # What `solve` could place, and its page, are left out if their files can't be written.
+        for beside in BESIDE:
+            states = [*states, *({name: text for name, text in it.items() if name != f"out{beside}"} for it in states)]
         assert rest in states, f"neither all as it was nor all as it is to be {where}"

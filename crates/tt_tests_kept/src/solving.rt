@@ -50,6 +50,7 @@ fn searches_that_end(rt: HostRuntime) -> Result<(), Fail> {
         // The file of the best timetable exists only if there is one; otherwise there are another timetable and a reason.
         assert_eq!(rt; memory.text("a.out")?.is_some(), status == 0);
         assert_eq!(rt; memory.text("a.out.partial")?.is_some(), status == 1);
+        assert_eq!(rt; memory.text("a.out.partial.html")?.is_some(), status == 1);
         assert_eq!(rt; reason.is_empty(), status == 0);
         assert_eq!(rt; bounded(rt.alloc(), &memory)?.answer(), (0, bound, ""));
     }
@@ -77,6 +78,30 @@ fn a_circle_of_conflicts(rt: HostRuntime) -> Result<(), Fail> {
         let partial = memory.text("a.out.partial")?;
         assert!(rt; partial.as_deref().is_some_and(|text| !text.is_empty()));
     }
+    Ok(())
+}
+
+#[test]
+fn the_page_of_a_partial_timetable(rt: HostRuntime) -> Result<(), Fail> {
+    let memory = filled(rt.alloc(), SAME, Refusal::Nothing)?;
+    assert_eq!(rt; solved(rt.alloc(), &memory, "1")?.status, 1);
+    let page = memory.text("a.out.partial.html")?;
+    for part in [
+        "no feasible timetable exists (proved)",
+        "every timetable breaks a hard rule for these courses (proved): <a ",
+    ] {
+        assert!(rt; page.as_deref().is_some_and(|text| text.contains(part)));
+    }
+    let words = [
+        "page",
+        "a.ctt",
+        "a.out.partial",
+        "b.html",
+        "--proof",
+        "a.proof",
+    ];
+    assert_eq!(rt; run_on(rt.alloc(), &words, &memory)?.status, 0);
+    assert_eq!(rt; memory.text("b.html")?, page);
     Ok(())
 }
 

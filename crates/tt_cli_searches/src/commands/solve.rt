@@ -1,5 +1,6 @@
 //! The files of `solve`.
 
+use crate::partial::PartialFiles;
 use crate::reasons::Failed;
 use crate::saving::kept_table;
 use std::alloc::{AllocError, Global};
@@ -13,8 +14,12 @@ use tt_cli_saving::{
     ticker_of,
 };
 
-/// The end of the name of the file for a timetable that breaks hard rules.
-const PARTIAL: &str = ".partial";
+/// What was read for a search.
+#[derive(Clone, Copy)]
+struct Texts<'a> {
+    inputs: &'a Inputs<'a>,
+    instance: &'a [u8],
+}
 
 /// The file in which the proof of a tree is stored on the way.
 struct ProofShelf<'s, R: World> {
@@ -58,40 +63,23 @@ impl<F: Drop> Drop for Outputs<F> {
 }
 
 impl<F> Outputs<F> {
-    /// Returns the path of the file for a timetable that breaks hard rules: next to that of the best timetable, so that an older one stays. There
-    /// is none if the best timetable's output is no file.
-    fn partial_path<R: World<File = F>>(&self, rt: &R) -> Result<Option<String>, AllocError> {
-        if !matches!(self.table.ready, Ready::Place(_)) {
-            return Ok(None);
-        }
-        let path = self.table.label.path.as_str();
-        Ok(Some(format!(in rt.alloc(); "{path}{PARTIAL}")?))
-    }
-
-    /// Adds a timetable that breaks hard rules to a batch. It is left out if its file can't be written, and standard error says why.
+    /// Returns a batch with the files of a timetable that breaks hard rules. There are none if the best timetable's output is no file.
     fn write_partial<R: World<File = F>, E: Write>(
         &self,
         rt: &R,
         err: &mut E,
-        inputs: &Inputs<'_>,
-        text: &Option<Vec<u8>>,
+        texts: &Texts<'_>,
+        answer: &Answer,
     ) -> Result<Batch, AllocError> {
-        let batch = Batch::new(rt.alloc());
-        let Some(path) = self.partial_path(rt)? else {
-            return Ok(batch);
-        };
-        let target = Target {
-            role: Role::Solution,
-            path: path.as_str(),
-        };
-        match target.find(rt, inputs).and_then(|found| found.prepare(rt)) {
-            Ok(mut partial) => partial.write_given(rt, batch, text),
-            Err(CommandFault::OutOfMemory) => Err(AllocError),
-            Err(fault) => {
-                let _ = writeln!(err, "left out: {fault}");
-                Ok(batch)
-            }
+        if !matches!(self.table.ready, Ready::Place(_)) {
+            return Ok(Batch::new(rt.alloc()));
         }
+        let files = PartialFiles {
+            rt,
+            inputs: texts.inputs,
+            path: self.table.label.path.as_str(),
+        };
+        files.write(err, texts.instance, answer)
     }
 
     /// Returns a batch with the files of an answer.
@@ -99,14 +87,14 @@ impl<F> Outputs<F> {
         &mut self,
         rt: &R,
         err: &mut E,
-        inputs: &Inputs<'_>,
+        texts: &Texts<'_>,
         answer: &Answer,
     ) -> Result<Batch, AllocError> {
         let batch = if answer.status == 0 {
             self.table
                 .write_given(rt, Batch::new(rt.alloc()), &answer.table)?
         } else {
-            self.write_partial(rt, err, inputs, &answer.table)?
+            self.write_partial(rt, err, texts, answer)?
         };
         self.proof.write_given(rt, batch, &answer.proof)
     }
@@ -177,6 +165,10 @@ pub fn answer_solve<R: World, E: Write>(
     if answer.status != 0 {
         say_why(rt.alloc(), err, &instance, &answer)?;
     }
-    let batch = outputs.write(rt, err, &inputs, &answer)?;
+    let texts = Texts {
+        inputs: &inputs,
+        instance: &instance,
+    };
+    let batch = outputs.write(rt, err, &texts, &answer)?;
     reply_with(rt, batch, answer.status, answer.out)
 }
