@@ -1,5 +1,5 @@
 -- A week as an iCalendar file (RFC 5545): an event for each entry, in local time.
-use Rattle.std.specs.Prelude.{ℕ, ◌+◌, ◌/◌, ◌%◌, ◌==◌, Bool, nat_lt, ◌||◌, List, [], ◌∷◌, ◌++◌, length, count_by, flat_map, chars, codes, slice_index_or, if◌then◌else◌}
+use Rattle.std.specs.Prelude.{ℕ, ◌+◌, ◌/◌, ◌%◌, ◌==◌, nat_lt, ◌||◌, List, [], ◌∷◌, ◌++◌, length, count_by, flat_map, chars, codes, slice_index_or, if◌then◌else◌}
 use Rattle.std.specs.Fmt.{decimal}
 use Rattle.std.specs.Str.Lossy.{utf8_lossy}
 use Rattle.tt_instance.specs.Problem.{Problem}

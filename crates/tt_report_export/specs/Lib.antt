@@ -2,4 +2,5 @@ pub mod Names
 pub mod Tables
 pub mod Weeks
 pub mod Calendars
+pub mod Terms
 pub mod Folding

@@ -2,6 +2,7 @@
 #![tactic(auto)]
 
 mod calendar;
+mod dates;
 mod digits;
 mod escaping;
 mod folding;

@@ -1,8 +1,9 @@
 //! When a week takes place.
 
-ghost use Rattle.std.specs.Prelude.{◌≡◌, slice_index_or};
+ghost use Rattle.std.specs.Prelude.{◌≡◌, length, slice_index_or, IfOk};
+ghost use Rattle.tt_report_export.specs.Terms.{IsTermFrom};
 
-use jiff::civil::Date;
+use crate::dates::{date_of, dates_from};
 use std::alloc::{AllocError, AllocFailed, Global};
 use std::marker::Model;
 use std::str::FromStr;
@@ -15,14 +16,6 @@ const HOURS: u32 = 24;
 
 /// The number of days of a week.
 const WEEK: u32 = 7;
-
-/// The number of bytes of a date such as `2027-02-01`.
-const DATE_BYTES: usize = 10;
-
-/// The first and the last year of four digits.
-const FIRST_YEAR: i16 = 1000;
-
-const LAST_YEAR: i16 = 9999;
 
 /// When a week takes place: the date of each day, when each period begins, and its length; how often, and how many days apart.
 #[derive(Debug, Drop)]
@@ -78,29 +71,6 @@ impl Model for Term {
     ghost view = { λ s. record { dates = s.dates.items; begins = s.begins.items; minutes = s.minutes; weeks = s.weeks; interval = s.interval } };
 }
 
-/// Returns a date as the number YYYYMMDD.
-fn number_of(date: Date) -> u32 {
-    let year = u32::from(date.year().unsigned_abs());
-    let month = u32::from(date.month().unsigned_abs());
-    let day = u32::from(date.day().unsigned_abs());
-    year.saturating_mul(10_000)
-        .saturating_add(month.saturating_mul(100))
-        .saturating_add(day)
-}
-
-/// Returns the dates of this many days from the first.
-fn dates_from(alloc: Global, first: Date, days: u32) -> Result<Vec<u32>, TermFault> {
-    let mut dates = Vec::new(alloc);
-    let mut date = first;
-    for day in 0..days {
-        if day != 0 {
-            date = date.tomorrow().map_err(|_| TermFault::NoDate)?;
-        }
-        dates.push(number_of(date))?;
-    }
-    Ok(dates)
-}
-
 /// Returns the value of one or two digits.
 fn value_of(digits: &str) -> Option<u32> {
     if digits.len() > 2 || !digits.bytes().all(|byte| byte.is_ascii_digit()) {
@@ -128,40 +98,38 @@ fn minute_of(time: &str) -> Option<u32> {
     Some(hour * MINUTES + minute)
 }
 
-/// Returns the date that a text such as `2027-02-01` gives, with a year of four digits.
-fn date_of(text: &str) -> Result<Date, TermFault> {
-    // A sign, hyphens left out and a time behind the date give another length.
-    if text.len() != DATE_BYTES {
-        return Err(TermFault::NoDate);
+/// Returns the minutes of the day at which this many periods begin.
+fn begins_from(alloc: Global, times: &str, periods: u32) -> Result<Vec<u32>, TermFault>
+    ensures { IfOk result (λ begins. length begins.items ≡ periods) }
+{
+    let mut begins = Vec::new(alloc);
+    for time in times.split(',') {
+        begins.push(minute_of(time).ok_or(TermFault::NoTime)?)?;
     }
-    let date = Date::from_str(text).map_err(|_| TermFault::NoDate)?;
-    if date.year() < FIRST_YEAR || date.year() > LAST_YEAR {
-        return Err(TermFault::NoDate);
+    if begins.len() < periods as usize {
+        return Err(TermFault::TooFewTimes);
     }
-    Ok(date)
+    if begins.len() > periods as usize {
+        return Err(TermFault::TooManyTimes);
+    }
+    Ok(begins)
 }
 
 impl Term {
-    /// Creates the term whose first day has the date `first`, such as `2027-02-01`, for this many days; its periods begin at `times`, such as
-    /// `8:00,9:00`, one for each of this many periods. The week is repeated after so many whole weeks as its days take.
+    /// Creates the term whose first day has the date `first`, such as `2027-02-01`, for the days and the periods of a day of these sizes; the
+    /// periods begin at `times`, such as `8:00,9:00`. The week is repeated after so many whole weeks as its days take.
     pub fn new(
         alloc: Global,
-        (days, periods): (u32, u32),
+        sizes: (u32, u32),
         first: &str,
         times: &str,
         lengths: Lengths,
-    ) -> Result<Term, TermFault> {
+    ) -> Result<Term, TermFault>
+        ensures { IfOk result (IsTermFrom first.now sizes.0 sizes.1 lengths.minutes lengths.weeks) }
+    {
+        let (days, periods) = sizes;
         let dates = dates_from(alloc, date_of(first)?, days)?;
-        let mut begins = Vec::new(alloc);
-        for time in times.split(',') {
-            begins.push(minute_of(time).ok_or(TermFault::NoTime)?)?;
-        }
-        if begins.len() < periods as usize {
-            return Err(TermFault::TooFewTimes);
-        }
-        if begins.len() > periods as usize {
-            return Err(TermFault::TooManyTimes);
-        }
+        let begins = begins_from(alloc, times, periods)?;
         let Lengths { minutes, weeks } = lengths;
         Ok(Term {
             dates,
