@@ -109,7 +109,12 @@ pub too_large : (p : Problem) (remaining : Option (List ℕ)) (s : Sum) (parts :
 too_large p remaining s parts a b of j large bytes known =
     let total : points s.total ≡ points (sum_of parts) = ap points of.total in
     let bound : points (bound_of j.part) ≡ points b = ap points j.bound in
-    (j.part, spelled_part p remaining bytes j.part known j.is, omega (arith, large, total, bound, points-sum_of parts))
+    record {
+      part = j.part;
+      is = spelled_part p remaining bytes j.part known j.is;
+      apart = j.apart;
+      large = omega (arith, large, total, bound, points-sum_of parts);
+    }
 
 -- ---- faults
 
@@ -119,11 +124,13 @@ tree_meets : (p : Problem) → IsInstance p → (parts : List Part) (bytes : Lis
 tree_meets p is parts bytes k i e spelled apart reported =
     let same = (spelled_once p is bytes reported.part.version k.version reported.part.bound k.bound reported.part.tree k.tree
     reported.is.spelled spelled.spelled).1 in
-    let x = all_at (λ x. are_apart (claims_of x) (claimed_by k.tree)) (λ x. is_among (claims_of x) reported.target ≡ true) parts (e - 1)
-    (each_two-last (λ x y. are_apart (claims_of x) (claims_of y)) parts (TreeProof k) apart) reported.earlier in
-    not_both (claims_of x.0) (claimed_by k.tree) x.1 reported.target x.2
-    (subst (λ (t : Tree). is_among (claimed_by t) reported.target ≡ true) same
-    (claimed_in_tree reported.part.tree reported.before reported.node reported.more reported.target reported.nodes reported.here))
+    let y = reported.claimed.target in
+    let here = split_among (claims_at reported.node) reported.claimed.before y reported.claimed.more reported.claimed.split in
+    let x = all_at (λ x. are_apart (claims_of x) (claimed_by k.tree)) (λ x. is_among (claims_of x) y ≡ true) parts (e - 1)
+    (each_two-last (λ x y. are_apart (claims_of x) (claims_of y)) parts (TreeProof k) apart) reported.claimed.is.1 in
+    not_both (claims_of x.0) (claimed_by k.tree) x.1 y x.2
+    (subst (λ (t : Tree). is_among (claimed_by t) y ≡ true) same
+    (claimed_in_tree reported.part.tree reported.before reported.node reported.more y reported.nodes here))
 
 -- a tree proof that can be added has no fault
 tree_faultless : (p : Problem) → IsInstance p → (parts : List Part) (bytes : List ℕ) (k : TreePart) → IsTreePart p bytes k
@@ -140,9 +147,9 @@ tree_faultless p is parts bytes k spelled apart within (ClaimedElsewhere i e) re
 tree_faultless p is parts bytes k spelled apart within (TargetClaimedElsewhere name e) reported =
     let no : kind.Tree ≡ kind.Prices = kinds_same p bytes (TreeProof k) (PricesFile reported.part) spelled reported.is in cc
 tree_faultless p is parts bytes k spelled apart within TooLarge reported =
-    let same : reported.0 ≡ TreeProof k = same_part p is bytes reported.0 (TreeProof k) reported.1 spelled in
-    let points_same : points (bound_of reported.0) ≡ points k.bound = ap (λ (x : Part). points (bound_of x)) same in
-    omega (arith, reported.2, points_same, within, all_points-push parts (TreeProof k))
+    let same : reported.part ≡ TreeProof k = same_part p is bytes reported.part (TreeProof k) reported.is spelled in
+    let points_same : points (bound_of reported.part) ≡ points k.bound = ap (λ (x : Part). points (bound_of x)) same in
+    omega (arith, reported.large, points_same, within, all_points-push parts (TreeProof k))
 
 -- a file of groups that can be added is refused only if a claim's check wasn't finished
 groups_unfinished : (p : Problem) → IsInstance p → (parts : List Part) (bytes : List ℕ) (k : GroupsPart) → IsGroupsPart p bytes k
@@ -159,9 +166,9 @@ groups_unfinished p is parts bytes k spelled apart within (ClaimedElsewhere i e)
 groups_unfinished p is parts bytes k spelled apart within (TargetClaimedElsewhere name e) reported =
     let no : kind.Groups ≡ kind.Prices = kinds_same p bytes (GroupsFile k) (PricesFile reported.part) spelled reported.is in cc
 groups_unfinished p is parts bytes k spelled apart within TooLarge reported =
-    let same : reported.0 ≡ GroupsFile k = same_part p is bytes reported.0 (GroupsFile k) reported.1 spelled in
-    let points_same : points (bound_of reported.0) ≡ k.bound = ap (λ (x : Part). points (bound_of x)) same in
-    absurd (omega (arith, reported.2, points_same, within, all_points-push parts (GroupsFile k)))
+    let same : reported.part ≡ GroupsFile k = same_part p is bytes reported.part (GroupsFile k) reported.is spelled in
+    let points_same : points (bound_of reported.part) ≡ k.bound = ap (λ (x : Part). points (bound_of x)) same in
+    absurd (omega (arith, reported.large, points_same, within, all_points-push parts (GroupsFile k)))
 
 -- if groups with prices claim a target that one of the parts claims, the two are not apart
 prices_meet : (p : Problem) → IsInstance p → (parts : List Part) (bytes : List ℕ) (k : PricesPart) (name : ClaimedTarget) (e : ℕ)
@@ -190,9 +197,9 @@ prices_unfinished p is parts bytes k spelled apart within (ClaimedElsewhere i e)
 prices_unfinished p is parts bytes k spelled apart within (TargetClaimedElsewhere name e) reported =
     prices_meet p is parts bytes k name e spelled apart reported
 prices_unfinished p is parts bytes k spelled apart within TooLarge reported =
-    let same : reported.0 ≡ PricesFile k = same_part p is bytes reported.0 (PricesFile k) reported.1 spelled in
-    let points_same : points (bound_of reported.0) ≡ k.header.bound = ap (λ (x : Part). points (bound_of x)) same in
-    absurd (omega (arith, reported.2, points_same, within, all_points-push parts (PricesFile k)))
+    let same : reported.part ≡ PricesFile k = same_part p is bytes reported.part (PricesFile k) reported.is spelled in
+    let points_same : points (bound_of reported.part) ≡ k.header.bound = ap (λ (x : Part). points (bound_of x)) same in
+    absurd (omega (arith, reported.large, points_same, within, all_points-push parts (PricesFile k)))
 
 pub only_unfinished : (p : Problem) → IsInstance p → (parts : List Part) (bytes : List ℕ) (part : Part) → IsPart p bytes part
     → AreApart (parts ++ part ∷ []) → all_points (parts ++ part ∷ []) < 2 ^ 64 → (f : FileFault)

@@ -7,7 +7,7 @@ use Rattle.std.proofs.lemmas.List.{map-append}
 use Rattle.std.proofs.lemmas.Grind.{flat_map-append}
 use Rattle.std.proofs.lemmas.List.Folds.{list_any-append, list_all-append}
 use Rattle.std.proofs.lemmas.List.Elements.{recursion_from_All}
-use Rattle.std.proofs.lemmas.Bool.{leb-false, lt-leb, eq-eqb, eqb-true, both_ways, or_cases, or_left, or_right, and_from, not_from_false}
+use Rattle.std.proofs.lemmas.Bool.{leb-false, lt-leb, eq-eqb, eqb-true, both_ways, or_cases, and_from, not_from_false}
 use Rattle.tt_list_laws.specs.Words.{has_number}
 use Rattle.tt_list_laws.proofs.Members.{each_of_append}
 use Rattle.tt_list_laws.proofs.Tests.{test_turned}
@@ -20,7 +20,7 @@ use Rattle.tt_leaf_rules.specs.Tests.{same_target}
 use Rattle.tt_leaf.specs.declared.leaf.Bound.{Bound}
 use Rattle.tt_leaf.specs.declared.leaf.Claim.{Claim}
 use Rattle.tt_leaf.specs.declared.leaf.Leaf.TheVariants.{Empty, Many, Clique, Slots, Cost}
-use Rattle.tt_leaf_rules.proofs.Totals.{same_target-true, same_target-itself}
+use Rattle.tt_leaf_rules.proofs.Totals.{same_target-true}
 use Rattle.tt_leaf_rules.proofs.Meeting.{same_place, each_placed}
 use Rattle.tt_proof_read.specs.Spelling.{IsNode}
 use Rattle.tt_proof_read.specs.Trees.{Tree, Tip, Fork, preorder}
@@ -33,6 +33,7 @@ use Rattle.tt_proof_sum.specs.Added.{Joins}
 use Rattle.tt_proof_sum.specs.Faults.{IsClaimedElsewhere}
 use Rattle.tt_proof_sum.specs.Sums.{claimed_in, claimed_by, is_among, are_apart, TreePart, Part, TreeProof, claims_of}
 use Rattle.tt_proof_sum.specs.Tables.{State, owner, clash_with, clash_at, first_clash, Claims, at_node, places_in, claims_at, first_claim, begun, IsTableOf}
+use Rattle.tt_proof_sum.proofs.SpelledOnce.{split_among}
 use Rattle.tt_proof_sum.proofs.Tables.{owner_after, not_none, first_clash-append, places_from, places_all, visited_claims}
 
 -- ---- lists
@@ -235,19 +236,32 @@ module _ (before_it : State) (parts : List Part) (of : IsTableOf before_it parts
             some = subst (λ m. first_clash t (at_node m (places_in r.node)) ≡ Some c) here r.some;
           }
 
-  find_target : (n : ℕ) (ys : List Target) (c : Clash) → first_clash t (at_node n (map place ys)) ≡ Some c
-      → (y : Target) × (is_among ys y ≡ true) × (clash_at t n (place y) ≡ Some c)
+  -- the target of the first clash
+  record Meets (n : ℕ) (ys : List Target) (c : Clash) : Type 0 where
+    before : List Target
+    target : Target
+    more : List Target
+    split : ys ≡ before ++ target ∷ more
+    none : first_clash t (at_node n (map place before)) ≡ None
+    some : clash_at t n (place target) ≡ Some c
+
+  find_target : (n : ℕ) (ys : List Target) (c : Clash) → first_clash t (at_node n (map place ys)) ≡ Some c → Meets n ys c
   find_target n [] c e = absurd cc
   find_target n (y ∷ ys) c e = on (λ h. find_target n ys c h) (clash_at t n (place y)) refl e
     where
-      on : (first_clash t (at_node n (map place ys)) ≡ Some c → (z : Target) × (is_among ys z ≡ true)
-          × (clash_at t n (place z) ≡ Some c)) → (x : Option Clash) → clash_at t n (place y) ≡ x
-          → option_or x (first_clash t (at_node n (map place ys))) ≡ Some c → (z : Target) × (is_among (y ∷ ys) z ≡ true)
-          × (clash_at t n (place z) ≡ Some c)
-      on rest (Some d) f h = (y, or_left (same_target y y) (is_among ys y) (same_target-itself y), f ∙ h)
+      on : (first_clash t (at_node n (map place ys)) ≡ Some c → Meets n ys c) → (x : Option Clash) → clash_at t n (place y) ≡ x
+          → option_or x (first_clash t (at_node n (map place ys))) ≡ Some c → Meets n (y ∷ ys) c
+      on rest (Some d) f h = record { before = []; target = y; more = ys; split = refl; none = refl; some = f ∙ h }
       on rest None f h =
           let r = rest h in
-          (r.0, or_right (same_target r.0 y) (is_among ys r.0) r.1, r.2)
+          record {
+            before = y ∷ r.before;
+            target = r.target;
+            more = r.more;
+            split = ap (λ l. y ∷ l) r.split;
+            none = ap (λ x. option_or x (first_clash t (at_node n (map place r.before)))) f ∙ r.none;
+            some = r.some;
+          }
 
   -- ---- the table after a proof
   module _ (b : State) (nodes : List Node) (claims : Claims t (places_from 0 nodes) b) where
@@ -338,11 +352,11 @@ module _ (p : Problem) (remaining : Option (List ℕ)) (t b : State) (parts : Li
       let node = (each_of_append (IsNode p h.version) f.before (f.node ∷ f.more)
       (subst (AllByRecursion (IsNode p h.version)) f.split
       (recursion_from_All (IsNode p h.version) (preorder h.tree) spelled.each))).1.0 in
-      let l = node_placed p is h.version f.node node y.0 y.1 in
-      let k = clash_is (0 + length f.before) (owner t (place y.0)) (t.proof + 1) c
-      (subst (λ (past : Bool). clash_with past (0 + length f.before) (owner t (place y.0)) (t.proof + 1) ≡ Some c)
-      (lt-leb 32768 (place y.0) l) y.2) in
-      let e = claims_it 1 parts y.0 (owner t (place y.0)) (sym (of.owners (place y.0) l)) k.some in
+      let l = node_placed p is h.version f.node node y.target (split_among (claims_at f.node) y.before y.target y.more y.split) in
+      let k = clash_is (0 + length f.before) (owner t (place y.target)) (t.proof + 1) c
+      (subst (λ (past : Bool). clash_with past (0 + length f.before) (owner t (place y.target)) (t.proof + 1) ≡ Some c)
+      (lt-leb 32768 (place y.target) l) y.some) in
+      let e = claims_it 1 parts y.target (owner t (place y.target)) (sym (of.owners (place y.target) l)) k.some in
       let index : e.0 ≡ c.earlier - 1 = omega (arith, e.1, k.earlier) in
       record {
         part = part;
@@ -353,8 +367,15 @@ module _ (p : Problem) (remaining : Option (List ℕ)) (t b : State) (parts : Li
         nodes = f.split;
         place = omega (arith, k.node);
         first = nodes_apart t parts of 0 f.before f.none;
-        target = y.0;
-        here = y.1;
-        counted = omega (arith, e.1, k.earlier);
-        earlier = subst (λ (i : ℕ). IsSomeAnd (slice_get parts i) (λ z. is_among (claims_of z) y.0 ≡ true)) index e.2;
+        claimed = record {
+          before = y.before;
+          target = y.target;
+          more = y.more;
+          split = y.split;
+          unclaimed = none_at t parts of (0 + length f.before) y.before y.none;
+          is = (
+            omega (arith, e.1, k.earlier),
+            subst (λ (i : ℕ). IsSomeAnd (slice_get parts i) (λ z. is_among (claims_of z) y.target ≡ true)) index e.2,
+          );
+        };
       }

@@ -4,7 +4,7 @@ use Rattle.std.specs.Prelude.{slice_get, ⊤}
 use Rattle.std.specs.List.{AllZip}
 use Rattle.std.proofs.lemmas.Bool.{cases_eq}
 use Rattle.std.proofs.lemmas.List.{take_more, take_all, length-take-le, get_or_read, get_or-set_same, get_or-set_other, length-set}
-use Rattle.std.proofs.lemmas.Option.{slice_get_read, slice_get_within, get_or_from_slice_get}
+use Rattle.std.proofs.lemmas.Option.{slice_get_read, slice_get_past, slice_get_cases, slice_get_within, get_or_from_slice_get}
 use Rattle.std.proofs.lemmas.Slice.Zip.{AllZip-long, all_zipped_more}
 use Rattle.std.proofs.Math.ListN.{set}
 use Rattle.std.proofs.lemmas.List.Sums.{sum_by-append}
@@ -28,6 +28,13 @@ use Rattle.tt_proof_sum.proofs.SpelledOnce.{same_part}
 use Rattle.tt_proof_sum.proofs.Together.{parts_hold, part_of_shows}
 
 -- ---- lists at each place
+
+slice_get-set_other : {X : Type 0} (xs : List X) (i k : ℕ) (x : X) → k ≢ i → slice_get (set xs i x) k ≡ slice_get xs k
+slice_get-set_other [] i k x ne = refl
+slice_get-set_other (y ∷ xs) zero zero x ne = absurd (ne refl)
+slice_get-set_other (y ∷ xs) zero (suc k) x ne = refl
+slice_get-set_other (y ∷ xs) (suc i) zero x ne = refl
+slice_get-set_other (y ∷ xs) (suc i) (suc k) x ne = slice_get-set_other xs i k x (λ e. ne (ap suc e))
 
 record Split {A B : Type 0} (R : A → B → Type 0) (xs : List A) (x : A) (ks : List B) : Type 0 where
   first : List B
@@ -245,6 +252,15 @@ module _ {R : Type 0} (p : Problem) (remaining : R → Option (List ℕ)) (faile
   same_at old now i s long h k x found =
       let inside = slice_get_within now k x found in
       ap failed (sym (get_or_from_slice_get now k x x found)) ∙ h.same k x (omega (arith, inside, long))
+
+  -- a source that wasn't reached
+  pub later_at : (old now : List R) (i : ℕ) (s : Sum) (q : R) → length now ≡ length old → Sofar old now i s
+      → (k : ℕ) → i + 1 ≤ k → slice_get (set now i q) k ≡ slice_get old k
+  later_at old now i s q long h k later = slice_get-set_other now i k q (omega (arith, later)) ∙ elim (slice_get_cases now k).1 [
+    | inl (x, inside, found, at) ↦ found
+        ∙ sym (slice_get_read old (length old) k x refl (omega (arith, inside, long)) (sym at ∙ h.rest k x (omega (arith, later))))
+    | inr (past, none) ↦ none ∙ sym (slice_get_past old k (omega (arith, past, long)))
+  ]
 
   -- a source after the file at i was refused
   pub failed_at : (old now : List R) (i : ℕ) (s : Sum) (item q : R) (n : ℕ) (e : Stop FileFault) → i < length old

@@ -1,5 +1,5 @@
 -- The meaning of the refusals of files that are added up.
-use Rattle.std.specs.Prelude.{◌≡◌, ℕ, ◌+◌, ◌-◌, ◌≤◌, ◌^◌, Bool, true, ◌&&◌, ◌==◌, if◌then◌else◌, List, [], ◌∷◌, ◌++◌, length, sum_by, slice_get, IsSomeAnd, ⊤, ◌⊎◌}
+use Rattle.std.specs.Prelude.{◌≡◌, ℕ, ◌+◌, ◌≤◌, ◌^◌, Bool, true, ◌&&◌, ◌==◌, if◌then◌else◌, List, [], ◌∷◌, ◌++◌, length, sum_by, ⊤, ◌⊎◌}
 use Rattle.std.specs.List.{list_all, AllZip}
 use Rattle.tt_stop.specs.Stops as stops
 use Rattle.tt_stop.specs.Stops.{mapped}
@@ -28,13 +28,13 @@ use Rattle.tt_proof_sum.specs.declared.fault.SumStop.{SumStop}
 use Rattle.tt_proof_sum.specs.declared.groups_fault.GroupsFault.{GroupsFault}
 use Rattle.tt_proof_sum.specs.declared.groups_fault.GroupsFault.TheVariants as groups
 use Rattle.tt_proof_sum.specs.GroupsFaults.{IsOfFile, IsLeftOpen, ExplainsGroups, FirstClaimed, IsClaimedBy}
-use Rattle.tt_proof_sum.specs.Sums.{is_among, are_apart, TreePart, PricesPart, Part, IsTreePart, IsPricesPart, IsPart, prices_targets, bound_of, claims_of, AreApart}
+use Rattle.tt_proof_sum.specs.Sums.{are_apart, TreePart, PricesPart, Part, IsTreePart, IsPricesPart, IsPart, prices_targets, bound_of, claims_of, AreApart}
 use Rattle.tt_proof_sum.specs.Tables.{claims_at}
 
 -- -- another file, after those of these parts
 
--- The proof spells a tree that derives its bound, and the node at i is its first that claims a target which one of the parts claims: the part
--- at e, counted from 1.
+-- The proof spells a tree that derives its bound, and the node at i is its first that claims a target which one of the parts claims; the first
+-- such target of the node is claimed by the part at e, counted from 1.
 pub record IsClaimedElsewhere (p : Problem) (parts : List Part) (bytes : List ℕ) (i e : ℕ) : Type 0 where
   pub part : TreePart
   pub is : IsTreePart p bytes part
@@ -44,10 +44,7 @@ pub record IsClaimedElsewhere (p : Problem) (parts : List Part) (bytes : List �
   pub nodes : preorder part.tree ≡ before ++ node ∷ more
   pub place : length before ≡ i
   pub first : list_all (λ n. list_all (λ k. are_apart (claims_of k) (claims_at n)) parts) before ≡ true
-  pub target : Target
-  pub here : is_among (claims_at node) target ≡ true
-  pub counted : 1 ≤ e
-  pub earlier : IsSomeAnd (slice_get parts (e - 1)) (λ k. is_among (claims_of k) target ≡ true)
+  pub claimed : FirstClaimed parts [] (claims_at node) (IsClaimedBy parts e)
 
 -- The points of a bound, 0 if it says that no timetable exists.
 abbrev pub points : Bound → ℕ
@@ -58,9 +55,12 @@ points Nothing = 0
 abbrev pub all_points : List Part → ℕ
 all_points parts = sum_by (λ k. points (bound_of k)) parts
 
--- The file spells a part that is right, and its bound and those of the other parts add up to 2^64 or more.
-abbrev pub IsTooLarge : Problem → List Part → List ℕ → Type 0
-IsTooLarge p parts bytes = (part : Part) × IsPart p bytes part × (2 ^ 64 ≤ all_points parts + points (bound_of part))
+-- The file spells a part that is right and claims no target that one of the parts claims, and its bound and theirs add up to 2^64 or more.
+pub record IsTooLarge (p : Problem) (parts : List Part) (bytes : List ℕ) : Type 0 where
+  pub part : Part
+  pub is : IsPart p bytes part
+  pub apart : list_all (λ k. are_apart (claims_of k) (claims_of part)) parts ≡ true
+  pub large : 2 ^ 64 ≤ all_points parts + points (bound_of part)
 
 -- The text is a tree proof, and has this fault.
 pub record IsTreeFault (p : Problem) (bytes : List ℕ) (f : CheckFault) : Type 0 where

@@ -1,6 +1,6 @@
 //! The sum of a list of files.
 
-ghost use Rattle.std.specs.Prelude.{◌≡◌, ◌+◌, ◌-◌, ◌<◌, ◌^◌, ℕ, List, Some, Err, true, if◌then◌else◌, IfOk, IfErr, MatchResult, slice_get, slice_index_or};
+ghost use Rattle.std.specs.Prelude.{◌≡◌, ◌+◌, ◌-◌, ◌<◌, ◌≤◌, ◌^◌, ℕ, List, Some, Err, true, if◌then◌else◌, IfOk, IfErr, MatchResult, slice_get, slice_index_or};
 ghost use Rattle.tt_leaf.specs.declared.leaf.Bound.{Bound};
 ghost use Rattle.tt_proof_check.specs.Derives.{HoldsOfAll};
 ghost use Rattle.tt_stop.specs.Stops.{OnFault};
@@ -33,6 +33,8 @@ pub fn sum_proofs<R: Peek>(
     ensures holds { IfOk result (HoldsOfAll instance.now) }
     // A fault is the first one of the first file that can't be added to those before it.
     ensures fault { IfErr result (λ e. (files : List (List ℕ)) → Give R.remaining sources.old files → IsSumStop instance.now files e.file e.stop) }
+    // The files after the one that can't be added are as they were.
+    ensures later { IfErr result (λ e. (i : ℕ) → e.file ≤ i → slice_get sources.new i ≡ slice_get sources.old i) }
     // A failed read is reported exactly if a read failed.
     ensures failed { (i : ℕ) (r : R) → slice_get sources.new i ≡ Some r →
         R.has_failed r ≡ (if is_err_and result (is_failed_read_at (i + 1)) then true else R.has_failed (slice_index_or sources.old i r)) }

@@ -1,4 +1,4 @@
-use Rattle.std.proofs.Common.{◌≡◌, ℕ, ◌+◌, ◌≤◌, Bool, true, if◌then◌else◌, length, get_or, Err, sym, ap, subst, ◌∙◌, arith, length-set}
+use Rattle.std.proofs.Common.{◌≡◌, ℕ, ◌+◌, ◌≤◌, Bool, true, if◌then◌else◌, length, get_or, Err, refl, sym, ap, subst, ◌∙◌, arith, length-set}
 use Rattle.std.proofs.lemmas.Option.{get_or_from_slice_get}
 use Rattle.std.proofs.lemmas.Result.{err_from_is_err_and}
 use Rattle.tt_stop.specs.declared.stop.Stop.{Stop}
@@ -11,7 +11,7 @@ use Rattle.tt_proof_sum.specs.Sums.{IsSum}
 use Rattle.tt_proof_sum.proofs.FailedReads.{memory_read}
 use Rattle.tt_proof_sum.specs.declared.fault.FileFault.{FileFault}
 use Rattle.tt_proof_sum.specs.declared.fault.SumStop.{SumStop}
-use Rattle.tt_proof_sum.proofs.Lists.{taken, sofar_next, sofar_found, sofar_holds, sofar_refused, sum_unfinished, same_sum, same_at, at_source, failed_at}
+use Rattle.tt_proof_sum.proofs.Lists.{taken, sofar_next, sofar_found, sofar_holds, sofar_refused, sum_unfinished, same_sum, same_at, at_source, later_at, failed_at}
 use Rattle.tt_proof_sum.proofs.several.sum_proofs.Goals as goal
 
 abbrev reported_stop : ℕ → Stop FileFault → SumStop
@@ -53,6 +53,21 @@ returns-in-Err-clause-only g c =
     (ap (get_or c.loop-source.source-items c.loop-source.source-index) c.source-item.is) c.loop-source.invariant.sofar
     c.due-file.ensures c.in-Err.ensures.fault proofs given in
     sum_unfinished c.args.instance.now c.days.ensures.instance proofs s h within c.due-file.result c.in-Err.stop reported
+
+pub returns-in_err-sum-clause-later : goal.returns-in_err-sum-clause-later
+returns-in_err-sum-clause-later g c =
+    let e = err_from_is_err_and c.from_residual.result c.from_residual.ensures.1 in
+    rw (e.1, e.2) (λ i later. refl)
+
+pub returns-in-Err-clause-later : goal.returns-in-Err-clause-later
+returns-in-Err-clause-later g c =
+    λ k later.
+    let within : c.loop-source.source-index ≤ length c.args.sources.now = omega arith in
+    let here = taken c.args.instance.now g.R.Source.remaining g.R.Source.has_failed c.args.sources.now c.loop-source.source-items
+    c.loop-source.source-index c.loop-source.sum within c.loop-source.invariant.sofar in
+    later_at c.args.instance.now g.R.Source.remaining g.R.Source.has_failed c.args.sources.now c.loop-source.source-items
+    c.loop-source.source-index c.loop-source.sum c.add.new.source c.loop-source.invariant.long c.loop-source.invariant.sofar k
+    (omega (arith, later, here, c.due-file.ensures))
 
 pub returns-in_err-sum-clause-failed : goal.returns-in_err-sum-clause-failed
 returns-in_err-sum-clause-failed g c =
