@@ -71,3 +71,37 @@ fn no_room_to_complete_in(rt: HostRuntime) -> Result<(), Fail> {
     assert!(rt; written.is_none());
     Ok(())
 }
+
+#[test]
+fn entries_that_do_not_fit_are_left_out(rt: HostRuntime) -> Result<(), Fail> {
+    let memory = MemoryFiles::new(rt.alloc(), Refusal::Nothing);
+    memory.put("a.ctt", MINI)?;
+    memory.put("a.sol", "b R 0 1\nz R 0 0\n\na Q 0 0\na R 9 0\nb R 0 0\n")?;
+    let words = [
+        "improve",
+        "a.ctt",
+        "a.sol",
+        "a.out",
+        "--complete",
+        "--drop",
+        "--steps",
+        "0",
+    ];
+    let outcome = run_on(rt.alloc(), &words, &memory)?;
+    let listed = "line 2 left out, no such course: z R 0 0
+line 4 left out, no such room: a Q 0 0
+line 5 left out, no such period: a R 9 0
+line 6 left out, surplus: b R 0 0
+";
+    assert!(rt; outcome.out.as_str().starts_with("hard 0 "));
+    assert_eq!(rt; outcome.err.as_str(), listed);
+    let written = memory.text("a.out")?;
+    assert!(rt; written.is_some_and(|text| text.as_str().starts_with("b R 0 1\na R ")));
+    memory.put("a.sol", "b R 0 1\na big R 0 0\n")?;
+    let outcome = run_on(rt.alloc(), &words, &memory)?;
+    assert_eq!(rt;
+        outcome.answer(),
+        (2, "", "refused: solution: NotANumber at byte 14\n")
+    );
+    Ok(())
+}
