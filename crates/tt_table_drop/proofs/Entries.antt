@@ -1,5 +1,5 @@
 -- Rows that spell an entry of an instance, and rows that spell none.
-use Rattle.std.proofs.Common.{◌≡◌, ℕ, ◌-◌, ◌<◌, ◌≤◌, List, Some, Err, refl, arith, inl, inr, sym, ap, ◌∙◌}
+use Rattle.std.proofs.Common.{◌≡◌, ℕ, ◌-◌, ◌<◌, ◌≤◌, List, Some, Err, refl, arith, inl, inr, sym, ◌∙◌}
 use Rattle.std.proofs.lemmas.Bool.{cases_lt}
 use Rattle.tt_text.specs.Texts.{index_of_name}
 use Rattle.tt_text.specs.Pieces.{SpellsNumber}

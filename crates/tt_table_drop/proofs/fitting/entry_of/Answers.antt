@@ -1,4 +1,4 @@
-use Rattle.std.proofs.Common.{◌≡◌, ◌<◌, arith}
+use Rattle.std.proofs.Common.{arith}
 use Rattle.tt_table_drop.proofs.Entries.{entry_made}
 use Rattle.tt_table_drop.proofs.fitting.entry_of.Goals as goal
 

@@ -1,4 +1,4 @@
-use Rattle.std.proofs.Common.{◌≡◌, ◌-◌, sym, arith}
+use Rattle.std.proofs.Common.{sym, arith}
 use Rattle.tt_text.proofs.Fields.{number_spelled}
 use Rattle.tt_table_drop.proofs.Entries.{none_below}
 use Rattle.tt_table_drop.proofs.fitting.index_below.Goals as goal

@@ -1,4 +1,4 @@
-use Rattle.std.proofs.Common.{◌≡◌, ◌<◌, ◌+◌, [], ◌∷◌, length, ap, ◌∙◌, refl, arith, length-append, Vec, Global}
+use Rattle.std.proofs.Common.{◌<◌, [], ◌∷◌, length, ap, ◌∙◌, refl, arith, length-append, Vec, Global}
 use Rattle.std.proofs.lemmas.List.{get_or_default}
 use Rattle.tt_table_drop.specs.Sifting.Sifts.{none}
 use Rattle.tt_table_drop.specs.declared.reason.LeftOut.{LeftOut}

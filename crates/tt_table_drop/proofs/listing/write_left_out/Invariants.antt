@@ -1,4 +1,4 @@
-use Rattle.std.proofs.Common.{◌≡◌, ◌≤◌, ◌++◌, take, length}
+use Rattle.std.proofs.Common.{◌≡◌, ◌≤◌, take, length}
 use Rattle.std.specs.List.{flat_map}
 use Rattle.tt_text.specs.Lines.{line_text}
 use Rattle.tt_table_drop.specs.Lines.{ends_before, left_line}
