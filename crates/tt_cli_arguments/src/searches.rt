@@ -1,7 +1,7 @@
 //! The commands that search from one timetable or in one tree: `improve` and `solve`.
 
 use crate::arguments::Request;
-use crate::description::{Argument, Description, Form, Range};
+use crate::description::{Argument, Condition, Description, Form, Range};
 use crate::files::{INSTANCE, OUT, SOLUTION};
 use crate::showing::{PROGRESS, QUIET, Showing, showing_of};
 use clap::ArgMatches;
@@ -28,6 +28,8 @@ pub struct Search {
     pub keeps: bool,
     /// Whether the lectures that the solution lacks are added first.
     pub completes: bool,
+    /// Whether the entries that the instance doesn't have are left out before that.
+    pub drops: bool,
 }
 
 /// The files and options of `improve`.
@@ -146,6 +148,14 @@ const COMPLETE: Argument<'static> = Argument {
     condition: None,
 };
 
+/// The option that drops entries before a solution is completed.
+const DROP: Argument<'static> = Argument {
+    id: "drop",
+    form: Form::Flag,
+    help: "Leaves out and lists unknown courses, rooms and periods, and surplus lectures, before --complete",
+    condition: Some(Condition::Requires(&["complete"])),
+};
+
 /// The proof that is written.
 const NEW_PROOF: Argument<'static> = Argument {
     id: "PROOF",
@@ -160,7 +170,7 @@ pub const IMPROVE: Description<'static> = Description {
     about: "Searches from a solution, and writes a timetable that is no worse",
     example: "Example: tt improve week.ctt week.sol better.sol --steps 100000",
     arguments: &[
-        INSTANCE, SOLUTION, OUT, SEED, STEPS, RUNS, TIME, KEEP, COMPLETE, PROGRESS, QUIET,
+        INSTANCE, SOLUTION, OUT, SEED, STEPS, RUNS, TIME, KEEP, COMPLETE, DROP, PROGRESS, QUIET,
     ],
 };
 
@@ -183,6 +193,7 @@ fn search_of(found: &ArgMatches<'_>) -> Option<Search> {
         seconds: found.get_one("time"),
         keeps: found.get_flag("keep"),
         completes: found.get_flag("complete"),
+        drops: found.get_flag("drop"),
     })
 }
 

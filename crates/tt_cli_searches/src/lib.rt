@@ -4,6 +4,7 @@
 mod best_files;
 mod best_keeper;
 mod commands;
+mod dropping;
 mod partial;
 mod proof_files;
 mod reasons;

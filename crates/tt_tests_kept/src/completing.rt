@@ -71,3 +71,55 @@ fn no_room_to_complete_in(rt: HostRuntime) -> Result<(), Fail> {
     assert!(rt; written.is_none());
     Ok(())
 }
+
+/// Returns the outcome of `improve --complete --drop` for a solution of MINI, and the file that it writes.
+fn dropped(alloc: Global, solution: &str) -> Result<(Outcome, Option<String>), Fail> {
+    let memory = MemoryFiles::new(alloc, Refusal::Nothing);
+    memory.put("a.ctt", MINI)?;
+    memory.put("a.sol", solution)?;
+    let words = [
+        "improve",
+        "a.ctt",
+        "a.sol",
+        "a.out",
+        "--complete",
+        "--drop",
+        "--steps",
+        "0",
+    ];
+    let outcome = run_on(alloc, &words, &memory)?;
+    let written = memory.text("a.out")?;
+    Ok((outcome, written))
+}
+
+#[test]
+fn entries_that_do_not_fit_are_left_out(rt: HostRuntime) -> Result<(), Fail> {
+    let (outcome, written) = dropped(
+        rt.alloc(),
+        "b R 0 1\nz R 0 0\n\na Q 0 0\na R 9 0\nb R 0 0\n",
+    )?;
+    let listed = "line 2 left out, no such course: z R 0 0
+line 4 left out, no such room: a Q 0 0
+line 5 left out, no such period: a R 9 0
+line 6 left out, surplus: b R 0 0
+";
+    assert_eq!(rt; outcome.answer(), (0, "hard 0 cost 1\n", listed));
+    assert!(rt; written.is_some_and(|text| text.as_str().starts_with("b R 0 1\na R 0 ")));
+    Ok(())
+}
+
+#[test]
+fn rows_that_are_no_entries_are_refused(rt: HostRuntime) -> Result<(), Fail> {
+    for (solution, fault) in [
+        (
+            "b R 0 1\na big R 0 0\n",
+            "refused: solution: NotANumber at byte 14\n",
+        ),
+        ("b R 0 1\na R 0\n", "refused: solution: Ended at byte 14\n"),
+    ] {
+        let (outcome, written) = dropped(rt.alloc(), solution)?;
+        assert_eq!(rt; outcome.answer(), (2, "", fault));
+        assert!(rt; written.is_none());
+    }
+    Ok(())
+}

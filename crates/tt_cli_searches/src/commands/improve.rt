@@ -1,5 +1,6 @@
 //! The files of `improve`.
 
+use crate::dropping::drop_and_list;
 use crate::saving::kept_table;
 use std::io::Write;
 use tt_call_answers::{Answer, AppFault};
@@ -65,8 +66,11 @@ pub fn answer_improve<R: World, E: Write>(
     };
     let out = target.find(rt, &inputs)?;
     let instance = instance.read(rt)?;
-    let solution = solution.read(rt)?;
+    let mut solution = solution.read(rt)?;
     let mut out = out.prepare(rt)?;
+    if request.search.drops {
+        solution = drop_and_list(rt.alloc(), err, &instance, &solution)?;
+    }
     let start = Start {
         instance: &instance,
         solution: &solution,

@@ -1,0 +1,4 @@
+mod Entries
+mod Lines
+mod Reading
+mod Sifted
