@@ -164,6 +164,68 @@ def write_deep(path, instance, facts, nodes):
     return count + tree.nodes
 
 
+def write_below(path, instance, patterns, nodes):
+    """Yes-facts of these patterns, one below the other, and below them a whole tree; the second child of each is a leaf."""
+    with path.open("w") as out:
+        out.write("CTTP 2 bound 0\n")
+        out.writelines(f"S {pattern}\n" for pattern in patterns)
+        tree = Tree(instance, random.Random(3), out, by_period, no_claim)
+        tree.grow(max(nodes.bit_length() - 2, 1))
+        out.write("B ;\n" * len(patterns) + "end\n")
+    return 2 * len(patterns) + tree.nodes
+
+
+def write_large(path):
+    """An instance with more than 30,000 cells: 120 courses, ten rooms and 36 periods, and curricula of three courses."""
+    courses = [f"c{i} t{i % 40} 3 2 {20 + i % 30}" for i in range(120)]
+    curricula = [f"q{i} 3 c{3 * i} c{3 * i + 1} c{3 * i + 2}" for i in range(40)]
+    heads = {"Name": "large", "Courses": 120, "Rooms": 10, "Days": 6, "Periods_per_day": 6, "Curricula": 40, "Constraints": 0}
+    blocks = {"COURSES": courses, "ROOMS": [f"r{i} {25 + 2 * i}" for i in range(10)], "CURRICULA": curricula, "UNAVAILABILITY_CONSTRAINTS": []}
+    lines = [f"{word}: {value}" for word, value in heads.items()]
+    for word, rows in blocks.items():
+        lines += ["", f"{word}:", *rows]
+    path.write_text("\n".join(lines + ["", "END.", ""]))
+
+
+def a_timetable(instance, rng):
+    """A pattern for each lecture, in periods that a timetable can have at the same time."""
+    taken, used, patterns = [set() for _ in range(instance.courses)], {}, []
+    slots = [(d, p) for d in range(instance.days) for p in range(instance.periods)]
+    for course in sorted(range(instance.courses), key=lambda c: -instance.lectures[c]):
+        rng.shuffle(slots)
+        can = [it for it in slots if (course, *it) not in instance.barred and used.get(it, 0) < instance.rooms
+               and not any(it in taken[c] for c in [course, *instance.conflicts[course]])]
+        for day, period in can[:instance.lectures[course]]:
+            taken[course].add((day, period))
+            used[day, period] = used.get((day, period), 0) + 1
+            patterns.append(f"c{course} * d{day} p{period}")
+    return patterns
+
+
+def shapes_of(instance):
+    """All patterns of one kind, by the kind."""
+    each = [(c, r, d, p) for c in range(instance.courses) for r in range(instance.rooms) for d in range(instance.days) for p in range(instance.periods)]
+    return {
+        "c r d p": [f"c{c} r{r} d{d} p{p}" for c, r, d, p in each],
+        "c * d p": [f"c{c} * d{d} p{p}" for c, r, d, p in each if r == 0],
+        "c r * p": [f"c{c} r{r} * p{p}" for c, r, d, p in each if d == 0],
+        "c r * *": [f"c{c} r{r} * *" for c, r, d, p in each if d == p == 0],
+    }
+
+
+def below_yes_facts(folder):
+    """The rows whose trees are below yes-facts: a name, an instance and the patterns."""
+    rng = random.Random(4)
+    for file in ("like02", "like05"):
+        path = EXAMPLES / f"{file}.ctt"
+        yield f"a tree below a timetable's yes-facts `c * d p`, {file}", path, a_timetable(Instance(path), rng)
+    path = folder / "large.ctt"
+    write_large(path)
+    shapes = shapes_of(Instance(path))
+    for shape, count in [("c r d p", 0), ("c r d p", 8_000), ("c r d p", 30_000), ("c * d p", 4_000), ("c r * p", 7_000), ("c r * *", 1_200)]:
+        yield f"a tree below {count:,} yes-facts `{shape}`, 120 courses", path, rng.sample(shapes[shape], count)
+
+
 def processor_seconds():
     """What all commands so far have taken of a processor."""
     used = resource.getrusage(resource.RUSAGE_CHILDREN)
@@ -226,6 +288,9 @@ def main():
         for facts in (1_500, 50_000):
             count = write_deep(proof, Instance(path), facts, nodes)
             row(f"{facts:,} facts above, like05", path, proof, count, plain)
+        for name, path, patterns in below_yes_facts(Path(folder)):
+            count = write_below(proof, Instance(path), patterns, nodes)
+            row(name, path, proof, count, plain)
     print(f"cores: {os.cpu_count()}")
 
 

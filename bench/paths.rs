@@ -111,9 +111,8 @@ struct Path<'a> {
     words: Vec<u64>,
     trail: Vec<(u32, u64)>,
     facts: Vec<(Pattern, bool, u32)>,
-    /// The yes-facts that give day and period by slot, and the others.
-    at_slot: Vec<Vec<Pattern>>,
-    loose: Vec<Pattern>,
+    /// The yes-facts by course and slot; those of curricula in the last row, and in each row those that give no slot in the last place.
+    shelves: Vec<Vec<Pattern>>,
     live: usize,
     pinned: usize,
     rooms: usize,
@@ -136,8 +135,7 @@ impl<'a> Path<'a> {
             words,
             trail: Vec::new(),
             facts: Vec::new(),
-            at_slot: vec![Vec::new(); instance.slots()],
-            loose: Vec::new(),
+            shelves: vec![Vec::new(); (instance.courses() + 1) * (instance.slots() + 1)],
             live: table,
             pinned,
             rooms,
@@ -259,11 +257,8 @@ impl<'a> Path<'a> {
         if holds {
             self.settle(pattern);
             self.pin(&pattern);
-            if pattern.day != NONE && pattern.period != NONE {
-                self.at_slot[pattern.day as usize * self.instance.periods + pattern.period as usize].push(pattern);
-            } else {
-                self.loose.push(pattern);
-            }
+            let shelf = self.shelf_of(&pattern);
+            self.shelves[shelf].push(pattern);
             return;
         }
         let slots = self.instance.slots();
@@ -279,16 +274,35 @@ impl<'a> Path<'a> {
                     self.set(place, self.words[place] & mask);
                 }
             }
-            for i in 0..self.at_slot[slot].len() {
-                let older = self.at_slot[slot][i];
-                if self.may_touch(&older, &pattern) {
-                    self.settle(older);
-                }
+        }
+        let members: &[usize] = match &who {
+            Who::Course(course) => std::slice::from_ref(course),
+            Who::Curriculum(q) => &self.instance.members[*q],
+        };
+        for row in members.iter().copied().chain([self.instance.courses()]) {
+            for column in self.slots_of(&pattern).chain([slots]) {
+                self.settle_shelf(row * (slots + 1) + column, &pattern);
             }
         }
-        for i in 0..self.loose.len() {
-            let older = self.loose[i];
-            if self.may_touch(&older, &pattern) {
+    }
+
+    /// The shelf of a yes-fact.
+    fn shelf_of(&self, pattern: &Pattern) -> usize {
+        let slots = self.instance.slots();
+        let row = match pattern.who {
+            Who::Course(course) => course,
+            Who::Curriculum(_) => self.instance.courses(),
+        };
+        let is_placed = pattern.day != NONE && pattern.period != NONE;
+        let column = if is_placed { pattern.day as usize * self.instance.periods + pattern.period as usize } else { slots };
+        row * (slots + 1) + column
+    }
+
+    /// Looks at the yes-facts on a shelf again, after a no-fact of this pattern.
+    fn settle_shelf(&mut self, shelf: usize, pattern: &Pattern) {
+        for i in 0..self.shelves[shelf].len() {
+            let older = self.shelves[shelf][i];
+            if self.may_touch(&older, pattern) {
                 self.settle(older);
             }
         }
@@ -300,10 +314,9 @@ impl<'a> Path<'a> {
             let (place, old) = self.trail.pop().unwrap();
             self.words[place as usize] = old;
         }
-        if holds && pattern.day != NONE && pattern.period != NONE {
-            self.at_slot[pattern.day as usize * self.instance.periods + pattern.period as usize].pop();
-        } else if holds {
-            self.loose.pop();
+        if holds {
+            let shelf = self.shelf_of(&pattern);
+            self.shelves[shelf].pop();
         }
     }
 

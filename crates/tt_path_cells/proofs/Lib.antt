@@ -17,3 +17,6 @@ pub mod Asked
 pub mod Linked
 pub mod Ranked
 pub mod OneLeft
+pub mod Shelved
+pub mod Heeded
+pub mod Rows

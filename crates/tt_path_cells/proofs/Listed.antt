@@ -1,5 +1,5 @@
 -- The list of the yes-facts' patterns, each once, as facts are added and removed.
-use Rattle.std.proofs.Common.{◌≡◌, ◌+◌, ◌-◌, ◌≤◌, Bool, true, false, not, ◌&&◌, ◌||◌, List, [], ◌∷◌, ◌++◌, length, take, cond, refl, sym, ap, ◌∙◌, arith, inl, inr, subst, append-nil, length-append}
+use Rattle.std.proofs.Common.{◌≡◌, ◌+◌, ◌-◌, ◌<◌, ◌≤◌, Bool, true, false, not, ◌&&◌, ◌||◌, List, [], ◌∷◌, ◌++◌, length, take, cond, refl, sym, ap, ◌∙◌, arith, inl, inr, subst, append-nil, length-append}
 use Rattle.std.specs.List.{list_any}
 use Rattle.std.proofs.lemmas.Bool.{cases_lt}
 use Rattle.std.proofs.lemmas.List.{take-append-le}
@@ -133,7 +133,7 @@ module _ (facts : List Fact) (firsts : List Bool) (patterns : List Pattern) wher
         ];
       }
 
-shortened : {X : Type 0} (xs : List X) (x : X) → take (length (xs ++ x ∷ []) - 1) (xs ++ x ∷ []) ≡ xs
+pub shortened : {X : Type 0} (xs : List X) (x : X) → take (length (xs ++ x ∷ []) - 1) (xs ++ x ∷ []) ≡ xs
 shortened xs x = let n : length (xs ++ x ∷ []) - 1 ≡ length xs = omega (arith, length-append xs (x ∷ [])) in
     ap (λ k. take k (xs ++ x ∷ [])) n ∙ take-append_seam xs (x ∷ [])
 
@@ -157,6 +157,15 @@ listing-popped facts firsts patterns left f m l e =
         ≡ marked facts firsts
     by_mark true q = ap (λ l. take (length l - 1) l) q ∙ shortened (marked facts firsts) f.pattern
     by_mark false q = q ∙ append-nil (marked facts firsts)
+
+-- the fact of a listed pattern has left one
+pub marked-some : (facts : List Fact) (firsts : List Bool) (patterns : List Pattern) (f : Fact) (m : Bool)
+    → IsListing (facts ++ f ∷ []) (firsts ++ m ∷ []) patterns → m ≡ true → 0 < length patterns
+marked-some facts firsts patterns f m l e =
+    let len : length firsts ≡ length facts = omega (arith, l.len, length-append firsts (m ∷ []), length-append facts (f ∷ [])) in
+    let items : patterns ≡ marked facts firsts ++ f.pattern ∷ [] = l.items ∙ marked-push facts firsts f m len
+    ∙ ap (λ b. marked facts firsts ++ added f b) e in
+    omega (arith, ap length items, length-append (marked facts firsts) (f.pattern ∷ []))
 
 -- ---- as the code has it
 

@@ -11,3 +11,5 @@ pub mod Struck
 pub mod Tables
 pub mod Touching
 pub mod Words
+pub mod Shelves
+pub mod Asking

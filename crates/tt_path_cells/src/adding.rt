@@ -7,16 +7,17 @@ ghost use Rattle.tt_instance_links.specs.Inner.Linked.{AreConflicts};
 ghost use Rattle.tt_path_cells.specs.Inner.Tables.{IsTable};
 ghost use Rattle.tt_path_cells.specs.Inner.Shown.{Adds};
 
-use crate::again::settle_again;
+use crate::again::{Denial, settle_again};
 use crate::barring::remove_matched;
 use crate::removing::remove_all;
 use crate::settling::settle;
+use crate::shelves::YesFacts;
 use crate::watching::{NO_WATCH, Watches};
 use std::alloc::AllocError;
 use tt_bits::Trail;
 use tt_instance::Instance;
 use tt_instance_links::Conflicts;
-use tt_path::{Fact, Pattern};
+use tt_path::Fact;
 
 /// Changes both tables for a no-fact, the last of the facts. `yes` has the patterns of the yes-facts; if one of them is the
 /// no-fact's, which `is_listed` says, no cell is live.
@@ -25,17 +26,18 @@ fn deny(
     links: &Conflicts,
     free: &mut Trail,
     live: &mut Trail,
-    yes: &[Pattern],
+    yes: &YesFacts<'_, '_>,
     watches: &mut Watches,
     fact: &Fact,
     is_listed: bool,
 ) -> Result<(), AllocError>
     requires links { AreConflicts instance.now links.now }
+    requires same { yes.now.problem ≡ instance.now }
     requires no { fact.now.holds ≡ false }
-    requires listed { is_listed ≡ list_any (λ g. same_pattern g fact.now.pattern) yes.now }
+    requires listed { is_listed ≡ list_any (λ g. same_pattern g fact.now.pattern) yes.now.patterns }
     requires free { IsTable instance.now free.old.words }
     requires live { IsTable instance.now live.old.words }
-    ensures ok { OnOk result (Adds instance.now yes.now free.old.words live.old.words fact.now
+    ensures ok { OnOk result (Adds instance.now yes.now.patterns free.old.words live.old.words fact.now
         free.new.words live.new.words) }
     ensures same_free { free.new.earlier ≡ free.old.earlier }
     ensures same_live { live.new.earlier ≡ live.old.earlier }
@@ -46,7 +48,14 @@ fn deny(
         return Ok(());
     }
     remove_matched(instance, live, &fact.pattern)?;
-    settle_again(instance, links, free, live, yes, watches, &fact.pattern)?;
+    let denial = Denial {
+        instance,
+        links,
+        free,
+        yes,
+        pattern: &fact.pattern,
+    };
+    settle_again(&denial, live, watches)?;
     Ok(())
 }
 
@@ -56,16 +65,17 @@ fn change(
     links: &Conflicts,
     free: &mut Trail,
     live: &mut Trail,
-    yes: &[Pattern],
+    yes: &YesFacts<'_, '_>,
     watches: &mut Watches,
     fact: &Fact,
     is_listed: bool,
 ) -> Result<(), AllocError>
     requires links { AreConflicts instance.now links.now }
-    requires listed { fact.now.holds ≡ false → is_listed ≡ list_any (λ g. same_pattern g fact.now.pattern) yes.now }
+    requires same { yes.now.problem ≡ instance.now }
+    requires listed { fact.now.holds ≡ false → is_listed ≡ list_any (λ g. same_pattern g fact.now.pattern) yes.now.patterns }
     requires free { IsTable instance.now free.old.words }
     requires live { IsTable instance.now live.old.words }
-    ensures ok { OnOk result (Adds instance.now yes.now free.old.words live.old.words fact.now
+    ensures ok { OnOk result (Adds instance.now yes.now.patterns free.old.words live.old.words fact.now
         free.new.words live.new.words) }
     ensures same_free { free.new.earlier ≡ free.old.earlier }
     ensures same_live { live.new.earlier ≡ live.old.earlier }
@@ -86,16 +96,17 @@ pub fn add(
     links: &Conflicts,
     free: &mut Trail,
     live: &mut Trail,
-    yes: &[Pattern],
+    yes: &YesFacts<'_, '_>,
     watches: &mut Watches,
     fact: &Fact,
     is_listed: bool,
 ) -> Result<(), AllocError>
     requires links { AreConflicts instance.now links.now }
-    requires listed { fact.now.holds ≡ false → is_listed ≡ list_any (λ g. same_pattern g fact.now.pattern) yes.now }
+    requires same { yes.now.problem ≡ instance.now }
+    requires listed { fact.now.holds ≡ false → is_listed ≡ list_any (λ g. same_pattern g fact.now.pattern) yes.now.patterns }
     requires free { IsTable instance.now free.old.words }
     requires live { IsTable instance.now live.old.words }
-    ensures ok { OnOk result (Adds instance.now yes.now free.old.words live.old.words fact.now
+    ensures ok { OnOk result (Adds instance.now yes.now.patterns free.old.words live.old.words fact.now
         free.new.words live.new.words) }
     ensures kept_free { OnOk result (free.new.earlier ≡ free.old.earlier ++ free.old.words ∷ []) }
     ensures kept_live { OnOk result (live.new.earlier ≡ live.old.earlier ++ live.old.words ∷ []) }

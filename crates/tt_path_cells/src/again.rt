@@ -1,13 +1,18 @@
 //! The older yes-facts after a no-fact.
 
-ghost use Rattle.std.specs.Prelude.{◌≡◌, OnOk};
+ghost use Rattle.std.specs.Prelude.{◌≡◌, ◌<◌, ◌≤◌, ℕ, length, OnOk};
 ghost use Rattle.tt_instance_links.specs.Inner.Linked.{AreConflicts};
 ghost use Rattle.tt_path_cells.specs.Inner.Tables.{IsTable};
 ghost use Rattle.tt_path_cells.specs.Inner.Touching.{can_agree, can_share, can_touch};
 ghost use Rattle.tt_path_cells.specs.Inner.Shown.{Renews};
+ghost use Rattle.tt_path_cells.specs.Inner.Shelves.{pattern_at, row_of, shelf_of, last_of, shelves};
+ghost use Rattle.tt_path_cells.specs.Inner.Asking.{Asks};
 
+use crate::courses::courses_of;
+use crate::periods::slots_of;
 use crate::removing::is_cleared;
 use crate::settling::settle;
+use crate::shelves::{YesFacts, shelf_at};
 use crate::watching::Watches;
 use std::alloc::AllocError;
 use tt_bits::Trail;
@@ -49,34 +54,179 @@ fn can_touch(instance: &Instance<'_>, first: &Pattern, second: &Pattern) -> bool
         && can_agree(first.room, second.room)
 }
 
-/// Removes the live cells that the yes-facts of these patterns exclude now, after a no-fact of this pattern.
-pub fn settle_again(
-    instance: &Instance<'_>,
-    links: &Conflicts,
-    free: &Trail,
+/// A no-fact that has been taken from the free cells, and what the live cells depend on.
+#[derive(Clone, Copy)]
+pub struct Denial<'a, 'p, 'i> {
+    pub instance: &'a Instance<'i>,
+    pub links: &'a Conflicts,
+    pub free: &'a Trail,
+    pub yes: &'a YesFacts<'p, 'i>,
+    pub pattern: &'a Pattern,
+}
+
+/// Removes the live cells that the yes-fact at a place excludes now, if it may match a cell of the no-fact.
+fn settle_place(
+    denial: &Denial<'_, '_, '_>,
     live: &mut Trail,
-    yes: &[Pattern],
     watches: &mut Watches,
-    pattern: &Pattern,
+    place: usize,
 ) -> Result<(), AllocError>
-    requires links { AreConflicts instance.now links.now }
-    requires free { IsTable instance.now free.now.words }
-    requires live { IsTable instance.now live.old.words }
-    ensures ok { OnOk result (Renews instance.now yes.now free.now.words live.old.words pattern.now live.new.words) }
+    requires links { AreConflicts denial.now.instance.now denial.now.links.now }
+    requires free { IsTable denial.now.instance.now denial.now.free.now.words }
+    requires live { IsTable denial.now.instance.now live.old.words }
+    requires place { place < length denial.now.yes.now.patterns }
+    ensures ok { OnOk result (Asks denial.now.instance.now denial.now.yes.now.patterns denial.now.free.now.words live.old.words
+        denial.now.pattern.now (λ j. j ≡ place) live.new.words) }
     ensures unchanged { live.new.earlier ≡ live.old.earlier }
 {
-    let mut next = 0_usize;
-    for older in yes {
-        let place = next;
-        next = next.saturating_add(1);
-        if !can_touch(instance, older, pattern) {
+    let instance = denial.instance;
+    let older = denial.yes.at(place);
+    if !can_touch(instance, &older, denial.pattern) {
+        return Ok(());
+    }
+    if is_cleared(instance, live) {
+        return Ok(());
+    }
+    let watch = settle(
+        instance,
+        denial.links,
+        denial.free,
+        live,
+        &older,
+        watches.at(place),
+    )?;
+    watches.set(place, watch);
+    Ok(())
+}
+
+/// Looks at the yes-facts on a shelf, the newest first.
+fn settle_shelf(
+    denial: &Denial<'_, '_, '_>,
+    live: &mut Trail,
+    watches: &mut Watches,
+    shelf: usize,
+) -> Result<(), AllocError>
+    requires links { AreConflicts denial.now.instance.now denial.now.links.now }
+    requires free { IsTable denial.now.instance.now denial.now.free.now.words }
+    requires live { IsTable denial.now.instance.now live.old.words }
+    requires same { denial.now.yes.now.problem ≡ denial.now.instance.now }
+    requires shelf { shelf < shelves denial.now.instance.now }
+    ensures ok { OnOk result (Asks denial.now.instance.now denial.now.yes.now.patterns denial.now.free.now.words live.old.words
+        denial.now.pattern.now (λ j. shelf_of denial.now.instance.now (pattern_at denial.now.yes.now.patterns j) ≡ shelf) live.new.words) }
+    ensures unchanged { live.new.earlier ≡ live.old.earlier }
+{
+    let mut above = denial.yes.newest(shelf);
+    while above > 0 {
+        let place = above - 1;
+        settle_place(denial, live, watches, place)?;
+        above = denial.yes.older(place);
+    }
+    Ok(())
+}
+
+/// Looks at the yes-facts in a row of shelves that may match a cell of the no-fact.
+fn settle_row(
+    denial: &Denial<'_, '_, '_>,
+    live: &mut Trail,
+    watches: &mut Watches,
+    row: u32,
+) -> Result<(), AllocError>
+    requires links { AreConflicts denial.now.instance.now denial.now.links.now }
+    requires free { IsTable denial.now.instance.now denial.now.free.now.words }
+    requires live { IsTable denial.now.instance.now live.old.words }
+    requires same { denial.now.yes.now.problem ≡ denial.now.instance.now }
+    requires row { row ≤ length denial.now.instance.now.courses }
+    ensures ok { OnOk result (Asks denial.now.instance.now denial.now.yes.now.patterns denial.now.free.now.words live.old.words
+        denial.now.pattern.now (λ j. row_of denial.now.instance.now (pattern_at denial.now.yes.now.patterns j).who ≡ row) live.new.words) }
+    ensures unchanged { live.new.earlier ≡ live.old.earlier }
+{
+    let instance = denial.instance;
+    let (from, to) = slots_of(instance, denial.pattern);
+    for column in from..to {
+        settle_shelf(denial, live, watches, shelf_at(instance, row, column))?;
+    }
+    let days = instance.days();
+    let periods = instance.periods();
+    let last = days * periods;
+    settle_shelf(denial, live, watches, shelf_at(instance, row, last))?;
+    Ok(())
+}
+
+/// Looks at the yes-facts of the no-fact's courses, and at those that stand in the last row.
+fn settle_rows(
+    denial: &Denial<'_, '_, '_>,
+    live: &mut Trail,
+    watches: &mut Watches,
+) -> Result<(), AllocError>
+    requires links { AreConflicts denial.now.instance.now denial.now.links.now }
+    requires free { IsTable denial.now.instance.now denial.now.free.now.words }
+    requires live { IsTable denial.now.instance.now live.old.words }
+    requires same { denial.now.yes.now.problem ≡ denial.now.instance.now }
+    ensures ok { OnOk result (Asks denial.now.instance.now denial.now.yes.now.patterns denial.now.free.now.words live.old.words
+        denial.now.pattern.now (λ j. j < length denial.now.yes.now.patterns) live.new.words) }
+    ensures unchanged { live.new.earlier ≡ live.old.earlier }
+{
+    let instance = denial.instance;
+    let courses = instance.courses();
+    for course in courses_of(instance, &denial.pattern.who) {
+        if *course >= courses {
             continue;
         }
-        if is_cleared(instance, live) {
-            return Ok(());
-        }
-        let watch = settle(instance, links, free, live, older, watches.at(place))?;
-        watches.set(place, watch);
+        settle_row(denial, live, watches, *course)?;
     }
+    settle_row(denial, live, watches, courses)?;
+    Ok(())
+}
+
+/// Looks at all yes-facts.
+fn settle_all(
+    denial: &Denial<'_, '_, '_>,
+    live: &mut Trail,
+    watches: &mut Watches,
+) -> Result<(), AllocError>
+    requires links { AreConflicts denial.now.instance.now denial.now.links.now }
+    requires free { IsTable denial.now.instance.now denial.now.free.now.words }
+    requires live { IsTable denial.now.instance.now live.old.words }
+    ensures ok { OnOk result (Asks denial.now.instance.now denial.now.yes.now.patterns denial.now.free.now.words live.old.words
+        denial.now.pattern.now (λ j. j < length denial.now.yes.now.patterns) live.new.words) }
+    ensures unchanged { live.new.earlier ≡ live.old.earlier }
+{
+    for place in 0..denial.yes.len() {
+        settle_place(denial, live, watches, place)?;
+    }
+    Ok(())
+}
+
+/// Returns how many shelves a no-fact asks, at most.
+fn shelves_asked(instance: &Instance<'_>, pattern: &Pattern) -> usize {
+    let (from, to) = slots_of(instance, pattern);
+    let courses = courses_of(instance, &pattern.who);
+    let columns = to.saturating_sub(from) as usize;
+    courses
+        .len()
+        .saturating_add(1)
+        .saturating_mul(columns.saturating_add(1))
+}
+
+/// Removes the live cells that the older yes-facts exclude now.
+pub fn settle_again(
+    denial: &Denial<'_, '_, '_>,
+    live: &mut Trail,
+    watches: &mut Watches,
+) -> Result<(), AllocError>
+    requires links { AreConflicts denial.now.instance.now denial.now.links.now }
+    requires free { IsTable denial.now.instance.now denial.now.free.now.words }
+    requires live { IsTable denial.now.instance.now live.old.words }
+    requires same { denial.now.yes.now.problem ≡ denial.now.instance.now }
+    ensures ok { OnOk result (Renews denial.now.instance.now denial.now.yes.now.patterns denial.now.free.now.words live.old.words
+        denial.now.pattern.now live.new.words) }
+    ensures unchanged { live.new.earlier ≡ live.old.earlier }
+{
+    let are_few = denial.yes.len() <= shelves_asked(denial.instance, denial.pattern);
+    if are_few {
+        settle_all(denial, live, watches)?;
+        return Ok(());
+    }
+    settle_rows(denial, live, watches)?;
     Ok(())
 }

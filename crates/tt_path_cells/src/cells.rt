@@ -9,6 +9,7 @@ use crate::first::first_table;
 use crate::listing::{list_fact, unlist_fact};
 use crate::order::{Ranked, RoomOrder};
 use crate::places::cells_word;
+use crate::shelves::YesFacts;
 use crate::watching::Watches;
 use std::alloc::{AllocError, Global};
 use std::marker::Model;
@@ -25,7 +26,7 @@ pub struct Cells<'p, 'i> {
     order: RoomOrder,
     facts: Vec<Fact>,
     firsts: Vec<bool>,
-    yes: Vec<Pattern>,
+    yes: YesFacts<'p, 'i>,
     watches: Watches,
     free: Trail,
     live: Trail,
@@ -48,7 +49,8 @@ impl<'p, 'i> Model for Cells<'p, 'i> {
       links : AreConflicts s.instance.now s.links;
       order : IsRoomOrder s.instance.now s.order;
       depth : length s.facts.items ≤ MAX_FACTS;
-      listing : IsListing s.facts.items s.firsts.items s.yes.items;
+      same : s.yes.problem ≡ s.instance.now;
+      listing : IsListing s.facts.items s.firsts.items s.yes.patterns;
       tables : AreTables s.instance.now s.facts.items s.free.words s.live.words;
       earlier : AreEarlier s.instance.now s.facts.items s.free.earlier s.live.earlier;
     } };
@@ -72,7 +74,7 @@ impl<'p, 'i> Cells<'p, 'i> {
         let order = RoomOrder::new(alloc, instance)?;
         let facts = Vec::new(alloc);
         let firsts = Vec::new(alloc);
-        let yes = Vec::new(alloc);
+        let yes = YesFacts::new(alloc, instance)?;
         let watches = Watches::new(alloc);
         let free = first_table(alloc, instance)?;
         let live = first_table(alloc, instance)?;
@@ -135,7 +137,7 @@ impl<'p, 'i> Cells<'p, 'i> {
             &self.links,
             &mut self.free,
             &mut self.live,
-            self.yes.as_slice(),
+            &self.yes,
             &mut self.watches,
             &fact,
             is_listed,

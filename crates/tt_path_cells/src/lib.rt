@@ -16,6 +16,7 @@ mod places;
 mod removing;
 mod rooms;
 mod settling;
+mod shelves;
 mod watching;
 
 pub use cells::Cells;

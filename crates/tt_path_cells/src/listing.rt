@@ -5,8 +5,9 @@ ghost use Rattle.std.specs.List.{list_any};
 ghost use Rattle.tt_path.specs.Facts.{same_pattern};
 ghost use Rattle.tt_path_cells.specs.Inner.Listing.{IsListing};
 
+use crate::shelves::YesFacts;
 use std::alloc::AllocError;
-use tt_path::{Fact, Pattern};
+use tt_path::Fact;
 
 /// Returns whether it is a yes-fact whose pattern isn't listed.
 fn is_new(fact: &Fact, is_listed: bool) -> bool
@@ -21,15 +22,16 @@ fn is_new(fact: &Fact, is_listed: bool) -> bool
 pub fn list_fact(
     facts: &mut Vec<Fact>,
     firsts: &mut Vec<bool>,
-    yes: &mut Vec<Pattern>,
+    yes: &mut YesFacts<'_, '_>,
     fact: Fact,
     is_listed: bool,
 ) -> Result<(), AllocError>
-    requires listing { IsListing facts.old.items firsts.old.items yes.old.items }
-    requires listed { is_listed ≡ list_any (λ g. same_pattern g fact.pattern) yes.old.items }
+    requires listing { IsListing facts.old.items firsts.old.items yes.old.patterns }
+    requires listed { is_listed ≡ list_any (λ g. same_pattern g fact.pattern) yes.old.patterns }
     ensures ok { OnOk result (facts.new.items ≡ facts.old.items ++ fact ∷ []) }
     ensures err { OnErr result (facts.new.items ≡ facts.old.items) }
-    ensures listing { IsListing facts.new.items firsts.new.items yes.new.items }
+    ensures unchanged { yes.new.problem ≡ yes.old.problem }
+    ensures listing { IsListing facts.new.items firsts.new.items yes.new.patterns }
 {
     let is_new = is_new(&fact, is_listed);
     facts.push(fact)?;
@@ -43,18 +45,23 @@ pub fn list_fact(
     if let Err(fault) = yes.push(fact.pattern) {
         let _ = firsts.pop();
         let _ = facts.pop();
-        return Err(fault.into());
+        return Err(fault);
     }
     Ok(())
 }
 
 /// Removes the newest fact from the lists and returns it.
 #[inline(always)]
-pub fn unlist_fact(facts: &mut Vec<Fact>, firsts: &mut Vec<bool>, yes: &mut Vec<Pattern>) -> Fact
+pub fn unlist_fact(
+    facts: &mut Vec<Fact>,
+    firsts: &mut Vec<bool>,
+    yes: &mut YesFacts<'_, '_>,
+) -> Fact
     requires positive { 0 < length facts.old.items }
-    requires listing { IsListing facts.old.items firsts.old.items yes.old.items }
+    requires listing { IsListing facts.old.items firsts.old.items yes.old.patterns }
     ensures fact { facts.old.items ≡ facts.new.items ++ result ∷ [] }
-    ensures listing { IsListing facts.new.items firsts.new.items yes.new.items }
+    ensures unchanged { yes.new.problem ≡ yes.old.problem }
+    ensures listing { IsListing facts.new.items firsts.new.items yes.new.patterns }
 {
     let fact = facts.take_last();
     let is_new = firsts.take_last();

@@ -5,7 +5,7 @@ use Rattle.tt_path_cells.proofs.listing.list_fact.Goals as goal
 pub returns-then-not-is_new-clause-listing : goal.returns-then-not-is_new-clause-listing
 returns-then-not-is_new-clause-listing c =
     let a = c.args in
-    let yes = a.yes.now.items in
+    let yes = a.yes.now.patterns in
     let m = c.is_new-is_new.result in
     same_listing _ _ _ _ _ yes c.in_ok-push.ensures.items c.in_default.ensures.items (added-none yes a.fact m c.if-not-is_new.true)
     (listing-pushed a.facts.now.items a.firsts.now.items yes a.fact m c.requires.listing
@@ -14,9 +14,9 @@ returns-then-not-is_new-clause-listing c =
 pub returns-clause-listing : goal.returns-clause-listing
 returns-clause-listing c =
     let a = c.args in
-    let yes = a.yes.now.items in
+    let yes = a.yes.now.patterns in
     let m = c.is_new-is_new.result in
     same_listing _ _ _ _ _ _ c.in_ok-push.ensures.items c.in_default.ensures.items
-    (c.in_default-push.ensures.items ∙ added-one yes a.fact m c.if-not-is_new.false)
+    (c.in_default-push.ensures.ok ∙ added-one yes a.fact m c.if-not-is_new.false)
     (listing-pushed a.facts.now.items a.firsts.now.items yes a.fact m c.requires.listing
     (c.is_new-is_new.ensures ∙ ap (λ b. a.fact.holds && not b) c.requires.listed))

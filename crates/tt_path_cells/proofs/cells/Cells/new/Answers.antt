@@ -10,7 +10,8 @@ invariant_of-result c =
       links = c.in_ok-links.ensures;
       order = c.in_ok-order.ensures;
       depth = rw c.new-facts.ensures.items (omega arith);
-      listing = rw (c.new-facts.ensures.items, c.new-firsts.ensures.items, c.new-yes.ensures.items) listing-none;
+      same = c.in_ok-yes.ensures.problem;
+      listing = rw (c.new-facts.ensures.items, c.new-firsts.ensures.items, c.in_ok-yes.ensures.patterns) listing-none;
       tables = rw c.new-facts.ensures.items
           (first_tables p c.in_ok-free.free.words c.in_ok-live.live.words c.in_ok-free.ensures.shows c.in_ok-live.ensures.shows);
       earlier = rw (c.new-facts.ensures.items, c.in_ok-free.ensures.earlier, c.in_ok-live.ensures.earlier) (none_earlier p);

@@ -1,4 +1,4 @@
-use Rattle.std.proofs.Common.{◌≡◌, [], ◌∷◌, ◌++◌, length, ap, arith}
+use Rattle.std.proofs.Common.{◌≡◌, [], ◌∷◌, ◌++◌, length, ap, ◌∙◌, arith}
 use Rattle.std.proofs.Common.{length-append}
 use Rattle.tt_path_cells.proofs.Earlier.{earlier_popped}
 use Rattle.tt_path_cells.proofs.cells.Cells.pop.Goals as goal
@@ -17,6 +17,7 @@ invariant_of-self c =
       links = c.self.invariant.links;
       order = c.self.invariant.order;
       depth = omega (arith, c.self.invariant.depth, ap length e, length-append facts (f ∷ []));
+      same = c.unlist_fact.ensures.unchanged ∙ c.self.invariant.same;
       listing = c.unlist_fact.ensures.listing;
       tables = popped.0;
       earlier = popped.1;

@@ -12,7 +12,7 @@ list_fact-requires-clause-listed c =
     let s = c.self.inside in
     let g = c.args.fact.pattern in
     c.requires.listed ∙ sym (ap (λ (v : Facts). has_fact v.facts g true) c.self.view_is)
-    ∙ listed-fact s.facts.items s.yes.items g (listing-now s.facts.items s.firsts.items s.yes.items c.self.invariant.listing)
+    ∙ listed-fact s.facts.items s.yes.patterns g (listing-now s.facts.items s.firsts.items s.yes.patterns c.self.invariant.listing)
 
 pub add-requires-clause-listed : goal.add-requires-clause-listed
 add-requires-clause-listed c = λ denies.
@@ -20,11 +20,14 @@ add-requires-clause-listed c = λ denies.
     let f = c.args.fact in
     let old = s.facts.items in
     let facts = c.list_fact.new.facts.items in
-    let listed : AreListed (old ++ f ∷ []) c.as_slice.result.now = subst (AreListed (old ++ f ∷ [])) (sym c.as_slice.ensures.value)
-    (subst (λ l. AreListed l c.list_fact.new.yes.items) c.in_ok-list_fact.ensures.ok
-    (listing-now facts c.list_fact.new.firsts.items c.list_fact.new.yes.items c.list_fact.ensures.listing)) in
+    let yes = c.list_fact.new.yes.patterns in
+    let listed : AreListed (old ++ f ∷ []) yes = subst (λ l. AreListed l yes) c.in_ok-list_fact.ensures.ok
+    (listing-now facts c.list_fact.new.firsts.items yes c.list_fact.ensures.listing) in
     c.requires.listed ∙ sym (ap (λ (v : Facts). has_fact v.facts f.pattern true) c.self.view_is)
-    ∙ listed-before old f c.as_slice.result.now f.pattern denies listed
+    ∙ listed-before old f yes f.pattern denies listed
+
+pub add-requires-clause-same : goal.add-requires-clause-same
+add-requires-clause-same c = c.list_fact.ensures.unchanged ∙ c.self.invariant.same
 
 pub invariant_of-self-in_default : goal.invariant_of-self-in_default
 invariant_of-self-in_default c =
@@ -37,15 +40,16 @@ invariant_of-self-in_default c =
     let live = c.add.new.live.words in
     let e : facts ≡ old ++ f ∷ [] = c.in_ok-list_fact.ensures.ok in
     let listing = c.list_fact.ensures.listing in
-    let listed : AreListed (old ++ f ∷ []) c.as_slice.result.now = subst (AreListed (old ++ f ∷ [])) (sym c.as_slice.ensures.value)
-    (subst (λ l. AreListed l c.list_fact.new.yes.items) e
-    (listing-now facts c.list_fact.new.firsts.items c.list_fact.new.yes.items listing)) in
+    let yes = c.list_fact.new.yes.patterns in
+    let listed : AreListed (old ++ f ∷ []) yes = subst (λ l. AreListed l yes) e
+    (listing-now facts c.list_fact.new.firsts.items yes listing) in
     let before = c.self.invariant.tables in
     let kept = earlier_pushed p old f s.free.earlier s.live.earlier s.free.words s.live.words before c.self.invariant.earlier in
     record {
       links = c.self.invariant.links;
       order = c.self.invariant.order;
       depth = omega (arith, c.requires.depth, ap length e, length-append old (f ∷ []), ap (λ (v : Facts). length v.facts) c.self.view_is);
+      same = c.list_fact.ensures.unchanged ∙ c.self.invariant.same;
       listing = listing;
       tables = subst (λ l. AreTables p l free live) (sym e) (c.in_default.ensures.ok.added old listed before);
       earlier = rw (e, c.in_default.ensures.kept_free, c.in_default.ensures.kept_live) kept;

@@ -1,0 +1,11 @@
+use Rattle.std.proofs.Common.{◌≡◌, ◌<◌}
+use Rattle.tt_path_cells.specs.Inner.Asking.{Asks}
+use Rattle.tt_path_cells.proofs.again.settle_all.Given as goal
+
+abbrev pub invariant-loop-place : goal.invariant-loop-place
+invariant-loop-place l =
+    let d = l.denial in
+    record {
+      asks : Asks d.instance.now d.yes.now.patterns d.free.now.words l.fn.live.words d.pattern.now (λ j. j < l.place) l.live.words;
+      earlier : l.live.earlier ≡ l.fn.live.earlier;
+    }
