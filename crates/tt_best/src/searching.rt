@@ -12,16 +12,26 @@ use std::alloc::{AllocError, Global};
 use tt_instance::Instance;
 use tt_parts::Effort;
 use tt_search::improve;
+use tt_table::Timetable;
 use tt_watch::Watch;
 
-/// The number of steps that the second round makes for a better timetable; later rounds make more, by the square of the rounds before.
-const STEPS: u64 = 200_000;
+/// The number of steps that the second round makes for a better timetable; later rounds make more, by the square of the rounds before, until
+/// there are enough.
+const STEPS: u64 = 400_000;
 
-/// The maximum number of steps of a round.
-const MOST_STEPS: u64 = 20_000_000;
+/// The maximum number of steps of a round, for each pair of lectures, and its least and its greatest value. The search forgets the timetable with
+/// which it begins, so another round with its own random choices gains more than a longer one.
+const STEPS_OF_A_PAIR: u64 = 30;
 
-/// The number of nodes that the first search for bounds may use up.
-const FIRST_NODES: u32 = 20_000;
+const FEWEST_MOST_STEPS: u64 = 2_900_000;
+
+const GREATEST_MOST_STEPS: u64 = 20_000_000;
+
+/// The number by which a seed is multiplied, so that no round has the seed of a round of the next search.
+const SEED_FACTOR: u64 = 0x9e37_79b9_7f4a_7c15;
+
+/// The number of nodes that the first search for bounds may use up; a later one may use so many for each round before it.
+const FIRST_NODES: u32 = 2_500;
 
 /// The maximum number of nodes that a search for bounds may use up.
 const MOST_NODES: u32 = 1_000_000;
@@ -39,9 +49,7 @@ fn effort_of(rounds: Rounds, round: u64) -> Option<Effort> {
     if round.count_ones() != 1 {
         return None;
     }
-    let nodes = u64::from(FIRST_NODES)
-        .saturating_mul(round)
-        .saturating_mul(2);
+    let nodes = u64::from(FIRST_NODES).saturating_mul(round);
     Some(Effort {
         nodes: u32::try_from(nodes).unwrap_or(MOST_NODES).min(MOST_NODES),
         seed: rounds.seed,
@@ -49,11 +57,18 @@ fn effort_of(rounds: Rounds, round: u64) -> Option<Effort> {
 }
 
 /// Returns the number of steps that a later round makes for a better timetable.
-fn steps_of(round: u64) -> u64 {
-    STEPS
-        .saturating_mul(round)
-        .saturating_mul(round)
-        .min(MOST_STEPS)
+fn steps_of(table: &Timetable, round: u64) -> u64 {
+    let lectures = table.len() as u64;
+    let most = lectures
+        .saturating_mul(lectures)
+        .saturating_mul(STEPS_OF_A_PAIR)
+        .clamp(FEWEST_MOST_STEPS, GREATEST_MOST_STEPS);
+    STEPS.saturating_mul(round).saturating_mul(round).min(most)
+}
+
+/// Returns the seed of a later round.
+fn seed_of(rounds: Rounds, round: u64) -> u64 {
+    rounds.seed.wrapping_mul(SEED_FACTOR).wrapping_add(round)
 }
 
 /// Checks whether the search ends with this result: nothing is left to search for, or the watch ends it.
@@ -110,8 +125,9 @@ fn search_round<W: WatchRounds>(
     ensures no_higher { IfOk result (λ w. IsNoHigher instance.now week.table w.table) }
 {
     let Week { table, parts } = week;
-    let seed = rounds.seed.wrapping_add(round);
-    let table = improve(alloc, instance, table, seed, steps_of(round), watch)?;
+    let seed = seed_of(rounds, round);
+    let steps = steps_of(&table, round);
+    let table = improve(alloc, instance, table, seed, steps, watch)?;
     let week = Week { table, parts };
     let Some(effort) = effort_of(rounds, round) else {
         return Ok(week);

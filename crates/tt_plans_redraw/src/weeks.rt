@@ -7,8 +7,8 @@ use tt_plans::Facts;
 use tt_plans_odds::{Dice, NAT};
 use tt_plans_tables::put;
 
-/// The wait after which nothing is drawn; the odds of more are less than those of any random wait.
-pub const LONGEST_WAIT: i64 = 9 * NAT as i64 + NAT as i64 / 16;
+/// The wait after which nothing is drawn: what is a thousand times less likely than the present plan isn't worth the time.
+pub const LONGEST_WAIT: i64 = 7 * NAT as i64;
 
 /// The bits above each byte's seven, which a subtraction in a byte borrows from.
 const GUARDS: u32 = 0x8080_8080;

@@ -6,15 +6,15 @@ ghost use Rattle.tt_table.specs.Table.{IsTimetable};
 ghost use Rattle.tt_walk.specs.Improved.{IsNoWorse, LeadsWithin, IsDescended};
 ghost use Rattle.tt_walk.specs.Inner.Pairs.{IsBest};
 
+use crate::annealing::walk_by_annealing;
 use crate::planning::walk_by_plans;
 use crate::restoring::restore;
-use crate::tempering::walk_by_tempering;
 use rand_pcg::Pcg32;
 use std::alloc::{AllocError, Global};
 use tt_instance::Instance;
 use tt_moves_descend::descend_in;
 use tt_occupancy::Occupied;
-use tt_plans_temper::{Tempering, can_temper};
+use tt_plans_anneal::{Annealing, can_anneal};
 use tt_replan::{Replanner, can_replan};
 use tt_table::Timetable;
 use tt_walk::{
@@ -122,32 +122,32 @@ fn go_plans<W: Watch>(
     restore(occupied, &best.entries);
 }
 
-/// The number of steps of a tempering for each unit of the root of the number of draws; at most one for each entry and draw is made.
-const TEMPERED: u64 = 12_000;
+/// The number of steps of an annealing for each unit of the root of the number of draws; at most one for each entry and draw is made.
+const ANNEALED: u64 = 12_000;
 
-/// The minimum number of draws with which a timetable is tempered.
+/// The minimum number of draws with which a timetable is annealed.
 const FEWEST_DRAWS: u64 = 5_000;
 
-/// The minimum number of entries of a timetable that is tempered: the other search finds the optimum of smaller ones sooner.
+/// The minimum number of entries of a timetable that is annealed: the other search finds the optimum of smaller ones sooner.
 const FEWEST_ENTRIES: u64 = 64;
 
-/// Checks whether a timetable is searched by tempering with this many draws: one for each entry leads to whatever is found.
-fn is_tempered(occupied: &Occupied<'_, '_>, draws: u64) -> bool {
+/// Checks whether a timetable is searched by annealing with this many draws: one for each entry leads to whatever is found.
+fn is_annealed(occupied: &Occupied<'_, '_>, draws: u64) -> bool {
     let entries = occupied.table().len() as u64;
     entries >= FEWEST_ENTRIES
         && draws >= entries.max(FEWEST_DRAWS)
         && occupied.score().feasible()
-        && can_temper(occupied.instance())
+        && can_anneal(occupied.instance())
 }
 
-/// Returns the number of steps of a tempering with this many draws and entries.
-fn tempered_steps(draws: u64, entries: usize) -> u64 {
+/// Returns the number of steps of an annealing with this many draws and entries.
+fn annealed_steps(draws: u64, entries: usize) -> u64 {
     let most = draws.saturating_mul(entries as u64);
-    draws.isqrt().saturating_mul(TEMPERED).min(most)
+    draws.isqrt().saturating_mul(ANNEALED).min(most)
 }
 
-/// Moves to the best timetable that tempering finds.
-fn temper_to_best<W: Watch>(
+/// Moves to the best timetable that annealing finds.
+fn anneal_to_best<W: Watch>(
     alloc: Global,
     occupied: &mut Occupied<'_, '_>,
     seed: u64,
@@ -161,14 +161,14 @@ fn temper_to_best<W: Watch>(
 {
     let mut best = Best::new(alloc, occupied)?;
     let first = Vec::from_slice(alloc, occupied.table().entries())?;
-    let steps = tempered_steps(draws, occupied.table().len());
-    let mut tempering = Tempering::new(alloc, occupied, seed, steps)?;
+    let steps = annealed_steps(draws, occupied.table().len());
+    let mut annealing = Annealing::new(alloc, occupied, seed, steps)?;
     let span = Span { before: 0, limit };
-    walk_by_tempering(
+    walk_by_annealing(
         occupied,
         &mut best,
         &first,
-        &mut tempering,
+        &mut annealing,
         draws,
         span,
         watch,
@@ -193,8 +193,8 @@ fn walk_to_best<W: Watch>(
     if occupied.table().is_empty() {
         return Ok(());
     }
-    if is_tempered(occupied, draws) {
-        return temper_to_best(alloc, occupied, seed, draws, limit, watch);
+    if is_annealed(occupied, draws) {
+        return anneal_to_best(alloc, occupied, seed, draws, limit, watch);
     }
     let mut best = Best::new(alloc, occupied)?;
     let mut walker = Walker::new(alloc, occupied, seed)?;
@@ -229,7 +229,7 @@ fn walk_to_best<W: Watch>(
 }
 
 /// Searches for a better timetable with the same courses, from a seed and a number of steps: half of them are drawn, and make a walk
-/// near the best timetable so far, or lead to what tempering has found; the others descend from the best one. If the watch ends the search, fewer are drawn. The same seed gives
+/// near the best timetable so far, or lead to what annealing has found; the others descend from the best one. If the watch ends the search, fewer are drawn. The same seed gives
 /// the same result on every machine, unless the watch ends the search. The table is consumed even if memory runs out. It is not proved that
 /// the result is mostly better.
 pub fn improve<W: Watch>(

@@ -1,11 +1,11 @@
 //! A seeded search for a better timetable.
 #![tactic(auto)]
 
+mod annealing;
 mod improving;
 mod planning;
 mod restoring;
 mod runs;
-mod tempering;
 
 pub use improving::improve;
 pub use runs::{Search, improve_in_runs};

@@ -2,12 +2,12 @@
 //! is a list of moves.
 #![tactic(auto)]
 
+mod annealing;
 mod cooling;
 mod draft;
 mod incumbent;
 mod scale;
 mod schedule;
 mod stepping;
-mod tempering;
 
-pub use tempering::{Tempering, can_temper};
+pub use annealing::{Annealing, can_anneal};

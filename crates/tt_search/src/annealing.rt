@@ -1,4 +1,4 @@
-//! Walks by tempering.
+//! Walks by annealing.
 
 ghost use Rattle.std.specs.Prelude.{◌≡◌, List};
 ghost use Rattle.tt_instance.specs.declared.cell.Cell.{Cell};
@@ -9,7 +9,7 @@ ghost use Rattle.tt_walk.specs.Inner.Pairs.{IsBest};
 use crate::planning::make_steps;
 use crate::restoring::restore;
 use tt_occupancy::Occupied;
-use tt_plans_temper::Tempering;
+use tt_plans_anneal::Annealing;
 use tt_table::Entry;
 use tt_walk::{Best, Span};
 use tt_watch::Watch;
@@ -20,7 +20,7 @@ fn advance(
     occupied: &mut Occupied<'_, '_>,
     best: &mut Best,
     first: &[Entry],
-    tempering: &mut Tempering,
+    annealing: &mut Annealing,
     draws: u64,
 )
     requires in_range { IsTimetable occupied.old.problem first.now }
@@ -34,10 +34,10 @@ fn advance(
     ensures reached { LeadsWithin occupied.old.problem first.now draws best.old.entries.items
         → LeadsWithin occupied.old.problem first.now draws best.new.entries.items }
 {
-    if !tempering.advance() {
+    if !annealing.advance() {
         return;
     }
-    let moves = tempering.moves();
+    let moves = annealing.moves();
     if moves.len() as u64 > draws {
         return;
     }
@@ -46,13 +46,13 @@ fn advance(
     best.keep(occupied);
 }
 
-/// Searches by tempering until it is at its end or the search is to end, and stores the best timetable on the way. Each move to it from the
+/// Searches by annealing until it is at its end or the search is to end, and stores the best timetable on the way. Each move to it from the
 /// first one is a draw. No memory is allocated.
-pub fn walk_by_tempering<W: Watch>(
+pub fn walk_by_annealing<W: Watch>(
     occupied: &mut Occupied<'_, '_>,
     best: &mut Best,
     first: &[Entry],
-    tempering: &mut Tempering,
+    annealing: &mut Annealing,
     draws: u64,
     span: Span,
     watch: &mut W,
@@ -69,10 +69,10 @@ pub fn walk_by_tempering<W: Watch>(
         → LeadsWithin occupied.old.problem first.now draws best.new.entries.items }
 {
     for _ in 0..u64::MAX {
-        if tempering.is_over() || watch.is_over() {
+        if annealing.is_over() || watch.is_over() {
             break;
         }
-        advance(occupied, best, first, tempering, draws);
-        span.tell(watch, tempering.share(draws), best);
+        advance(occupied, best, first, annealing, draws);
+        span.tell(watch, annealing.share(draws), best);
     }
 }

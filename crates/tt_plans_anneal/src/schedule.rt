@@ -5,10 +5,13 @@ use tt_plans::Sizes;
 /// The number of steps between two looks at what else is due.
 pub const ROUND: u64 = 300;
 
-/// The number of steps of a cycle for each lecture, and the minimum number, if there are several cycles.
-const CYCLE: u64 = 45_000;
+/// The number of steps of a cycle for each pair of lectures, and the minimum number, if there are several cycles.
+const CYCLE: u64 = 160;
 
-const LEAST_CYCLE: u64 = 12_000_000;
+const LEAST_CYCLE: u64 = 3_000_000;
+
+/// The maximum number of lectures with which each lecture makes a pair: from there on, a cycle grows with the lectures.
+const PARTNERS: u64 = 280;
 
 /// The number of times that homes alone are searched at the end.
 pub const SETTLINGS: u64 = 10;
@@ -45,7 +48,8 @@ pub struct Schedule {
 
 /// Returns the number of steps of each cycle. All are about as long.
 fn cycle_of(steps: u64, lectures: u64) -> u64 {
-    let wanted = lectures.saturating_mul(CYCLE).max(LEAST_CYCLE);
+    let pairs = lectures.saturating_mul(lectures.min(PARTNERS));
+    let wanted = pairs.saturating_mul(CYCLE).max(LEAST_CYCLE);
     let cycles = steps.saturating_add(wanted / 2).checked_div(wanted);
     let cycle = steps.checked_div(cycles.unwrap_or(1).max(1));
     cycle.unwrap_or(steps).max(1)

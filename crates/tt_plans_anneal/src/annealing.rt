@@ -37,7 +37,7 @@ const MOST_ROOMS: u32 = 512;
 
 /// A plan that is heated and cooled slowly.
 #[derive(Drop)]
-pub struct Tempering {
+pub struct Annealing {
     facts: Facts,
     dice: Dice,
     stepper: Stepper,
@@ -61,7 +61,7 @@ pub struct Tempering {
 }
 
 /// Checks whether an instance is small enough for the tables.
-pub fn can_temper(instance: &Instance<'_>) -> bool {
+pub fn can_anneal(instance: &Instance<'_>) -> bool {
     instance.rooms() <= MOST_ROOMS && can_redraw(instance)
 }
 
@@ -115,14 +115,14 @@ fn anneal_homes(
     }
 }
 
-impl Tempering {
+impl Annealing {
     /// Begins with a timetable that breaks no hard rule. No later call allocates memory.
     pub fn new(
         alloc: Global,
         occupied: &Occupied<'_, '_>,
         seed: u64,
         steps: u64,
-    ) -> Result<Tempering, AllocError> {
+    ) -> Result<Annealing, AllocError> {
         let facts = Facts::new(alloc, occupied)?;
         let load = Load::new(&facts);
         let start = start_of(alloc, &facts, occupied)?;
@@ -134,7 +134,7 @@ impl Tempering {
         cheapest.cost = start.cost;
         clearest.cost = start.cost;
         barest.cost = start.cost;
-        Ok(Tempering {
+        Ok(Annealing {
             dice: Dice::new(alloc, seed)?,
             stepper: Stepper::new(alloc, &facts)?,
             load,

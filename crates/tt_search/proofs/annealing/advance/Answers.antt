@@ -4,7 +4,7 @@ use Rattle.tt_occupancy.specs.Filled.{Filled}
 use Rattle.tt_walk.specs.Improved.{LeadsWithin}
 use Rattle.tt_walk.specs.declared.best.Best.{Best}
 use Rattle.tt_walk.proofs.Improvements.{leads_more}
-use Rattle.tt_search.proofs.tempering.advance.Goals as goal
+use Rattle.tt_search.proofs.annealing.advance.Goals as goal
 
 pub returns-clause-reached : goal.returns-clause-reached
 returns-clause-reached c =

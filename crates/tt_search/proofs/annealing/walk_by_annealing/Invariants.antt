@@ -2,7 +2,7 @@ use Rattle.std.proofs.Common.{◌≡◌, List}
 use Rattle.tt_instance.specs.declared.cell.Cell.{Cell}
 use Rattle.tt_walk.specs.Improved.{courses_of, LeadsWithin}
 use Rattle.tt_walk.specs.Inner.Pairs.{IsBest}
-use Rattle.tt_search.proofs.tempering.walk_by_tempering.Given as goal
+use Rattle.tt_search.proofs.annealing.walk_by_annealing.Given as goal
 
 abbrev pub invariant-loop : goal.invariant-loop
 invariant-loop g l = record {

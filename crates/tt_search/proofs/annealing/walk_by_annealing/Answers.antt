@@ -4,7 +4,7 @@ use Rattle.tt_table.specs.Table.{IsTimetable}
 use Rattle.tt_walk.specs.Improved.{LeadsWithin}
 use Rattle.tt_walk.specs.Inner.Pairs.{IsBest}
 use Rattle.tt_walk.proofs.Improvements.{leads_here}
-use Rattle.tt_search.proofs.tempering.walk_by_tempering.Goals as goal
+use Rattle.tt_search.proofs.annealing.walk_by_annealing.Goals as goal
 
 pub loop-init : goal.loop-init
 loop-init g c = record {
