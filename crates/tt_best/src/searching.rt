@@ -30,8 +30,11 @@ const GREATEST_MOST_STEPS: u64 = 20_000_000;
 /// The number by which a seed is multiplied, so that no round has the seed of a round of the next search.
 const SEED_FACTOR: u64 = 0x9e37_79b9_7f4a_7c15;
 
-/// The number of nodes that the first search for bounds may use up; a later one may use so many for each round before it.
-const FIRST_NODES: u32 = 2_500;
+/// The number of nodes that the first search for bounds may use up.
+const FIRST_NODES: u32 = 10_000;
+
+/// The number of nodes that a later search for bounds may use up, for each round before it.
+const LATER_NODES: u32 = 2_500;
 
 /// The maximum number of nodes that a search for bounds may use up.
 const MOST_NODES: u32 = 1_000_000;
@@ -49,7 +52,7 @@ fn effort_of(rounds: Rounds, round: u64) -> Option<Effort> {
     if round.count_ones() != 1 {
         return None;
     }
-    let nodes = u64::from(FIRST_NODES).saturating_mul(round);
+    let nodes = u64::from(LATER_NODES).saturating_mul(round);
     Some(Effort {
         nodes: u32::try_from(nodes).unwrap_or(MOST_NODES).min(MOST_NODES),
         seed: rounds.seed,
