@@ -27,6 +27,7 @@ use Rattle.tt_proof_sum.specs.Sums.{IsSum}
 use Rattle.tt_proof_sum.specs.declared.fault.FileFault.{FileFault}
 use Rattle.tt_proof_sum.specs.declared.fault.SumStop.{SumStop}
 use Rattle.tt_call_answers.specs.FaultMaps.{fault_from_labels, fault_from_page, fault_at_file, fault_from_sum}
+use Rattle.tt_call_answers.specs.Refusals.{IsUnwritten}
 use Rattle.tt_call_texts.specs.Paged.{labels_for, IsNotPut, IsPageRefusal, IsProvedPageRefusal}
 use Rattle.tt_call_texts.specs.declared.calls.page.PageNames.{PageNames}
 use Rattle.tt_call_answers.specs.declared.fault.AppFault.{AppFault}
@@ -38,6 +39,13 @@ pub output_tells : (f : PageFault) (text : List ℕ) → ExplainsSize f text →
 output_tells page.Write text size = size
 output_tells page.TooLarge text size = size
 output_tells page.OutOfMemory text size = tt
+
+-- a page that is too large, or for which memory ran out, leaves the sink as it was
+pub page_unwritten : {S : Type 0} (old new : S) (f : PageFault) → (f ≡ page.TooLarge → new ≡ old) → (f ≡ page.OutOfMemory → new ≡ old)
+    → IsUnwritten (fault_from_page f) → new ≡ old
+page_unwritten old new page.Write large memory is = absurd is
+page_unwritten old new page.TooLarge large memory is = large refl
+page_unwritten old new page.OutOfMemory large memory is = memory refl
 
 -- being out of memory says nothing of the size
 pub memory_not_put : (f : AppFault) (text : List ℕ) → f ≡ fault.OutOfMemory → IsNotPut f text

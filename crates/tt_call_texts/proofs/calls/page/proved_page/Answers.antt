@@ -14,7 +14,7 @@ use Rattle.tt_call_answers.proofs.ReportedMemory.{lower_sum, lower_instance, low
 use Rattle.tt_call_answers.proofs.FailedReads.{read_summed, passed, calm, unread, sum_read, instance_read_at, solution_read_at, labels_read_at, page_read_at, instance_write, solution_write, labels_write, sum_write, page_write}
 use Rattle.tt_call_answers.proofs.Sums.{sum_here, silent_refusal}
 use Rattle.tt_call_answers.proofs.Files.{tells_instance, tells_solution, only_memory}
-use Rattle.tt_call_texts.proofs.Paging.{names_memory, names_tell_proved, sum_tells_page, page_tells, page_same, proved_same, output_tells}
+use Rattle.tt_call_texts.proofs.Paging.{names_memory, names_tell_proved, sum_tells_page, page_tells, page_same, proved_same, output_tells, page_unwritten}
 use Rattle.tt_call_texts.proofs.calls.page.proved_page.Goals as goal
 
 pub returns-in_err-instance-clause-only : goal.returns-in_err-instance-clause-only
@@ -252,3 +252,10 @@ returns-in_err-page-clause-failed g c =
     let f = c.in_err-page.field-0.0 in
     passed c.from_residual-in_err-page.result (fault_from_page f) is_failed_write _ _ _ c.from_residual-in_err-page.ensures.1
     (page_write f) c.in_err-page.ensures.failed
+
+pub returns-in_err-page-clause-unwritten : goal.returns-in_err-page-clause-unwritten
+returns-in_err-page-clause-unwritten g c =
+    let e = err_from_is_err_and c.from_residual-in_err-page.result c.from_residual-in_err-page.ensures.1 in
+    rw (e.1, e.2)
+    (page_unwritten _ _ c.in_err-page.field-0.0 (λ is. c.in_err-page.ensures.refused (ap (λ f. Err f) is))
+    (λ is. c.in_err-page.ensures.unwritten (ap (λ f. Err f) is)))
