@@ -24,55 +24,16 @@ use Rattle.tt_prices_read.specs.Reading.{Part}
 use Rattle.tt_prices_read.specs.declared.header.Header.{Header}
 use Rattle.tt_prices_rooms.specs.Terms.{IsLowest, IsTerm}
 use Rattle.tt_prices_rooms.proofs.Bounds.{term_bounds}
-use Rattle.tt_prices_rooms.proofs.Sums.{lower, upper}
+use Rattle.tt_prices_rooms.proofs.Cheapest.{lowest_with}
 use Rattle.tt_prices_file.specs.Files.{groups_of, curricula_in, courses_in, rent_of, all_rents, room_scale, HasTotal, IsRight, Reaches}
 use Rattle.tt_prices_file.proofs.Parts.{curricula_of, courses_of}
 
 -- ---- the term of a course bounds it
 
--- one of the first numbers that is least
-cheapest : (f : ℕ → ℤ) (n : ℕ) → (r : ℕ) × (r < n + 1) × ((k : ℕ) → k < n + 1 → f r ≤ℤ f k)
-cheapest f zero = (0, omega arith, λ k l. let e : k ≡ 0 = omega (arith, l) in subst (λ m. f 0 ≤ℤ f m) (sym e) (omega (arith, ints)))
-cheapest f (suc n) =
-    let before = cheapest f n in
-    elim (cases_Bool (int_lt (f (suc n)) (f before.0))) [
-      | inl is ↦ (suc n, omega arith, λ k l. last before.0 (lower (f (suc n)) (f before.0) is) before.2 k (omega (arith, l)))
-      | inr is ↦ (before.0, omega (arith, before.1), λ k l. kept before.0 (upper (f (suc n)) (f before.0) is) before.2 k (omega (arith, l)))
-    ]
-  where
-    last : (r : ℕ) → f (suc n) ≤ℤ f r → ((k : ℕ) → k < n + 1 → f r ≤ℤ f k) → (k : ℕ) → k ≤ n + 1 → f (suc n) ≤ℤ f k
-    last r less below k l = elim (cases_lt k (n + 1)) [
-      | inl h ↦ let e = below k h in omega (arith, ints, less, e)
-      | inr h ↦ let e : k ≡ suc n = omega (arith, l, h) in subst (λ m. f (suc n) ≤ℤ f m) (sym e) (omega (arith, ints))
-    ]
-
-    kept : (r : ℕ) → f r ≤ℤ f (suc n) → ((k : ℕ) → k < n + 1 → f r ≤ℤ f k) → (k : ℕ) → k ≤ n + 1 → f r ≤ℤ f k
-    kept r less below k l = elim (cases_lt k (n + 1)) [
-      | inl h ↦ below k h
-      | inr h ↦ let e : k ≡ suc n = omega (arith, l, h) in subst (λ m. f r ≤ℤ f m) (sym e) less
-    ]
-
 module _ (p : Problem) (scale : ℕ) (groups : List PricedGroup) (rent : ℕ → Slot → ℕ) (c : ℕ) where
-  abbrev Lowest : (Slot → ℤ) → Type 0
-  Lowest lowest = IsLowest p scale groups rent c lowest
-
-  -- what a lecture pays in each room of a period
-  abbrev cost : Slot → ℕ → ℤ
-  cost s r = cell_cost p scale groups rent (cell c r s)
-
-  -- if there is a room, there is a cheapest one in each period
-  pub lowest_with : (n : ℕ) → length p.rooms ≡ n + 1 → (lowest : Slot → ℤ) × Lowest lowest
-  lowest_with n rooms = (
-    λ s. cost s (cheapest (cost s) n).0,
-    record {
-      least = λ r l s. (cheapest (cost s) n).2 r (omega (arith, l, rooms));
-      paid = λ s. let w = cheapest (cost s) n in (w.0, omega (arith, w.1, rooms), refl);
-    },
-  )
-
-  pub lowest_of : (b : ℤ) → IsTerm p scale groups rent c b → (lowest : Slot → ℤ) × Lowest lowest
+  lowest_of : (b : ℤ) → IsTerm p scale groups rent c b → (lowest : Slot → ℤ) × IsLowest p scale groups rent c lowest
   lowest_of b term = elim term.paid [
-    | inl one ↦ lowest_with (length p.rooms - 1) (let inside = one.1 in omega (arith, inside))
+    | inl one ↦ lowest_with p scale groups rent c (length p.rooms - 1) (let inside = one.1 in omega (arith, inside))
     | inr more ↦ (more.1, more.2)
   ]
 

@@ -1,4 +1,5 @@
 pub mod Bounds
+pub mod Cheapest
 pub mod Choices
 pub mod Listing
 pub mod Rooms

@@ -1,0 +1,4 @@
+pub mod Facts
+pub mod Left
+pub mod Priced
+pub mod Terms
