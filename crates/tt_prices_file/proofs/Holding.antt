@@ -62,7 +62,7 @@ least_same p scale g a b first second =
     omega (arith, ints, one, two, first.1.2, second.1.2)
 
 -- two lists of what the same groups pay at least add up to the same
-leasts_same : (p : Problem) (scale : ℕ) (xs ys : List (PricedGroup × ℤ)) → map (λ g. g.0) xs ≡ map (λ g. g.0) ys
+pub leasts_same : (p : Problem) (scale : ℕ) (xs ys : List (PricedGroup × ℤ)) → map (λ g. g.0) xs ≡ map (λ g. g.0) ys
     → AllByRecursion (λ g. IsLeast p scale g.0 (Some g.1)) xs → AllByRecursion (λ g. IsLeast p scale g.0 (Some g.1)) ys
     → signed_sum (λ g. g.1) xs ≡ signed_sum (λ g. g.1) ys
 leasts_same p scale [] [] same one two = refl

@@ -1,0 +1,5 @@
+pub mod Faults
+pub mod Inner
+pub mod Leaves
+pub mod Reading
+pub mod Trees
