@@ -1,6 +1,6 @@
 //! The periods of a course under facts, as places in a table of the week.
 
-ghost use Rattle.std.specs.Prelude.{◌≡◌, ◌⊎◌, ◌<◌, ℕ, [], ◌++◌, true, false, not, ◌&&◌, Contains, length, map, filter, OnOk, IfOk, if◌then◌else◌};
+ghost use Rattle.std.specs.Prelude.{◌≡◌, ◌⊎◌, ◌↔◌, ◌+◌, ◌<◌, ◌≤◌, ℕ, [], ◌++◌, true, false, not, ◌&&◌, Contains, length, map, filter, IsTrue, OnOk};
 ghost use Rattle.tt_instance.specs.Cells.{all_slots, slot};
 ghost use Rattle.tt_instance.specs.Courses.{unavailable};
 ghost use Rattle.tt_instance.specs.declared.cell.Slot.{Slot};
@@ -32,6 +32,16 @@ impl Places {
             free: Vec::new(alloc),
             has_clash: false,
         }
+    }
+
+    /// Checks whether so many lectures have places, none of which is one from which the course is kept out.
+    pub fn are_enough(&self, lectures: usize) -> bool
+        ensures { IsTrue result ↔ ((self.now.has_clash ≡ false) × (length self.now.forced.items ≤ lectures)
+            × (lectures ≤ length self.now.forced.items + length self.now.free.items)) }
+    {
+        !self.has_clash
+            && self.forced.len() <= lectures
+            && lectures <= self.forced.len() + self.free.len()
     }
 
     /// Adds a period.

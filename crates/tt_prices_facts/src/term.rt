@@ -146,13 +146,6 @@ fn least_in_one_room(
     least
 }
 
-/// Checks whether a course has enough places, and is forced into none from which it is kept out.
-fn has_places(places: &Places, lectures: usize) -> bool {
-    !places.has_clash
-        && places.forced.len() <= lectures
-        && lectures <= places.forced.len() + places.free.len()
-}
-
 /// Returns the term of a course under facts; `None` if its lectures can't be placed. The prices are those of the course in each period of the week,
 /// day by day, of the groups under these facts.
 pub fn term_under(
@@ -181,7 +174,7 @@ pub fn term_under(
         return Ok(Some(0));
     }
     buffers.places.list(instance, facts, course)?;
-    if instance.rooms() == 0 || !has_places(&buffers.places, count) {
+    if instance.rooms() == 0 || !buffers.places.are_enough(count) {
         return Ok(None);
     }
     rents_under(instance, facts, course, rooms, &mut buffers.rooms)?;

@@ -1,0 +1,4 @@
+-- Definitions that only clauses of private functions name: not part of the trusted statement.
+pub mod Pending
+pub mod Stored
+pub mod Terms
