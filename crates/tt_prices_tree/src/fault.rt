@@ -46,3 +46,30 @@ pub enum TreeFault {
     #[error("{1} at node {0}")]
     Leaf(u32, LeafFault),
 }
+
+/// Returns why a file is stopped by a fault of its text.
+pub fn stop_from_text(fault: PricesTextFault) -> Stop<TreeFault> {
+    match tt_prices_file::stop_from_text(fault) {
+        Stop::Fault(_) => Stop::Fault(TreeFault::Text(fault)),
+        Stop::ReadFailed => Stop::ReadFailed,
+        Stop::OutOfMemory => Stop::OutOfMemory,
+    }
+}
+
+/// Returns why a file is stopped by a part before its tree.
+pub fn stop_from_part(stop: Stop<PricesFault>) -> Stop<TreeFault> {
+    match stop {
+        Stop::Fault(fault) => Stop::Fault(TreeFault::Part(fault)),
+        Stop::ReadFailed => Stop::ReadFailed,
+        Stop::OutOfMemory => Stop::OutOfMemory,
+    }
+}
+
+/// Returns why a file is stopped by a leaf.
+pub fn stop_from_leaf(number: u32, stop: Stop<LeafFault>) -> Stop<TreeFault> {
+    match stop {
+        Stop::Fault(fault) => Stop::Fault(TreeFault::Leaf(number, fault)),
+        Stop::ReadFailed => Stop::ReadFailed,
+        Stop::OutOfMemory => Stop::OutOfMemory,
+    }
+}

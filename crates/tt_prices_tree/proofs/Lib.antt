@@ -1,0 +1,3 @@
+pub mod OneTotal
+pub mod Sound
+mod Examples
