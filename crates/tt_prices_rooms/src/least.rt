@@ -8,7 +8,7 @@ ghost use Rattle.tt_prices_rooms.specs.Least.{IsLeastSum};
 ghost use Rattle.tt_prices_rooms.specs.declared.limit.TheConstants.{MAX_COST, MAX_TERM};
 
 /// Returns the sum of some costs.
-fn sum_of(costs: &[i64]) -> i64
+pub fn sum_of(costs: &[i64]) -> i64
     requires few { length costs.now ≤ MAX_SLOTS }
     requires small { All (IsWithin MAX_COST) costs.now }
     ensures sum { result ≡ signed_sum (λ z. z) costs.now }
