@@ -145,7 +145,7 @@ pub all_pay : (p : Problem) (scale rooms : ℕ) (groups : List (PricedGroup × �
     + sum_by (λ r. sum_by (rent r) (all_slots p)) (all_rooms p))
 all_pay p scale rooms groups rent least group_bounds course_bounds t ok =
     payments_added p scale rooms groups rent least t ok
-    (All-weaker (λ g. IsGroupBound p scale g.0 g.1) (λ g. g.1 ≤ℤ paid p scale g.0 t) (λ g bound. bound t (feasible_relaxed p t ok g.0))
-    groups group_bounds)
+    (All-weaker (λ (g : PricedGroup × ℤ). IsGroupBound p scale g.0 g.1) (λ (g : PricedGroup × ℤ). g.1 ≤ℤ paid p scale g.0 t)
+    (λ g bound. bound t (feasible_relaxed p t ok g.0)) groups group_bounds)
     (λ c lt. subst (λ n. least c ≤ℤ (pos (rooms * n) +ℤ signed_sum (cell_cost p rooms (map (λ g. g.0) groups) rent) (filter (is_of c) t)))
     (stability_own p t c) (course_bounds c lt (filter (is_of c) t) (placed p t ok c)))

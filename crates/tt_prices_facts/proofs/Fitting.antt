@@ -48,7 +48,7 @@ names_room_is (Meets a u) c e = absurd (false≢true e)
 names_room_is (Stays a r) c e = (r, ap (λ i. Stays i r) (eqb-true a c e))
 
 room_of_other_is : (k : Claim) (c r : ℕ) (facts : List Fact) (s : Slot) → is_room_of_other k c r facts s ≡ true
-    → (a : ℕ) × (k ≡ Stays a r) × (a == c ≡ false) × (is_forced facts a s ≡ true)
+    → (a : ℕ) × (k ≡ Stays a r) × ((a == c) ≡ false) × (is_forced facts a s ≡ true)
 room_of_other_is (Meets a u) c r facts s e = absurd (false≢true e)
 room_of_other_is (Stays a k) c r facts s e =
     let w = and_parts (not (a == c) && (k == r)) (is_forced facts a s) e in

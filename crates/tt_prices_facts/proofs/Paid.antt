@@ -99,16 +99,16 @@ module _ (p : Problem) (t : List Cell) (ok : IsFeasible p t) (facts : List Fact)
 
     apart_sums : signed_sum f periods ≡ signed_sum f (forced_slots p facts c) +ℤ others
     apart_sums =
-        let open = open_slots p c in
+        let week = open_slots p c in
         let forced : Slot → ℤ = λ u. cond (is_forced facts c u) (f u) (pos 0) in
         let left : Slot → ℤ = λ u. cond (is_left u) (cond (is_chosen u) (f u) (pos 0)) (pos 0) in
         whole p c periods choice f
-        ∙ signed_sum-same (λ u. cond (is_chosen u) (f u) (pos 0)) (λ u. forced u +ℤ left u) open
+        ∙ signed_sum-same (λ u. cond (is_chosen u) (f u) (pos 0)) (λ u. forced u +ℤ left u) week
         (λ u. split_one (is_chosen u) (is_forced facts c u) (is_barred p facts c u) (f u) (forced_chosen u) (barred_unchosen u))
-        ∙ signed_sum-plus forced left open
-        ∙ ap (λ z. z +ℤ signed_sum left open) (sym (signed_sum-of_filter f (is_forced facts c) open))
+        ∙ signed_sum-plus forced left week
+        ∙ ap (λ z. z +ℤ signed_sum left week) (sym (signed_sum-of_filter f (is_forced facts c) week))
         ∙ ap (λ z. signed_sum f (forced_slots p facts c) +ℤ z)
-        (sym (signed_sum-of_filter (λ u. cond (is_chosen u) (f u) (pos 0)) is_left open))
+        (sym (signed_sum-of_filter (λ u. cond (is_chosen u) (f u) (pos 0)) is_left week))
 
   -- the lectures that aren't forced are in periods that are left
   counted : lectures p c ≡ length (forced_slots p facts c) + count_by is_chosen (free_slots p facts c)
@@ -124,17 +124,19 @@ module _ (p : Problem) (t : List Cell) (ok : IsFeasible p t) (facts : List Fact)
   paid_under : (f : Slot → ℤ) → IsPaidUnder p facts c f (signed_sum f periods)
   paid_under f = record {
     forced = λ s m e.
-        let met = forced_met p t ok facts fits c s e in
-        (
+        let met = forced_met p t ok facts fits c s e in (
           met_available p t ok facts fits c s met,
           unbarred s met,
         );
     few = omega (arith, counted);
     others = others f;
-    are = subst (λ n. IsSumOf n (map f (free_slots p facts c)) (others f)) (omega (arith, counted)) (passing f is_chosen (free_slots p facts c));
+    are = subst (λ n. IsSumOf n (map f (free_slots p facts c)) (others f)) number (passing f is_chosen (free_slots p facts c));
     adds_up = apart_sums f;
   }
     where
+      number : count_by is_chosen (free_slots p facts c) ≡ lectures p c - length (forced_slots p facts c)
+      number = omega (arith, counted)
+
       unbarred : (s : Slot) → says t (Meets c s) ≡ true → is_barred p facts c s ≡ false
       unbarred s met = elim (cases_Bool (is_barred p facts c s)) [
         | inl e ↦ absurd (both_ways (says t (Meets c s)) (barred_out p t ok facts fits c s e) met)
@@ -166,8 +168,15 @@ module _ (p : Problem) (t : List Cell) (ok : IsFeasible p t) (facts : List Fact)
         (inr (inl (some, r, inside, alone r some all, paid_under (λ s. cell_cost p scale groups left_rent (cell c r s))))))
         (λ two x y hx hy differ.
         least (pos scale +ℤ signed_sum lowest periods)
-        (inr (inr (two, changes p t ok facts fits c x y (before x hx) (before y hy) (of_course x hx) (of_course y hy) differ,
-        lowest, is_lowest x hx, signed_sum lowest periods, paid_under lowest, refl)))) in
+        (inr (inr (
+          two,
+          changes p t ok facts fits c x y (before x hx) (before y hy) (of_course x hx) (of_course y hy) differ,
+          lowest,
+          is_lowest x hx,
+          signed_sum lowest periods,
+          paid_under lowest,
+          refl,
+        )))) in
         let stays = ap (λ n. scale * n) (stability_own p t c) in
         omega (arith, ints, bound, stays, same_rents)
       where

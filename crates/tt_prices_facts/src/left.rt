@@ -60,7 +60,5 @@ fn is_room_of_other(claim: Claim, course: u32, room: u32, facts: &[Fact], slot: 
 pub fn is_taken(facts: &[Fact], course: u32, room: u32, slot: Slot) -> bool
     ensures { result ≡ is_taken facts.now course room slot }
 {
-    facts
-        .iter()
-        .any(|fact| fact.holds && is_room_of_other(fact.claim, course, room, facts, slot))
+    facts.iter().any(|fact| fact.holds && is_room_of_other(fact.claim, course, room, facts, slot))
 }

@@ -66,7 +66,8 @@ impl TermBuffers {
         self.free_costs.clear();
         self.free_costs.resize(self.places.free.len(), 0)?;
         self.forced_lowest.clear();
-        self.forced_lowest.resize(self.places.forced.len(), i64::MAX)?;
+        self.forced_lowest
+            .resize(self.places.forced.len(), i64::MAX)?;
         self.free_lowest.clear();
         self.free_lowest.resize(self.places.free.len(), i64::MAX)?;
         Ok(())

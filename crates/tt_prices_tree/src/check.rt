@@ -71,8 +71,9 @@ fn take_node(
         Node::Fork(_) if is_full(facts) => Err(Stop::Fault(TreeFault::TooDeep(number + 1))),
         Node::Fork(claim) => Ok(descend(facts, claim)?),
         Node::Leaf => {
-            check_leaf(alloc, file.instance, file.header, file.stored, facts, work)
-                .map_err(|stop| stop_from_leaf(number, stop))?;
+            check_leaf(alloc, file.instance, file.header, file.stored, facts, work).map_err(
+                |stop| stop_from_leaf(number, stop),
+            )?;
             Ok(advance(facts)?)
         }
     }

@@ -21,10 +21,7 @@ use tt_text::{Feed, Source};
 
 /// Reads the header of a file with a tree.
 #[tactic(auto, unfolding(crate::specs::Reading::tree_header_at), unfolding(crate::specs::Reading::tree_bound_at))]
-pub fn read_header<R: Source>(
-    feed: &mut Feed,
-    source: &mut R,
-) -> Result<Header, PricesTextFault>
+pub fn read_header<R: Source>(feed: &mut Feed, source: &mut R) -> Result<Header, PricesTextFault>
     ensures read { ReadsAs R.Source feed.old source.old feed.new source.new (λ h. h) result tree_header_at }
     ensures within { IfOk result IsHeader }
 {
