@@ -1,3 +1,5 @@
+pub mod Filling
 pub mod OneTotal
+pub mod Places
 pub mod Sound
 mod Examples
