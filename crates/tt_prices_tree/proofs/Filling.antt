@@ -1,10 +1,12 @@
 -- Nodes that are taken in turn fill the places of a path, and at the end they are those of one tree.
-use Rattle.std.proofs.Common.{◌≡◌, ℕ, ◌+◌, Bool, true, false, List, [], ◌∷◌, ◌++◌, length, refl, sym, ap, subst, ◌∙◌, arith, inl, inr, append_assoc, append-nil, length-append}
+use Rattle.std.proofs.Common.{◌≡◌, ℕ, ◌+◌, ◌-◌, Bool, true, false, List, [], ◌∷◌, ◌++◌, length, refl, sym, ap, subst, ◌∙◌, arith, inl, inr, append_assoc, append-nil, length-append}
 use Rattle.std.specs.Prelude.{◌⊎◌}
 use Rattle.tt_prices_facts.specs.declared.fact.Claim.{Claim}
 use Rattle.tt_prices_facts.specs.declared.fact.Fact.{Fact}
 use Rattle.tt_prices_facts.specs.Facts.{with_fact}
 use Rattle.tt_prices_tree.specs.Inner.Pending.{pending, ContinuesWith}
+use Rattle.tt_prices_tree.specs.Inner.Places.{due_after}
+use Rattle.tt_prices_tree.specs.Inner.Steps.{Steps}
 use Rattle.tt_prices_tree.specs.Trees.{Tree, Tip, Fork, AllLeaves, preorder}
 use Rattle.tt_prices_tree.specs.declared.node.Node.{Node}
 use Rattle.tt_prices_tree.specs.declared.node.Node.TheVariants as node
@@ -97,6 +99,13 @@ module _ (P : List Fact → Type 0) (nodes : List Node) (facts : List Fact) (due
         open_are = inr (sym opened);
         due_are = omega (arith, e, due_here);
       }
+
+-- after a node that has been taken
+pub walked_next : (P : List Fact → Type 0) (nodes : List Node) (facts : List Fact) (due : ℕ) (some : due ≡ 0 → ⊥) (n : Node) (next : List Fact)
+    → Walked P nodes facts due → Steps P facts n next → Walked P (nodes ++ n ∷ []) next (due_after n due)
+walked_next P nodes facts due some (node.Fork k) next w steps = walked_fork P nodes facts due some w k next (due + 1) steps refl
+walked_next P nodes facts due some node.Leaf next w steps =
+    walked_leaf P nodes facts due some w next (due - 1) steps.0 steps.1 (omega (arith, some))
 
 -- if no node is due, the nodes are those of a tree
 pub walked_end : (P : List Fact → Type 0) (nodes : List Node) (facts : List Fact) (due : ℕ) → due ≡ 0 → Walked P nodes facts due

@@ -1,14 +1,19 @@
 //! Checking a file of groups with prices and a tree.
 
-ghost use Rattle.std.specs.Prelude.{◌≡◌, ◌<◌, ◌++◌, ◌∷◌, [], ℕ, List, length, Some, Err, true, false, if◌then◌else◌, IfOk, OnOk};
-ghost use Rattle.tt_stop.specs.Stops.{IfFault, is_read_failed};
-ghost use Rattle.tt_prices_facts.specs.declared.fact.Fact.{Fact};
-ghost use Rattle.tt_prices_read.specs.Parts.{part_of, IsItem};
+ghost use Rattle.std.specs.Prelude.{◌≡◌, ◌≤◌, [], List, length, is_some, true, false, if◌then◌else◌, IfOk, OnOk};
+ghost use Rattle.tt_stop.specs.Stops.{is_read_failed};
 ghost use Rattle.tt_prices_read.specs.Readers.{IsHeader};
 ghost use Rattle.tt_prices_read.specs.Reading.{Part};
 ghost use Rattle.tt_proof_check.specs.Streams.{sizes_of};
 ghost use Rattle.tt_prices_tree.specs.Claims.{IsClaimOf};
+ghost use Rattle.tt_prices_tree.specs.Inner.Steps.{Steps};
 ghost use Rattle.tt_prices_tree.specs.Inner.Stored.{IsStoredOf};
+ghost use Rattle.tt_prices_tree.specs.Leaves.{LeafHolds};
+ghost use Rattle.tt_prices_tree.specs.Reading.{ReadsNodes};
+ghost use Rattle.tt_prices_tree.specs.Trees.{Tree, AllLeaves, preorder};
+ghost use Rattle.tt_prices_tree.specs.declared.path.TheConstants.{MAX_FACTS};
+ghost use Rattle.tt_proof_read.specs.declared.format.TheConstants.{MAX_PROOF_NODES};
+ghost use Rattle.tt_text.specs.Feeds.{stream_at};
 
 use crate::fault::{TreeFault, stop_from_leaf, stop_from_part, stop_from_text};
 use crate::leaf::check_leaf;
@@ -66,7 +71,15 @@ fn take_node(
     node: Node,
     number: u32,
     work: &mut PricedWork,
-) -> Result<(), Stop<TreeFault>> {
+) -> Result<(), Stop<TreeFault>>
+    requires header { IsHeader file.now.header }
+    requires stored { (xs : List Part) × IsStoredOf file.now.instance file.now.header xs file.now.stored }
+    requires within { length facts.old.items ≤ MAX_FACTS }
+    ensures steps { OnOk result ((xs : List Part) → IsStoredOf file.now.instance file.now.header xs file.now.stored →
+        Steps (LeafHolds file.now.instance file.now.header xs) facts.old.items node facts.new.items) }
+    ensures within { OnOk result (length facts.new.items ≤ MAX_FACTS) }
+    ensures unread { is_read_failed result ≡ false }
+{
     match node {
         Node::Fork(_) if is_full(facts) => Err(Stop::Fault(TreeFault::TooDeep(number + 1))),
         Node::Fork(claim) => Ok(descend(facts, claim)?),
@@ -85,7 +98,17 @@ fn check_tree<R: Source>(
     file: &PricedFile<'_, '_>,
     feed: &mut Feed,
     source: &mut R,
-) -> Result<(), Stop<TreeFault>> {
+) -> Result<(), Stop<TreeFault>>
+    requires header { IsHeader file.now.header }
+    requires stored { (xs : List Part) × IsStoredOf file.now.instance file.now.header xs file.now.stored }
+    // If the bytes are known, the stream is the nodes of the tree in preorder, and then the stream behind them.
+    ensures checked { OnOk result ((xs : List Part) → IsStoredOf file.now.instance file.now.header xs file.now.stored → (tree : Tree)
+        × AllLeaves (LeafHolds file.now.instance file.now.header xs) [] tree
+        × (length (preorder tree) ≤ MAX_PROOF_NODES)
+        × (is_some (R.remaining source.old) ≡ true → ReadsNodes (sizes_of file.now.instance) 0 (stream_at feed.old (R.remaining source.old))
+        (preorder tree) (stream_at feed.new (R.remaining source.new)))) }
+    ensures failed { R.has_failed source.new ≡ (if is_read_failed result then true else R.has_failed source.old) }
+{
     let sizes = Sizes::of(file.instance);
     let mut work = PricedWork::new();
     let mut facts: Vec<Fact> = Vec::new(alloc);

@@ -1,6 +1,6 @@
 //! The facts of the node that is due. They are the whole stack: the second part of each yes-fact isn't read yet.
 
-ghost use Rattle.std.specs.Prelude.{◌≡◌, ◌≤◌, length, true, OnOk, IfErr};
+ghost use Rattle.std.specs.Prelude.{◌≡◌, ◌≤◌, nat_le, length, true, OnOk};
 ghost use Rattle.tt_prices_facts.specs.Facts.{with_fact};
 ghost use Rattle.tt_prices_tree.specs.Inner.Pending.{ContinuesWith};
 
@@ -11,7 +11,9 @@ use tt_prices_facts::{Claim, Fact};
 pub const MAX_FACTS: u32 = 65_536;
 
 /// Checks whether no fact may be added.
-pub fn is_full(facts: &[Fact]) -> bool {
+pub fn is_full(facts: &[Fact]) -> bool
+    ensures { result ≡ nat_le MAX_FACTS (length facts.now) }
+{
     facts.len() >= MAX_FACTS as usize
 }
 

@@ -73,6 +73,11 @@ pub struct TreePlace {
 }
 
 impl TreePlace {
+    ghost use Rattle.std.specs.Prelude.{◌≡◌, ◌+◌, ◌<◌, ◌≤◌, IfOk, IfSome, IfNone};
+    ghost use Rattle.tt_prices_read.specs.Inner.Contract.{ReadsAs};
+    ghost use Rattle.tt_proof_read.specs.declared.format.TheConstants.{MAX_PROOF_NODES};
+    ghost use Rattle.tt_prices_tree.specs.Inner.Places.{due_after, some_of, some_node_at};
+
     /// Returns the place before a tree.
     pub fn new() -> TreePlace
         ensures { (result.count ≡ 0) × (result.due ≡ 1) }
@@ -86,7 +91,16 @@ impl TreePlace {
         feed: &mut Feed,
         source: &mut R,
         sizes: Sizes,
-    ) -> Result<Option<Node>, PricesTextFault> {
+    ) -> Result<Option<Node>, PricesTextFault>
+        requires few { self.old.due ≤ self.old.count + 1 }
+        requires within { self.old.count ≤ MAX_PROOF_NODES }
+        ensures over { IfOk result (λ o. IfNone o ((self.old.due ≡ 0) × (self.new ≡ self.old) × (feed.new ≡ feed.old) × (source.new ≡ source.old))) }
+        ensures next { IfOk result (λ o. IfSome o (λ n. (0 < self.old.due) × (self.new.count ≡ self.old.count + 1)
+            × (self.new.due ≡ due_after n self.old.due))) }
+        ensures read { 0 < self.old.due → ReadsAs R.Source feed.old source.old feed.new source.new some_of result (some_node_at sizes self.old.count) }
+        ensures few { IfOk result (λ _. self.new.due ≤ self.new.count + 1) }
+        ensures within { IfOk result (λ _. self.new.count ≤ MAX_PROOF_NODES) }
+    {
         if self.due == 0 {
             return Ok(None);
         }
