@@ -1,3 +1,4 @@
 pub mod Fitting
 pub mod Paid
+pub mod Rows
 mod Examples

@@ -12,7 +12,7 @@ use crate::left::{is_barred, is_forced};
 use std::alloc::{AllocError, Global};
 use tt_instance::{Instance, Slot};
 use tt_prices::{MAX_PRICE, PriceRow, PricedGroup};
-use tt_prices_check::is_concerned;
+use tt_prices_check::courses_of;
 
 /// Returns the price of a course in a period under facts.
 fn price_under(
@@ -96,11 +96,10 @@ pub fn group_under(
     ensures once { IfOk result (λ g. are_distinct (map (λ row. row.course) g.rows.items) ≡ true) }
     ensures whole { IfOk result (λ g. All (λ row. length row.prices.items ≤ instance.now.days * instance.now.periods) g.rows.items) }
 {
+    let courses = courses_of(alloc, instance, group)?;
     let mut rows = Vec::new(alloc);
-    for course in 0..instance.courses() {
-        if is_concerned(instance, group, course) {
-            rows.push(row_under(alloc, instance, facts, group, course)?)?;
-        }
+    for course in &courses {
+        rows.push(row_under(alloc, instance, facts, group, *course)?)?;
     }
     Ok(PricedGroup {
         curricula: copy(alloc, &group.curricula)?,
