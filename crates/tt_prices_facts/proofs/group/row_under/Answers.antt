@@ -3,7 +3,7 @@ use Rattle.std.proofs.Common.{◌≡◌, ℕ, ◌∷◌, [], ◌++◌, List, app
 use Rattle.std.specs.Prelude.{flat_map}
 use Rattle.std.proofs.lemmas.List.{map-append}
 use Rattle.tt_list_laws.specs.Words.{range_below}
-use Rattle.std.proofs.lemmas.List.Elements.{flat_map-append}
+use Rattle.std.proofs.lemmas.Grind.{flat_map-append}
 use Rattle.tt_list_laws.proofs.Below.{range_below_more}
 use Rattle.tt_instance.specs.Cells.{slot}
 use Rattle.tt_prices.specs.Rows.{group_of}
