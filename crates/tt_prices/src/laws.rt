@@ -41,8 +41,8 @@ pub fn payments_add_up()
         ((c : ℕ) → c < length p.courses → least c ≤ℤ (pos (rooms * stability_cost p t c)
         +ℤ signed_sum (cell_cost p rooms (map (λ g. g.0) groups) rent) (filter (is_of c) t))) →
         (signed_sum (λ g. g.1) groups +ℤ signed_sum least (all_courses p)) ≤ℤ
-        pos (scale * sum_by (λ g. points p g.0 t) groups + rooms * (capacity_count p t + stability_count p t)
-        + sum_by (λ r. sum_by (rent r) (all_slots p)) (all_rooms p)) }
+        pos (scale * sum_by (λ g. points p g.0 t) groups + rooms * (capacity_count p t + stability_count p t) +
+        sum_by (λ r. sum_by (rent r) (all_slots p)) (all_rooms p)) }
 {}
 
 /// A number bounds a course if it is at most what any choice of periods pays in one room, and at most one further room and what any choice

@@ -1,4 +1,5 @@
 pub mod Fitting
 pub mod Paid
+pub mod Placing
 pub mod Rows
 mod Examples

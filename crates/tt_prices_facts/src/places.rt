@@ -1,12 +1,10 @@
 //! The periods of a course under facts, as places in a table of the week.
 
-ghost use Rattle.std.specs.Prelude.{◌≡◌, ◌⊎◌, ◌↔◌, ◌+◌, ◌<◌, ◌≤◌, ℕ, [], ◌++◌, true, false, not, ◌&&◌, Contains, length, map, filter, IsTrue, OnOk};
+ghost use Rattle.std.specs.Prelude.{◌≡◌, ◌↔◌, ◌+◌, ◌≤◌, ◌++◌, ◌∷◌, [], List, false, length, map, IsTrue, OnOk};
+ghost use Rattle.tt_list_laws.specs.Words.{range_below};
 ghost use Rattle.tt_instance.specs.Cells.{all_slots, slot};
-ghost use Rattle.tt_instance.specs.Courses.{unavailable};
 ghost use Rattle.tt_instance.specs.declared.cell.Slot.{Slot};
-ghost use Rattle.tt_prices_facts.specs.Left.{is_barred, is_forced};
-ghost use Rattle.tt_prices_facts.specs.Terms.{forced_slots, free_slots};
-ghost use Rattle.tt_prices_rooms.specs.Inner.Places.{place_of};
+ghost use Rattle.tt_prices_facts.specs.Inner.Places.{ArePlacesOf};
 
 use crate::fact::Fact;
 use crate::left::{is_barred, is_forced};
@@ -51,7 +49,10 @@ impl Places {
         facts: &[Fact],
         course: u32,
         slot: Slot,
-    ) -> Result<(), AllocError> {
+    ) -> Result<(), AllocError>
+        ensures { OnOk result ((before : List Slot) → ArePlacesOf instance.now facts.now course before self.old →
+            ArePlacesOf instance.now facts.now course (before ++ slot ∷ []) self.new) }
+    {
         let place = slot.day as usize * instance.periods() as usize + slot.period as usize;
         let is_shut = instance.unavailable(course, slot.day, slot.period);
         let is_out = is_barred(instance, facts, course, slot);
@@ -68,6 +69,23 @@ impl Places {
         Ok(())
     }
 
+    /// Adds the periods of a day.
+    fn push_day(
+        &mut self,
+        instance: &Instance<'_>,
+        facts: &[Fact],
+        course: u32,
+        day: u32,
+    ) -> Result<(), AllocError>
+        ensures { OnOk result ((before : List Slot) → ArePlacesOf instance.now facts.now course before self.old →
+            ArePlacesOf instance.now facts.now course (before ++ map (slot day) (range_below instance.now.periods)) self.new) }
+    {
+        for period in 0..instance.periods() {
+            self.push(instance, facts, course, Slot { day, period })?;
+        }
+        Ok(())
+    }
+
     /// Replaces the places by those of a course.
     pub fn list(
         &mut self,
@@ -75,22 +93,13 @@ impl Places {
         facts: &[Fact],
         course: u32,
     ) -> Result<(), AllocError>
-        ensures forced { OnOk result (self.new.forced.items ≡ map (place_of instance.now) (forced_slots instance.now facts.now course)) }
-        ensures free { OnOk result (self.new.free.items ≡ map (place_of instance.now) (free_slots instance.now facts.now course)) }
-        ensures clash { OnOk result (self.new.has_clash ≡ true →
-            (s : Slot) × Contains (all_slots instance.now) s × (is_forced facts.now course s ≡ true)
-            × ((unavailable instance.now course s.day s.period ≡ true) ⊎ (is_barred instance.now facts.now course s ≡ true))) }
-        ensures sound { OnOk result (self.new.has_clash ≡ false →
-            (s : Slot) → Contains (all_slots instance.now) s → is_forced facts.now course s ≡ true →
-            (unavailable instance.now course s.day s.period ≡ false) × (is_barred instance.now facts.now course s ≡ false)) }
+        ensures { OnOk result (ArePlacesOf instance.now facts.now course (all_slots instance.now) self.new) }
     {
         self.forced.clear();
         self.free.clear();
         self.has_clash = false;
         for day in 0..instance.days() {
-            for period in 0..instance.periods() {
-                self.push(instance, facts, course, Slot { day, period })?;
-            }
+            self.push_day(instance, facts, course, day)?;
         }
         Ok(())
     }
