@@ -23,7 +23,7 @@ use Rattle.tt_prices.proofs.Rooms.{chosen as choice_of, placing_bounded}
 use Rattle.tt_prices.proofs.Signed.{signed_sum-same, signed_sum-same_member, signed_sum-plus, signed_sum-pos, signed_sum-of_filter}
 use Rattle.tt_prices_rooms.specs.Least.{IsSumOf}
 use Rattle.tt_prices_rooms.specs.Terms.{open_slots, IsLowest}
-use Rattle.tt_prices_rooms.proofs.Cheapest.{lowest_with}
+use Rattle.tt_prices_rooms.proofs.Tables.{lowest_exists}
 use Rattle.tt_prices_rooms.proofs.Choices.{chosen, passing, whole}
 use Rattle.tt_prices_facts.specs.declared.fact.Claim.TheVariants.{Meets}
 use Rattle.tt_prices_facts.specs.declared.fact.Fact.{Fact}
@@ -197,7 +197,7 @@ module _ (p : Problem) (t : List Cell) (ok : IsFeasible p t) (facts : List Fact)
       | inl none ↦ at_least_with b least (λ s. pos 0) (λ r inside. absurd (omega (arith, inside, none)))
           (λ x m. let range = in_range p t ok x (before x m) in let inside = range.room in absurd (omega (arith, inside, none)))
       | inr some ↦
-          let w = lowest_with p scale groups left_rent c (length p.rooms - 1) (omega (arith, some)) in
+          let w = lowest_exists p scale groups left_rent c (omega (arith, some)) in
           at_least_with b least w.0 (w.1).least (λ x m. w.1)
     ]
 

@@ -24,7 +24,7 @@ use Rattle.tt_prices_read.specs.Reading.{Part}
 use Rattle.tt_prices_read.specs.declared.header.Header.{Header}
 use Rattle.tt_prices_rooms.specs.Terms.{IsLowest, IsTerm}
 use Rattle.tt_prices_rooms.proofs.Bounds.{term_bounds}
-use Rattle.tt_prices_rooms.proofs.Cheapest.{lowest_with}
+use Rattle.tt_prices_rooms.proofs.Tables.{lowest_exists}
 use Rattle.tt_prices_file.specs.Files.{groups_of, curricula_in, courses_in, rent_of, all_rents, room_scale, HasTotal, IsRight, Reaches}
 use Rattle.tt_prices_file.proofs.Parts.{curricula_of, courses_of}
 
@@ -33,7 +33,7 @@ use Rattle.tt_prices_file.proofs.Parts.{curricula_of, courses_of}
 module _ (p : Problem) (scale : ℕ) (groups : List PricedGroup) (rent : ℕ → Slot → ℕ) (c : ℕ) where
   lowest_of : (b : ℤ) → IsTerm p scale groups rent c b → (lowest : Slot → ℤ) × IsLowest p scale groups rent c lowest
   lowest_of b term = elim term.paid [
-    | inl one ↦ lowest_with p scale groups rent c (length p.rooms - 1) (let inside = one.1 in omega (arith, inside))
+    | inl one ↦ lowest_exists p scale groups rent c (let inside = one.1 in omega (arith, inside))
     | inr more ↦ (more.1, more.2)
   ]
 

@@ -1,5 +1,4 @@
 pub mod Bounds
-pub mod Cheapest
 pub mod Choices
 pub mod Listing
 pub mod Rooms
