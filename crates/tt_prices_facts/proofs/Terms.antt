@@ -95,13 +95,13 @@ module _ (p : Problem) (facts : List Fact) (scale : ℕ) (groups : List PricedGr
     where
       no_payment : (n : ℤ) → PaysUnder p facts scale groups rent c n → ⊥
       no_payment n (inl (e, is)) = omega (arith, some, e)
-      no_payment n (inr (inl one)) = none n one.1
+      no_payment n (inr (inl one)) = none n (one.1, one.2, one.3, one.4)
       no_payment n (inr (inr more)) = stays more.0 more.1
-  term_stays some stays (Some b) least = (at_least, inr (inl (some, least.1)))
+  term_stays some stays (Some b) least = (at_least, inr (inl (some, least.1.0, least.1.1, least.1.2, least.1.3)))
     where
       at_least : (n : ℤ) → PaysUnder p facts scale groups rent c n → b ≤ℤ n
       at_least n (inl (e, is)) = absurd (omega (arith, some, e))
-      at_least n (inr (inl one)) = least.0 n one.1
+      at_least n (inr (inl one)) = least.0 n (one.1, one.2, one.3, one.4)
       at_least n (inr (inr more)) = absurd (stays more.0 more.1)
 
   module _ (two : 2 ≤ lectures p c) (changes : may_change facts c ≡ true) (lowest : Slot → ℤ)
@@ -122,7 +122,7 @@ module _ (p : Problem) (facts : List Fact) (scale : ℕ) (groups : List PricedGr
       where
         at_least : (n : ℤ) → PaysUnder p facts scale groups rent c n → (pos scale +ℤ each) ≤ℤ n
         at_least n (inl (e, is)) = absurd (omega (arith, two, e))
-        at_least n (inr (inl one)) = absurd (none n one.1)
+        at_least n (inr (inl one)) = absurd (none n (one.1, one.2, one.3, one.4))
         at_least n (inr (inr more)) = changed_least n more.2 more.3 more.4 more.5 more.6
 
     pub term_either : (one : ℤ) → IsLeastInOne (Some one) → IsTermUnder p facts scale groups rent c (Some (int_min one (pos scale +ℤ each)))
@@ -135,14 +135,14 @@ module _ (p : Problem) (facts : List Fact) (scale : ℕ) (groups : List PricedGr
             at_least n (inl (none, is)) = absurd (omega (arith, two, none))
             at_least n (inr (inl x)) =
                 let below = lower (pos scale +ℤ each) one e in
-                let le = stay.0 n x.1 in
+                let le = stay.0 n (x.1, x.2, x.3, x.4) in
                 omega (arith, ints, below, le)
             at_least n (inr (inr more)) = changed_least n more.2 more.3 more.4 more.5 more.6
-        by_test false e = (at_least, inr (inl (omega (arith, two), stay.1)))
+        by_test false e = (at_least, inr (inl (omega (arith, two), stay.1.0, stay.1.1, stay.1.2, stay.1.3)))
           where
             at_least : (n : ℤ) → PaysUnder p facts scale groups rent c n → one ≤ℤ n
             at_least n (inl (none, is)) = absurd (omega (arith, two, none))
-            at_least n (inr (inl x)) = stay.0 n x.1
+            at_least n (inr (inl x)) = stay.0 n (x.1, x.2, x.3, x.4)
             at_least n (inr (inr more)) =
                 let above = upper (pos scale +ℤ each) one e in
                 let le = changed_least n more.2 more.3 more.4 more.5 more.6 in
