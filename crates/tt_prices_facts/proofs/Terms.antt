@@ -1,9 +1,10 @@
 -- The term of a course under facts, from what its lectures pay at least in each room and in the cheapest ones.
-use Rattle.std.proofs.Common.{◌≡◌, ℕ, ◌+◌, ◌-◌, ◌*◌, ◌≤◌, ◌<◌, Bool, true, false, not, ◌&&◌, cond, List, [], ◌∷◌, length, map, Option, Some, None, refl, sym, ap, subst, ◌∙◌, arith, inl, inr}
+use Rattle.std.proofs.Common.{◌≡◌, ℕ, zero, suc, ◌+◌, ◌-◌, ◌*◌, ◌≤◌, ◌<◌, Bool, true, false, not, ◌&&◌, cond, List, [], ◌∷◌, length, map, Option, Some, None, refl, sym, ap, subst, ◌∙◌, arith, inl, inr}
 use Rattle.std.specs.Prelude.{◌⊎◌, Contains, ℤ, pos, ◌+ℤ◌, ◌≤ℤ◌, int_lt, MatchOption, All}
 use Rattle.std.specs.Int.{int_min}
 use Rattle.std.proofs.lemmas.Bool.{both_ways, cases_lt}
 use Rattle.std.proofs.lemmas.Int.{ints}
+use Rattle.std.proofs.lemmas.List.{length-map}
 use Rattle.std.proofs.lemmas.List.Elements.{All-filter}
 use Rattle.tt_instance.specs.Problem.{Problem}
 use Rattle.tt_instance.specs.Cells.{all_slots, cell}
@@ -59,6 +60,24 @@ module _ (p : Problem) (facts : List Fact) (c : ℕ) where
       listed : (ss : List Slot) → map a ss ≡ map b ss
       listed [] = refl
       listed (s ∷ ss) = ap (λ z. z ∷ map a ss) (same s) ∙ ap (λ (l : List ℤ). b s ∷ l) (listed ss)
+
+-- a sum of some elements has no more than there are
+sum_few : (n : ℕ) (xs : List ℤ) (b : ℤ) → IsSumOf n xs b → n ≤ length xs
+sum_few zero xs b is = omega arith
+sum_few (suc n) [] b is = absurd is
+sum_few (suc n) (x ∷ xs) b (inl w) = let e = sum_few n xs w.0 w.1 in omega (arith, e)
+sum_few (suc n) (x ∷ xs) b (inr more) = let e = sum_few (suc n) xs b more in omega (arith, e)
+
+-- a course without enough places, or forced into one from which it is kept out, pays at no costs
+pub crowded_never : (p : Problem) (facts : List Fact) (c : ℕ)
+    → (IsOpenWhereForced p facts c → length (forced_slots p facts c) ≤ lectures p c
+    → lectures p c ≤ length (forced_slots p facts c) + length (free_slots p facts c) → ⊥)
+    → (costs : Slot → ℤ) (n : ℤ) → IsPaidUnder p facts c costs n → ⊥
+crowded_never p facts c crowded costs n paid =
+    let count = sum_few (others_count p facts c) (map costs (free_slots p facts c)) paid.others paid.are in
+    let long = length-map (free_slots p facts c) costs in
+    let few = paid.few in
+    crowded paid.forced few (omega (arith, count, long, few))
 
 -- the cheapest rooms of all periods cost one thing
 lowest_same : (p : Problem) (scale : ℕ) (groups : List PricedGroup) (rent : ℕ → Slot → ℕ) (c : ℕ) (a b : Slot → ℤ)
