@@ -2,8 +2,9 @@
 
 ghost use Rattle.std.specs.Prelude.{◌≡◌, ◌⊎◌, ℕ, ℤ, ◌+◌, ◌*◌, ◌-◌, ◌+ℤ◌, ◌<◌, ◌≤◌, pos, List, All, Option, Some, None, length, map, replicate, slice_index, slice_index_or, IfOk, IfSome, IfNone, OnOk};
 ghost use Rattle.std.specs.Int.{int_min};
-ghost use Rattle.tt_instance.specs.Courses.{lectures};
+ghost use Rattle.tt_instance.specs.Courses.{lectures, students};
 ghost use Rattle.tt_instance.specs.declared.cell.Slot.{Slot};
+ghost use Rattle.tt_instance.specs.declared.limit.TheConstants.{MAX_SEATS, MAX_SLOTS};
 ghost use Rattle.tt_prices.specs.Limits.{IsWithin};
 ghost use Rattle.tt_prices.specs.Prices.{PricedGroup};
 ghost use Rattle.tt_prices.specs.Signed.{signed_sum};
@@ -11,8 +12,8 @@ ghost use Rattle.tt_prices.specs.declared.price.TheConstants.{MAX_SCALE};
 ghost use Rattle.tt_prices_facts.specs.Terms.{IsTermUnder};
 ghost use Rattle.tt_prices_rooms.specs.Least.{IsLeastSum};
 ghost use Rattle.tt_prices_rooms.specs.Tables.{ArePricesOf, AreRentsOf};
-ghost use Rattle.tt_prices_rooms.specs.Inner.Places.{room_cost, AreTables};
-ghost use Rattle.tt_prices_rooms.specs.declared.limit.TheConstants.{MAX_RENT, MAX_PRICES, MAX_TERM};
+ghost use Rattle.tt_prices_rooms.specs.Inner.Places.{room_cost};
+ghost use Rattle.tt_prices_rooms.specs.declared.limit.TheConstants.{MAX_RENT, MAX_PRICES, MAX_COST, MAX_TERM};
 
 use crate::fact::Fact;
 use crate::left::{can_change, can_stay};
@@ -77,8 +78,11 @@ impl TermBuffers {
 /// Returns the sum of all costs of the forced places and of the `count` least of the free ones.
 fn sum_with(forced: &mut [i64], free: &mut [i64], count: usize) -> i64
     requires count { count ≤ length free.old }
-    requires few { length forced.old + count ≤ tt_instance.MAX_SLOTS }
-    ensures { (n : ℤ) × IsLeastSum count free.old n × (result ≡ signed_sum (λ z. z) forced.old +ℤ n) }
+    requires few { length forced.old + count ≤ MAX_SLOTS }
+    requires small_forced { All (IsWithin MAX_COST) forced.old }
+    requires small_free { All (IsWithin MAX_COST) free.old }
+    ensures within { IsWithin MAX_TERM result }
+    ensures least { (n : ℤ) × IsLeastSum count free.old n × (result ≡ signed_sum (λ z. z) forced.old +ℤ n) }
 {
     let all = forced.len();
     least_sum(forced, all) + least_sum(free, count)
@@ -94,12 +98,35 @@ fn least_in(
 ) -> i64
     requires course { course < length instance.now.courses }
     requires room { room < length instance.now.rooms }
+    requires seats { students instance.now course ≤ MAX_SEATS }
+    requires scale { buffers.old.rooms.scale ≤ MAX_SCALE }
+    requires rents { All (λ n. n ≤ MAX_RENT) buffers.old.rooms.rents.items }
+    requires prices { All (IsWithin MAX_PRICES) prices.now }
+    requires each_room { length buffers.old.rooms.rents.items ≡ length instance.now.rooms * length prices.now }
+    requires forced_places { All (λ k. k < length prices.now) buffers.old.places.forced.items }
+    requires free_places { All (λ k. k < length prices.now) buffers.old.places.free.items }
+    requires week { lectures instance.now course ≤ MAX_SLOTS }
+    requires forced_costs { (length buffers.old.forced_costs.items ≡ length buffers.old.places.forced.items)
+        × (length buffers.old.forced_lowest.items ≡ length buffers.old.places.forced.items) }
+    requires free_costs { (length buffers.old.free_costs.items ≡ length buffers.old.places.free.items)
+        × (length buffers.old.free_lowest.items ≡ length buffers.old.places.free.items) }
     requires few { length buffers.old.places.forced.items ≤ lectures instance.now course }
     requires enough { lectures instance.now course ≤ length buffers.old.places.forced.items + length buffers.old.places.free.items }
     ensures least { (n : ℤ) × IsLeastSum (lectures instance.now course - length buffers.old.places.forced.items)
         (map (room_cost instance.now course buffers.old.rooms.scale buffers.old.rooms.rents.items prices.now room) buffers.old.places.free.items) n
         × (result ≡ signed_sum (room_cost instance.now course buffers.old.rooms.scale buffers.old.rooms.rents.items prices.now room)
         buffers.old.places.forced.items +ℤ n) }
+    ensures within { IsWithin MAX_TERM result }
+    ensures forced_lowered { (i : ℕ) → i < length buffers.old.places.forced.items → slice_index_or buffers.new.forced_lowest.items i (pos 0)
+        ≡ int_min (slice_index_or buffers.old.forced_lowest.items i (pos 0))
+        (room_cost instance.now course buffers.old.rooms.scale buffers.old.rooms.rents.items prices.now room (slice_index buffers.old.places.forced.items i)) }
+    ensures free_lowered { (i : ℕ) → i < length buffers.old.places.free.items → slice_index_or buffers.new.free_lowest.items i (pos 0)
+        ≡ int_min (slice_index_or buffers.old.free_lowest.items i (pos 0))
+        (room_cost instance.now course buffers.old.rooms.scale buffers.old.rooms.rents.items prices.now room (slice_index buffers.old.places.free.items i)) }
+    ensures lengths { (length buffers.new.forced_lowest.items ≡ length buffers.old.forced_lowest.items)
+        × (length buffers.new.free_lowest.items ≡ length buffers.old.free_lowest.items)
+        × (length buffers.new.forced_costs.items ≡ length buffers.old.forced_costs.items)
+        × (length buffers.new.free_costs.items ≡ length buffers.old.free_costs.items) }
     ensures places { buffers.new.places ≡ buffers.old.places }
     ensures rooms { buffers.new.rooms ≡ buffers.old.rooms }
 {
