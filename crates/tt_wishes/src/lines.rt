@@ -1,6 +1,6 @@
 //! The lines of a text.
 
-ghost use Rattle.std.specs.Prelude.{◌≡◌, ◌+◌, ◌≤◌, ◌<◌, ◌^◌, ◌∷◌, [], length, drop, min, MatchOption, IfSome};
+ghost use Rattle.std.specs.Prelude.{◌≡◌, ◌+◌, ◌≤◌, ◌<◌, ◌^◌, ◌∷◌, [], length, drop, MatchOption, IfSome};
 ghost use Rattle.std.specs.List.{prefix_len};
 ghost use Rattle.tt_wishes.specs.Lines.{is_in_line, row_of, rows_of};
 
@@ -45,12 +45,14 @@ fn line_len(bytes: &[u8]) -> usize
     bytes.len()
 }
 
-/// Returns the bytes after the first one.
+/// Returns the bytes after the first one, if there is one.
 fn after_first(bytes: &[u8]) -> &[u8]
-    ensures { result.now ≡ drop (min (length bytes.now) 1) bytes.now }
+    ensures { result.now ≡ drop 1 bytes.now }
 {
-    let (_, rest) = bytes.split_at(bytes.len().min(1));
-    rest
+    match bytes.split_first() {
+        None => bytes,
+        Some((_, rest)) => rest,
+    }
 }
 
 impl<'a> Lines<'a> {

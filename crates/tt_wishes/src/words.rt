@@ -41,6 +41,7 @@ impl<'a> Words<'a> {
     }
 
     /// Returns the next word, or `None` if no word is left.
+    #[tactic(auto, using(crate::proofs::Offsets::first_in_text))]
     pub fn next(&mut self) -> Option<Token<'a>>
         ensures { MatchOption result ((self.old ≡ []) × (self.new ≡ [])) (λ t. self.old ≡ place t ∷ self.new) }
     {
