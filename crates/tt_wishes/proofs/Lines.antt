@@ -20,14 +20,14 @@ module _ (at next len : ℕ) (rest text behind after : List ℕ) (over : Bool) (
       subst (λ n. slice_split is_line_feed rest ≡ take n rest ∷ slice_split is_line_feed (drop (n + 1) rest)) (sym len_is)
       (slice_split_first is_line_feed rest 0 (subst (λ n. n < length rest) len_is below)) in
       let some : length behind ≡ length rest - len = ap length behind_is ∙ length-drop len rest in
-      let open : over ≡ false = over_is ∙ ne_eqb (length behind) 0 (λ e. omega (arith, e, some, below)) in
+      let goes_on : over ≡ false = over_is ∙ ne_eqb (length behind) 0 (λ e. omega (arith, e, some, below)) in
       let later : after ≡ drop (len + 1) rest = after_is ∙ ap (drop 1) behind_is ∙ drop-drop 1 len rest in
       let left : length after ≡ length rest - (len + 1) = ap length later ∙ length-drop (len + 1) rest in
       let long : length text ≡ len = ap length text_is ∙ length-take-le len rest (omega (arith, below)) in
       let moved : next ≡ at + (length text + 1) = omega (arith, next_is, left, long, below) in
       let tail : row_of at text ∷ rows_left over next after
-          ≡ row_of at (take len rest) ∷ rows_of_lines (at + (length (take len rest) + 1)) (slice_split is_line_feed (drop (len + 1) rest)) =
-      rw (open, moved, later, text_is) refl in
+      ≡ row_of at (take len rest) ∷ rows_of_lines (at + (length (take len rest) + 1)) (slice_split is_line_feed (drop (len + 1) rest)) =
+      rw (goes_on, moved, later, text_is) refl in
       ap (rows_of_lines at) split ∙ sym tail
 
   -- the text ends with the line

@@ -17,9 +17,11 @@ starts_within at bytes (t ∷ ts) h =
     let front : length bytes ≡ length first.gap + (length t.text + length h.0) =
     ap length first.whole ∙ length-append first.gap (t.text ++ h.0) ∙ ap (λ n. length first.gap + n) (length-append t.text h.0) in
     let here : t.at ≤ at + length bytes = omega (arith, first.offset, front) in
-    let same : t.at + length t.text + length h.0 ≡ at + length bytes = omega (arith, first.offset, front) in
-    (here, subst_bound (t.at + length t.text + length h.0) (at + length bytes) ts same
-    (starts_within (t.at + length t.text) h.0 ts h.2))
+    let same : t.at + length t.text + length h.0 ≡ at + length bytes = omega (arith, first.offset, front) in (
+      here,
+      subst_bound (t.at + length t.text + length h.0) (at + length bytes) ts same
+          (starts_within (t.at + length t.text) h.0 ts h.2),
+    )
   where
     subst_bound : (m n : ℕ) (us : List Placed) → m ≡ n → AllByRecursion (λ u. u.at ≤ m) us → AllByRecursion (λ u. u.at ≤ n) us
     subst_bound m n [] e a = tt
