@@ -1,5 +1,5 @@
 -- The parts of a wish: those that are read are spelled, and those that are spelled are read.
-use Rattle.std.proofs.Common.{◌≡◌, ℕ, ◌-◌, ◌<◌, ◌≤◌, Bool, true, false, cond, List, [], ◌∷◌, ◌++◌, length, map, Option, Some, None, Result, Ok, Err, refl, sym, ap, subst, ◌∙◌, append_assoc, arith, codes}
+use Rattle.std.proofs.Common.{◌≡◌, ℕ, suc, ◌-◌, ◌<◌, ◌≤◌, Bool, true, false, cond, List, [], ◌∷◌, ◌++◌, length, map, Option, Some, None, Result, Ok, Err, refl, sym, ap, subst, ◌∙◌, append_assoc, arith, codes}
 use Rattle.std.specs.Prelude.{◌≢◌, All, IfSome}
 use Rattle.std.proofs.lemmas.Bool.{false_from_ne_true}
 use Rattle.std.proofs.lemmas.List.{append-nil}
@@ -206,7 +206,7 @@ pub some_ok : (end : ℕ) (rs xs : List ℕ) → some_of end rs ≡ Ok xs → (r
 some_ok end [] xs e = absurd cc
 some_ok end (r ∷ rs) xs e =
     let same : r ∷ rs ≡ xs = ok_is (r ∷ rs) xs e in
-    let long : length xs ≡ length (r ∷ rs) = ap length (sym same) in
+    let long : length xs ≡ suc (length rs) = ap length (sym same) in
     (same, omega (arith, long))
 
 pub some_is : (end : ℕ) (rs : List ℕ) → 0 < length rs → some_of end rs ≡ Ok rs
