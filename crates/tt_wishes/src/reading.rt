@@ -1,6 +1,6 @@
 //! Wishes from their files.
 
-ghost use Rattle.std.specs.Prelude.{◌≡◌, ◌+◌, ◌<◌, ◌≤◌, ◌^◌, List, Ok, IfOk, length};
+ghost use Rattle.std.specs.Prelude.{◌≡◌, ◌+◌, ◌<◌, ◌^◌, List, Ok, IfOk, length};
 ghost use Rattle.tt_text.specs.Tokens.{place};
 ghost use Rattle.tt_wishes.specs.Lines.{row_of};
 ghost use Rattle.tt_wishes.specs.Reading.{Gives, wish_word_of, hold_at, only_in_at, closed_at, wish_at, with_row, wishes_of};
@@ -107,6 +107,7 @@ fn read_wish(
 }
 
 /// Reads a line after the lines of some wishes, and adds its wish, if it has words.
+#[tactic(auto, using(crate::proofs::Loops::words_none, crate::proofs::Loops::words_full, crate::proofs::Loops::words_step, crate::proofs::Loops::words_fail))]
 fn read_line(
     alloc: Global,
     instance: &Instance<'_>,
@@ -119,17 +120,15 @@ fn read_line(
 {
     let end = line.at + line.text.len();
     let mut words = Words::new(line);
-    match words.next() {
-        None => Ok(()),
-        Some(first) => {
-            if wishes.len() >= MAX_WISHES {
-                return Err(WishesFault::TooManyWishes(first.at));
-            }
-            let wish = read_wish(alloc, instance, first, &mut words, end)?;
-            wishes.push(wish)?;
-            Ok(())
-        }
+    let Some(first) = words.next() else {
+        return Ok(());
+    };
+    if wishes.len() >= MAX_WISHES {
+        return Err(WishesFault::TooManyWishes(first.at));
     }
+    let wish = read_wish(alloc, instance, first, &mut words, end)?;
+    wishes.push(wish)?;
+    Ok(())
 }
 
 fn read_lines(
