@@ -1,4 +1,3 @@
-use Rattle.std.proofs.Common.{◌∙◌, refl}
 use Rattle.std.proofs.lemmas.Result.{err_from_is_err_and}
 use Rattle.tt_call_wishes.proofs.Counted.{counted}
 use Rattle.tt_call_wishes.proofs.Refused.{tells_instance, tells_solution, tells_wishes, only_memory}
@@ -57,4 +56,4 @@ pub returns-clause-found : goal.returns-clause-found
 returns-clause-found c = counted c.args.instance.now c.args.solution.now c.args.wishes.now c.in_ok-instance.instance c.in_ok-table.table
     c.in_ok-wishes.wishes.items c.score-score.result c.broken_wishes-broken.result c.in_ok-counted_answer.field-0
     c.in_ok-instance.ensures.found c.in_ok-table.ensures.found c.in_ok-wishes.ensures.found c.score-score.ensures
-    (c.broken_wishes-broken.ensures.value ∙ rw c.deref.ensures.value refl) c.in_ok-counted_answer.ensures
+    (rw (← c.deref.ensures.value) c.broken_wishes-broken.ensures.value) c.in_ok-counted_answer.ensures
