@@ -193,4 +193,4 @@ module _ (p : Problem) (t : List Cell) where
       let kept = fits_kept w inside (All-from_recursion (Holds p t) (facts_of p w) parts.0) in
       let more = fits_all ws inside (All-from_recursion (Holds p t) (flat_map (facts_of p) ws) parts.1) in
       let none = one_if_false (not (is_kept t w)) (not_from_true (is_kept t w) kept) in
-      omega (arith, count_by-cons (λ v. not (is_kept t v)) w ws, none, more)
+      count_by-cons (λ v. not (is_kept t v)) w ws ∙ omega (arith, none, more)

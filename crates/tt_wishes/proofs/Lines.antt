@@ -10,6 +10,13 @@ use Rattle.tt_list_laws.proofs.Sums.{each_from_list_all}
 use Rattle.tt_text.proofs.Runs.{run_passes}
 use Rattle.tt_wishes.specs.Lines.{row_of, rows_of_lines, rows_left, is_line_feed, is_in_line}
 
+-- what is left behind a line is no longer than before
+pub left_shorter : (len : ℕ) (rest behind after : List ℕ) → behind ≡ drop len rest → after ≡ drop 1 behind → length after ≤ length rest
+left_shorter len rest behind after behind_is after_is =
+    let back : length behind ≡ length rest - len = ap length behind_is ∙ length-drop len rest in
+    let left : length after ≡ length behind - 1 = ap length after_is ∙ length-drop 1 behind in
+    omega (arith, back, left)
+
 module _ (at next len : ℕ) (rest text behind after : List ℕ) (over : Bool) (len_is : len ≡ prefix_len is_in_line rest)
     (text_is : text ≡ take len rest) (behind_is : behind ≡ drop len rest) (after_is : after ≡ drop 1 behind)
     (next_is : next ≡ at + (length rest - length after)) (over_is : over ≡ (length behind == 0)) where

@@ -1,7 +1,7 @@
 -- The parts of a wish: those that are read are spelled, and those that are spelled are read.
-use Rattle.std.proofs.Common.{◌≡◌, ℕ, suc, ◌-◌, ◌<◌, ◌≤◌, Bool, true, false, cond, List, [], ◌∷◌, ◌++◌, length, map, Option, Some, None, Result, Ok, Err, refl, sym, ap, subst, ◌∙◌, append_assoc, arith, codes}
-use Rattle.std.specs.Prelude.{◌≢◌, All, IfSome}
-use Rattle.std.proofs.lemmas.Bool.{false_from_ne_true}
+use Rattle.std.proofs.Common.{◌≡◌, ℕ, ◌-◌, ◌<◌, ◌≤◌, Bool, true, false, cond, List, [], ◌∷◌, ◌++◌, length, map, Option, Some, None, Result, Ok, Err, refl, sym, ap, subst, ◌∙◌, append_assoc, arith, codes, inl, inr}
+use Rattle.std.specs.Prelude.{◌≢◌, ◌==◌, All, IfSome}
+use Rattle.std.proofs.lemmas.Bool.{false_from_ne_true, cases_lt, eqb-false, ne_eqb}
 use Rattle.std.proofs.lemmas.List.{append-nil}
 use Rattle.std.proofs.lemmas.List.Elements.{All-nil, All-cons, All-head, All-tail}
 use Rattle.tt_text.specs.Tokens.{Placed}
@@ -11,7 +11,7 @@ use Rattle.tt_text.specs.Reading.{◌>>=◌}
 use Rattle.tt_text.specs.Pieces.{Piece, Text, Number, IsPiece, Begins}
 use Rattle.tt_text.specs.declared.numbers.NumberFault.{NumberFault}
 use Rattle.tt_text.specs.declared.numbers.NumberFault.TheVariants as number
-use Rattle.tt_text.proofs.Steps.{done, ok_is, bind_ok, Takes, takes_then}
+use Rattle.tt_text.proofs.Steps.{done, ok_is, bind_ok, refusal_ok, Takes, takes_then}
 use Rattle.tt_text.proofs.Fields.{ReadsOn, takes_piece, has_piece, text_is, is_text_of, number_spelled, number_read}
 use Rattle.tt_instance.specs.Problem.{Problem}
 use Rattle.tt_instance.specs.Courses.{no_course, no_room, course_ids, room_ids}
@@ -203,15 +203,19 @@ rooms_read p before (r ∷ rs) (t ∷ ts) limits each h =
     rooms_step p before (t ∷ ts) t ts r refl is ∙ more ∙ ap (λ (l : List ℕ). done l) (append_assoc before (r ∷ []) rs)
 
 pub some_ok : (end : ℕ) (rs xs : List ℕ) → some_of end rs ≡ Ok xs → (rs ≡ xs) × (0 < length xs)
-some_ok end [] xs e = absurd cc
-some_ok end (r ∷ rs) xs e =
-    let same : r ∷ rs ≡ xs = ok_is (r ∷ rs) xs e in
-    let long : length xs ≡ suc (length rs) = ap length (sym same) in
-    (same, omega (arith, long))
+some_ok end rs xs e =
+    let some = refusal_ok (length rs == 0) (fault.Ended end) (Ok rs) xs e in
+    let same : rs ≡ xs = ok_is rs xs some.1 in
+    let long : length xs ≡ length rs = ap length (sym same) in (
+      same,
+      elim (cases_lt 0 (length xs)) [
+        | inl h ↦ h
+        | inr h ↦ absurd (eqb-false (length rs) 0 some.0 (omega (arith, h, long)))
+      ],
+    )
 
 pub some_is : (end : ℕ) (rs : List ℕ) → 0 < length rs → some_of end rs ≡ Ok rs
-some_is end [] h = absurd (omega (arith, h))
-some_is end (r ∷ rs) h = refl
+some_is end rs h = rw (ne_eqb (length rs) 0 (λ e. omega (arith, h, e))) refl
 
 -- ---- no word
 

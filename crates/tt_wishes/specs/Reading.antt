@@ -1,5 +1,5 @@
 -- The result of reading wishes: the wishes, or the first fault from the left. All checks of one word come before the next word.
-use Rattle.std.specs.Prelude.{ℕ, ◌-◌, Bool, true, false, nat_le, List, [], ◌∷◌, ◌++◌, length, Option, Some, None, Result, Ok, Err, codes, if◌then◌else◌}
+use Rattle.std.specs.Prelude.{ℕ, ◌-◌, ◌==◌, Bool, true, false, nat_le, List, [], ◌∷◌, ◌++◌, length, Option, Some, None, Result, Ok, Err, codes, if◌then◌else◌}
 use Rattle.tt_text.specs.Tokens.{Placed}
 use Rattle.tt_text.specs.Texts.{index_of_name, is_text}
 use Rattle.tt_text.specs.Numbers.{number_of}
@@ -91,8 +91,7 @@ rooms_after p before (t ∷ ts) = do
 
 -- The rooms; if there is none, the line has ended too early.
 abbrev pub some_of : ℕ → List ℕ → Result (List ℕ) WishesFault
-some_of end [] = Err (fault.Ended end)
-some_of end (r ∷ rs) = Ok (r ∷ rs)
+some_of end rooms = if length rooms == 0 then Err (fault.Ended end) else Ok rooms
 
 -- No word.
 unfoldable pub nothing_at : List Placed → Result (List Placed) WishesFault

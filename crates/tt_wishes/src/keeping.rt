@@ -23,7 +23,7 @@ fn is_only_in(entries: &[Entry], course: u32, rooms: &RoomList) -> bool
 {
     entries
         .iter()
-        .all(|entry| !(entry.course == course) || rooms.has(entry.room))
+        .all(|entry| entry.course != course || rooms.has(entry.room))
 }
 
 /// Returns whether no lecture is there.

@@ -68,6 +68,7 @@ impl<'a> Lines<'a> {
     }
 
     /// Returns the next line, or `None` if no line is left.
+    #[tactic(auto, using(crate::proofs::Lines::left_shorter))]
     pub fn next(&mut self) -> Option<Line<'a>>
         ensures gives { MatchOption result ((self.old ≡ []) × (self.new ≡ [])) (λ l. self.old ≡ row_of l.at l.text.now ∷ self.new) }
         ensures within { IfSome result (λ l. l.at + length l.text.now < 2 ^ 64) }

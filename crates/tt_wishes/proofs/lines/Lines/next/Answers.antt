@@ -1,8 +1,13 @@
-use Rattle.std.proofs.Common.{◌≡◌, ◌∙◌, sym, refl}
+use Rattle.std.proofs.Common.{◌≡◌, ◌∙◌, sym, refl, arith}
 use Rattle.std.specs.List.{slice_split}
 use Rattle.tt_wishes.specs.Lines.{rows_of_lines, rows_left, is_line_feed}
-use Rattle.tt_wishes.proofs.Lines.{next_row}
+use Rattle.tt_wishes.proofs.Lines.{next_row, left_shorter}
 use Rattle.tt_wishes.proofs.lines.Lines.next.Goals as goal
+
+pub invariant_of-self : goal.invariant_of-self
+invariant_of-self c =
+    let less = left_shorter _ _ _ _ c.split_at.ensures.back c.after_first-after.ensures in
+    omega (arith, less, c.self.invariant)
 
 pub returns-clause-gives : goal.returns-clause-gives
 returns-clause-gives c =
