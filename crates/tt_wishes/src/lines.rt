@@ -77,10 +77,12 @@ impl<'a> Lines<'a> {
             return None;
         }
         let at = self.at;
-        let (text, behind) = self.rest.split_at(line_len(self.rest));
+        let len = line_len(self.rest);
+        let (text, behind) = self.rest.split_at(len);
         let after = after_first(behind);
+        let over = behind.is_empty();
         self.at = at + (self.rest.len() - after.len());
-        self.over = behind.is_empty();
+        self.over = over;
         self.rest = after;
         Some(Line { text, at })
     }

@@ -14,5 +14,5 @@ returns-clause-gives c =
     let s = c.self.inside in
     let left : rows_left s.over s.at s.rest.now ≡ rows_of_lines s.at (slice_split is_line_feed s.rest.now) = rw c.if-over.false refl in
     sym c.self.view_is ∙ left
-    ∙ next_row _ _ _ _ _ _ _ _ c.line_len.ensures.len c.split_at.ensures.front c.split_at.ensures.back c.after_first-after.ensures refl
-    c.is_empty.ensures
+    ∙ next_row _ _ _ _ _ _ _ _ c.line_len-len.ensures.len c.split_at.ensures.front c.split_at.ensures.back c.after_first-after.ensures refl
+    c.is_empty-over.ensures
