@@ -1,4 +1,5 @@
 pub mod Keeping
+pub mod Listing
 pub mod Lines
 pub mod Loops
 pub mod Offsets

@@ -1,6 +1,7 @@
 //! Wishes about a timetable: what they mean, the facts that they are, and the files that spell them.
 #![tactic(auto)]
 
+mod facts;
 mod fault;
 mod format;
 mod keeping;
@@ -12,6 +13,7 @@ mod rooms;
 mod wish;
 mod words;
 
+pub use facts::list_facts;
 pub use fault::WishesFault;
 pub use format::MAX_WISHES;
 pub use keeping::broken_wishes;
