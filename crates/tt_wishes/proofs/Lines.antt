@@ -10,6 +10,11 @@ use Rattle.tt_list_laws.proofs.Sums.{each_from_list_all}
 use Rattle.tt_text.proofs.Runs.{run_passes}
 use Rattle.tt_wishes.specs.Lines.{row_of, rows_of_lines, rows_left, is_line_feed, is_in_line}
 
+-- of no bytes none are left
+pub nothing_dropped : (bytes : List ℕ) → length bytes ≡ 0 → bytes ≡ drop 1 bytes
+nothing_dropped [] e = refl
+nothing_dropped (b ∷ bs) e = absurd (omega (arith, e))
+
 -- what is left behind a line is no longer than before
 pub left_shorter : (len : ℕ) (rest behind after : List ℕ) → behind ≡ drop len rest → after ≡ drop 1 behind → length after ≤ length rest
 left_shorter len rest behind after behind_is after_is =

@@ -46,6 +46,7 @@ fn line_len(bytes: &[u8]) -> usize
 }
 
 /// Returns the bytes after the first one, if there is one.
+#[tactic(auto, using(crate::proofs::Lines::nothing_dropped))]
 fn after_first(bytes: &[u8]) -> &[u8]
     ensures { result.now ≡ drop 1 bytes.now }
 {
