@@ -34,11 +34,15 @@ line_in_text at line h =
     (All-from_recursion (λ t. t.at ≤ 0 + length line) (tokens_of line) (starts_within 0 line (tokens_of line) (read_are_tokens line)))
 
 -- the first token, and those after it
-pub first_in_text : (at : ℕ) (ts : List Placed) (t : Placed) (more : List Placed) → ts ≡ t ∷ more → AreInText at ts → at + t.at < 2 ^ 64
-first_in_text at ts t more split h = All-head (λ u. at + u.at < 2 ^ 64) t more (All-same (λ u. at + u.at < 2 ^ 64) (t ∷ more) ts (sym split) h)
+pub first_in_text : (at n : ℕ) (text : List ℕ) (ts more : List Placed) → ts ≡ record { text = text; at = n } ∷ more → AreInText at ts
+    → at + n < 2 ^ 64
+first_in_text at n text ts more split h =
+    All-head (λ u. at + u.at < 2 ^ 64) (record { text = text; at = n }) more
+    (All-same (λ u. at + u.at < 2 ^ 64) (record { text = text; at = n } ∷ more) ts (sym split) h)
 
 pub more_in_text : (at : ℕ) (ts : List Placed) (t : Placed) (more : List Placed) → ts ≡ t ∷ more → AreInText at ts → AreInText at more
-more_in_text at ts t more split h = All-tail (λ u. at + u.at < 2 ^ 64) t more (All-same (λ u. at + u.at < 2 ^ 64) (t ∷ more) ts (sym split) h)
+more_in_text at ts t more split h =
+    All-tail (λ u. at + u.at < 2 ^ 64) t more (All-same (λ u. at + u.at < 2 ^ 64) (t ∷ more) ts (sym split) h)
 
 pub none_in_text : (at : ℕ) (ts : List Placed) → ts ≡ [] → AreInText at ts
 none_in_text at ts none = All-same (λ u. at + u.at < 2 ^ 64) ts [] none (All-nil (λ u. at + u.at < 2 ^ 64))
