@@ -2,7 +2,7 @@
 use Rattle.std.proofs.Common.{◌≡◌, ℕ, ◌+◌, true, false, Bool, not, ◌&&◌, ◌||◌, List, [], ◌∷◌, ◌++◌, map, length, refl, sym, ap, subst, ◌∙◌, arith, eqb-true, eq-eqb}
 use Rattle.std.specs.Prelude.{◌==◌, All, Contains, count_by, filter, flat_map}
 use Rattle.std.specs.List.{list_any, list_all, AllByRecursion}
-use Rattle.std.proofs.lemmas.Bool.{and_parts, and_from, not-true, not_from_false, not_from_true, false_from_ne_true, true_from_ne_false}
+use Rattle.std.proofs.lemmas.Bool.{both_ways, and_parts, and_from, not-true, not_from_false, not_from_true, false_from_ne_true, true_from_ne_false}
 use Rattle.std.proofs.lemmas.List.Elements.{All-nil, All-cons, All-head, All-tail, All-append, All-contains, All-from_recursion, recursion_from_All}
 use Rattle.tt_list_laws.specs.Words.{has_number}
 use Rattle.tt_list_laws.proofs.Filters.{list_all-of_filter}
@@ -80,8 +80,7 @@ module _ (p : Problem) (t : List Cell) where
       let listed = wanted (is_of c m.0) (has_number rooms m.0.room) here g.who in
       let same : r ≡ m.0.room = eqb-true r m.0.room g.room in
       let yes : has_number rooms r ≡ true = subst (λ k. has_number rooms k ≡ true) (sym same) listed in
-      let no : has_number rooms r ≡ false = not-true (has_number rooms r) other in
-      cc
+      both_ways (has_number rooms r) (not-true (has_number rooms r) other) yes
 
   only_fits : (c : ℕ) (rooms : List ℕ) → is_only_in t c rooms ≡ true → Fits p t (facts_of p (Rooms c rooms))
   only_fits c rooms kept =
@@ -101,9 +100,8 @@ module _ (p : Problem) (t : List Cell) where
       x.room tests inside.room in
       let free = wanted (not (has_number rooms x.room)) (not (list_any (matches p (pattern_in c x.room)) t)) at
       (not_from_false (has_number rooms x.room) other) in
-      let no : list_any (matches p (pattern_in c x.room)) t ≡ false = not-true (list_any (matches p (pattern_in c x.room)) t) free in
       let yes = any_member (matches p (pattern_in c x.room)) t x m (matches_in c x.room x of refl) in
-      cc
+      both_ways (list_any (matches p (pattern_in c x.room)) t) (not-true (list_any (matches p (pattern_in c x.room)) t) free) yes
 
   fits_only : (c : ℕ) (rooms : List ℕ) → IsTimetable p t → Fits p t (facts_of p (Rooms c rooms)) → is_only_in t c rooms ≡ true
   fits_only c rooms inside f =
@@ -125,8 +123,7 @@ module _ (p : Problem) (t : List Cell) where
       and_from (agrees g.room m.0.room && agrees g.day m.0.day) (agrees g.period m.0.period)
       (and_from (agrees g.room m.0.room) (agrees g.day m.0.day) here.room here.day) here.period in
       let yes = any_member (is_there g) t m.0 m.1 there in
-      let no : list_any (is_there g) t ≡ false = not-true (list_any (is_there g) t) kept in
-      cc
+      both_ways (list_any (is_there g) t) (not-true (list_any (is_there g) t) kept) yes
 
   empty_fits : (g : Place) → is_empty t g ≡ true → Fits p t (facts_of p (Closed g))
   empty_fits g kept =
@@ -143,12 +140,11 @@ module _ (p : Problem) (t : List Cell) where
       let x = m.0 in
       let range = All-contains (InRange p) t x inside m.1 in
       let at = at_below (λ c. not (list_any (matches p (pattern_at g c)) t)) (length p.courses) x.course tests range.course in
-      let no : list_any (matches p (pattern_at g x.course)) t ≡ false = not-true (list_any (matches p (pattern_at g x.course)) t) at in
       let here : matches p (pattern_at g x.course) x ≡ true =
       grouped (is_of x.course x) (agrees g.room x.room) (agrees g.day x.day) (agrees g.period x.period)
       ∙ and_from (is_of x.course x) (is_there g x) (eq-eqb x.course x.course refl) m.2 in
       let yes = any_member (matches p (pattern_at g x.course)) t x m.1 here in
-      cc
+      both_ways (list_any (matches p (pattern_at g x.course)) t) (not-true (list_any (matches p (pattern_at g x.course)) t) at) yes
 
   fits_empty : (g : Place) → IsTimetable p t → Fits p t (facts_of p (Closed g)) → is_empty t g ≡ true
   fits_empty g inside f =

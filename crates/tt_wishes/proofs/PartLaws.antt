@@ -1,7 +1,7 @@
 -- The parts of a wish: those that are read are spelled, and those that are spelled are read.
 use Rattle.std.proofs.Common.{◌≡◌, ℕ, ◌-◌, ◌<◌, ◌≤◌, Bool, true, false, cond, List, [], ◌∷◌, ◌++◌, length, map, Option, Some, None, Result, Ok, Err, refl, sym, ap, subst, ◌∙◌, append_assoc, arith, codes, inl, inr}
 use Rattle.std.specs.Prelude.{◌≢◌, ◌==◌, All, IfSome}
-use Rattle.std.proofs.lemmas.Bool.{false_from_ne_true, cases_lt, eqb-false, ne_eqb}
+use Rattle.std.proofs.lemmas.Bool.{both_ways, false_from_ne_true, cases_lt, eqb-false, ne_eqb}
 use Rattle.std.proofs.lemmas.List.{append-nil}
 use Rattle.std.proofs.lemmas.List.Elements.{All-nil, All-cons, All-head, All-tail}
 use Rattle.tt_text.specs.Tokens.{Placed}
@@ -54,7 +54,7 @@ free_room_takes p t o e = by_test (is_text (codes "*") t.text) refl e
         let r = bind_ok (room_of p t) (λ r. Ok (Some r)) o h in
         let taken = room_takes p t r.0 r.1 in
         let other : room_name p r.0 ≢ codes "*" =
-        λ star. let free = is_text_of t.text (codes "*") (taken.1 ∙ star) in cc in
+        λ star. both_ways (is_text (codes "*") t.text) is (is_text_of t.text (codes "*") (taken.1 ∙ star)) in
         subst (IsFreeRoom p t.text) (ok_is {F = WishesFault} (Some r.0) o r.2) (taken.1, (taken.0, other))
 
 pub free_room_reads : (p : Problem) (t : Placed) (o : Option ℕ) → IsWithinLimits p → IsFreeRoom p t.text o → free_room_of p t ≡ Ok o
@@ -92,8 +92,8 @@ free_index_reads bound t None h = rw (is_text_of t.text (codes "*") h.0) refl
 free_index_reads bound t (Some n) h =
     let given : is_text (codes "*") t.text ≡ false =
     false_from_ne_true (is_text (codes "*") t.text)
-    (λ free. let digits : is_number_text (codes "*") ≡ true = subst (λ text. is_number_text text ≡ true) (text_is t.text (codes "*") free)
-    h.0.digits_only in absurd cc) in
+    (λ free. both_ways (is_number_text (codes "*")) refl
+    (subst (λ text. is_number_text text ≡ true) (text_is t.text (codes "*") free) h.0.digits_only)) in
     rw (given, number_read (bound - 1) t.text n h.0 (omega (arith, h.1))) refl
 
 -- ---- a course
