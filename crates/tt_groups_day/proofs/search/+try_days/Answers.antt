@@ -51,7 +51,7 @@ loop-set-preserved t c =
               arith,
               before.sequences,
               ap (λ (x : DayWork). x.sequences) w.work-is,
-              c.take_try.ensures.sequences,
+              c.in_ok-take_try.ensures.sequences,
               w.in_ok-take_sequence.ensures.taken,
               w.in_ok-try_days.ensures.sequences,
             );
@@ -69,7 +69,7 @@ loop-set-preserved t c =
               ap (λ (x : DayWork). x.sequences) w.work-is,
               ap (λ (x : DayWork). x.tries) w.work-is,
               c.in_ok-take_try.ensures.taken,
-              c.take_try.ensures.sequences,
+              c.in_ok-take_try.ensures.sequences,
               w.in_ok-take_sequence.ensures.taken,
               w.in_ok-take_sequence.ensures.tries,
               w.in_ok-try_days.ensures.each_tried,
@@ -96,7 +96,7 @@ loop-set-preserved t c =
                 tried;
             found = made-more Found a.table.now c.loop-set.table now before.found
                 (λ k. inl (ap (λ (l : List ℕ). slice_index l k) w.table-is));
-            sequences = omega (arith, before.sequences, ap (λ (x : DayWork). x.sequences) w.work-is, c.take_try.ensures.sequences);
+            sequences = omega (arith, before.sequences, ap (λ (x : DayWork). x.sequences) w.work-is, c.in_ok-take_try.ensures.sequences);
             tries = omega (arith, before.tries, ap (λ (x : DayWork). x.tries) w.work-is, c.in_ok-take_try.ensures.taken);
             each_tried = omega (
               arith,
@@ -104,7 +104,7 @@ loop-set-preserved t c =
               ap (λ (x : DayWork). x.sequences) w.work-is,
               ap (λ (x : DayWork). x.tries) w.work-is,
               c.in_ok-take_try.ensures.taken,
-              c.take_try.ensures.sequences,
+              c.in_ok-take_try.ensures.sequences,
             );
             at_most = omega (arith, before.at_most, ap (λ (x : DayWork). x.tries) w.work-is, c.in_ok-take_try.ensures.taken);
           }
@@ -147,7 +147,7 @@ returns-in_err-take_sequence-clause-too_few t c =
       arith,
       c.loop-set.invariant.at_most,
       c.loop-set.invariant.each_tried,
-      c.take_try.ensures.sequences,
+      c.in_ok-take_try.ensures.sequences,
       c.in_err-take_sequence.ensures.used_up.0,
       next,
       mul-le-mul_right (1 + sequences_of k rest) less,
@@ -171,7 +171,7 @@ returns-in_err-try_days-clause-too_few t c =
             sequences,
             c.loop-set.invariant.at_most,
             c.loop-set.invariant.each_tried,
-            c.take_try.ensures.sequences,
+            c.in_ok-take_try.ensures.sequences,
             c.in_ok-take_sequence.ensures.taken,
             next,
             all,
