@@ -50,14 +50,14 @@ fn page_of(alloc: Global, instance: &[u8], answer: &Answer) -> Result<Option<Vec
 
 /// The place for these files.
 #[derive(Clone, Copy)]
-pub struct PartialFiles<'a, R: World> {
+pub struct PartialFiles<'a, 'i, R: World> {
     pub rt: &'a R,
-    pub inputs: &'a Inputs<'a>,
+    pub inputs: &'a Inputs<'i>,
     /// The path of the output of the best timetable.
     pub path: &'a str,
 }
 
-impl<'a, R: World> PartialFiles<'a, R> {
+impl<'a, 'i, R: World> PartialFiles<'a, 'i, R> {
     /// Tries one of the files. If it can't be written, standard error says why, and it is left out.
     fn prepare<E: Write>(
         &self,

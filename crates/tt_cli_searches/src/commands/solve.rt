@@ -14,13 +14,6 @@ use tt_cli_saving::{
     ticker_of,
 };
 
-/// What was read for a search.
-#[derive(Clone, Copy)]
-struct Texts<'a> {
-    inputs: &'a Inputs<'a>,
-    instance: &'a [u8],
-}
-
 /// The file in which the proof of a tree is stored on the way.
 struct ProofShelf<'s, R: World> {
     rt: &'s R,
@@ -68,7 +61,8 @@ impl<F> Outputs<F> {
         &self,
         rt: &R,
         err: &mut E,
-        texts: &Texts<'_>,
+        inputs: &Inputs<'_>,
+        instance: &[u8],
         answer: &Answer,
     ) -> Result<Batch, AllocError> {
         if !matches!(self.table.ready, Ready::Place(_)) {
@@ -76,10 +70,10 @@ impl<F> Outputs<F> {
         }
         let files = PartialFiles {
             rt,
-            inputs: texts.inputs,
+            inputs,
             path: self.table.label.path.as_str(),
         };
-        files.write(err, texts.instance, answer)
+        files.write(err, instance, answer)
     }
 
     /// Returns a batch with the files of an answer.
@@ -87,14 +81,15 @@ impl<F> Outputs<F> {
         &mut self,
         rt: &R,
         err: &mut E,
-        texts: &Texts<'_>,
+        inputs: &Inputs<'_>,
+        instance: &[u8],
         answer: &Answer,
     ) -> Result<Batch, AllocError> {
         let batch = if answer.status == 0 {
             self.table
                 .write_given(rt, Batch::new(rt.alloc()), &answer.table)?
         } else {
-            self.write_partial(rt, err, texts, answer)?
+            self.write_partial(rt, err, inputs, instance, answer)?
         };
         self.proof.write_given(rt, batch, &answer.proof)
     }
@@ -165,10 +160,6 @@ pub fn answer_solve<R: World, E: Write>(
     if answer.status != 0 {
         say_why(rt.alloc(), err, &instance, &answer)?;
     }
-    let texts = Texts {
-        inputs: &inputs,
-        instance: &instance,
-    };
-    let batch = outputs.write(rt, err, &texts, &answer)?;
+    let batch = outputs.write(rt, err, &inputs, &instance, &answer)?;
     reply_with(rt, batch, answer.status, answer.out)
 }
