@@ -20,7 +20,7 @@ pub record IsPlace (p : Problem) (x : Tables) (c : ℕ) (place : Place) : Type 0
   pub room : place.room < length p.rooms
   pub day : place.day < p.days
   pub period : place.period < p.periods
-  pub open : IsOpen x place.room place.day place.period
+  pub free : IsOpen x place.room place.day place.period
   pub clashes : place.clashes ≡ clashes_in p x c place.day place.period
 
 -- whether a period is before period n of day k

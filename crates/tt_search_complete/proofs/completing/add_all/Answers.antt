@@ -11,7 +11,10 @@ add_lectures-requires-clause-at_most c =
 pub loop-course-preserved : goal.loop-course-preserved
 loop-course-preserved c =
     let each = c.requires.missing.each c.loop-course.course (omega arith) in
-    completed_more c.args.instance.now c.loop-course.course c.missing_at-count.result c.args.table.now c.loop-course.table
-    c.add_lectures.new.table c.loop-course.invariant.done (omega arith)
-    (omega (arith, each, c.missing_at-count.ensures)) c.in_ok-add_lectures.ensures.more c.in_ok-add_lectures.ensures.begins
-    (c.in_ok-add_lectures.ensures.suited (length c.args.table.now) c.loop-course.invariant.done.suited)
+    let added = c.in_ok-add_lectures.ensures in
+    record {
+      done = completed_more c.args.instance.now c.loop-course.course c.missing_at-count.result c.args.table.now c.loop-course.table
+          c.add_lectures.new.table c.loop-course.invariant.done (omega arith) (omega (arith, each, c.missing_at-count.ensures)) added.more
+          added.begins (added.suited (length c.args.table.now) c.loop-course.invariant.done.suited);
+      tables = added.tables;
+    }
