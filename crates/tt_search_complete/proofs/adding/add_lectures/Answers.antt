@@ -10,7 +10,7 @@ loop-preserved c =
     let u = c.push_below_limit.new.self in
     let before = c.loop.invariant in
     let entry = c.best_entry-entry.ensures in
-    let pushed = c.in_ok-push_below_limit.ensures in
+    let pushed = c.in_ok-push_below_limit.ensures.ok in
     record {
       more = one_more p c.args.course c.loop.counter c.args.table.now t u _ before.more entry.in_range entry.course pushed;
       begins = begins_more _ t u _ before.begins pushed;
