@@ -1,6 +1,6 @@
-pub mod Keeping
+pub mod KeptLaws
+pub mod LineLaws
 pub mod Listing
-pub mod Lines
 pub mod Loops
 pub mod Offsets
 pub mod PartLaws

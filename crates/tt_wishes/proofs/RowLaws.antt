@@ -127,7 +127,7 @@ wishes_spelled p bytes ws limits e =
 -- wishes that are spelled are read
 pub wishes_read : (p : Problem) (bytes : List ℕ) (ws : List Wish) → IsWithinLimits p → SpellsWishes p bytes ws → wishes_of p bytes ≡ Ok ws
 unfolding wishes_of
-wishes_read p bytes ws limits spelled = rows_read p [] (rows_of bytes) ws limits spelled.rows spelled.at_most
+wishes_read p bytes ws limits spelled = rows_read p [] (rows_of bytes) ws limits spelled.rows (omega (arith, spelled.at_most))
 
 -- bytes spell at most one list of wishes
 pub wishes_once : (p : Problem) (bytes : List ℕ) (us ws : List Wish) → IsWithinLimits p → SpellsWishes p bytes us → SpellsWishes p bytes ws

@@ -1,7 +1,8 @@
 //! Which wishes a timetable keeps.
 
 ghost use Rattle.std.specs.Prelude.{◌≡◌, ◌≤◌, length};
-ghost use Rattle.tt_wishes.specs.Wishes.{is_held, is_only_in, is_empty, is_kept, broken_wishes};
+ghost use Rattle.std.specs.List.{list_any};
+ghost use Rattle.tt_wishes.specs.Wishes.{is_there, is_held, is_only_in, is_empty, is_kept, broken_wishes};
 
 use crate::rooms::RoomList;
 use crate::wish::{Place, Wish};
@@ -26,11 +27,18 @@ fn is_only_in(entries: &[Entry], course: u32, rooms: &RoomList) -> bool
         .all(|entry| entry.course != course || rooms.has(entry.room))
 }
 
+/// Returns whether some lecture is there.
+fn has_entry(entries: &[Entry], place: Place) -> bool
+    ensures { result ≡ list_any (is_there place) entries.now }
+{
+    entries.iter().any(|entry| place.has(*entry))
+}
+
 /// Returns whether no lecture is there.
 fn is_empty(entries: &[Entry], place: Place) -> bool
     ensures { result ≡ is_empty entries.now place }
 {
-    !entries.iter().any(|entry| place.has(*entry))
+    !has_entry(entries, place)
 }
 
 /// Returns whether the entries keep a wish.

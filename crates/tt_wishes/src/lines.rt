@@ -46,7 +46,7 @@ fn line_len(bytes: &[u8]) -> usize
 }
 
 /// Returns the bytes after the first one, if there is one.
-#[tactic(auto, using(crate::proofs::Lines::nothing_dropped))]
+#[tactic(auto, using(crate::proofs::LineLaws::nothing_dropped))]
 fn after_first(bytes: &[u8]) -> &[u8]
     ensures { result.now ≡ drop 1 bytes.now }
 {
@@ -69,7 +69,7 @@ impl<'a> Lines<'a> {
     }
 
     /// Returns the next line, or `None` if no line is left.
-    #[tactic(auto, using(crate::proofs::Lines::left_shorter))]
+    #[tactic(auto, using(crate::proofs::LineLaws::left_shorter))]
     pub fn next(&mut self) -> Option<Line<'a>>
         ensures gives { MatchOption result ((self.old ≡ []) × (self.new ≡ [])) (λ l. self.old ≡ row_of l.at l.text.now ∷ self.new) }
         ensures within { IfSome result (λ l. l.at + length l.text.now < 2 ^ 64) }

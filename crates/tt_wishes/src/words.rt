@@ -45,12 +45,12 @@ impl<'a> Words<'a> {
     pub fn next(&mut self) -> Option<Token<'a>>
         ensures { MatchOption result ((self.old ≡ []) × (self.new ≡ [])) (λ t. self.old ≡ place t ∷ self.new) }
     {
-        match self.tokens.next() {
-            None => None,
-            Some(token) => Some(Token {
-                bytes: token.bytes,
-                at: self.at + token.at,
-            }),
-        }
+        let Some(token) = self.tokens.next() else {
+            return None;
+        };
+        Some(Token {
+            bytes: token.bytes,
+            at: self.at + token.at,
+        })
     }
 }

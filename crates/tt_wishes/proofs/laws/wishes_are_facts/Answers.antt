@@ -1,4 +1,4 @@
-use Rattle.tt_wishes.proofs.Keeping.{kept_fits, fits_kept, all_fit, fits_all}
+use Rattle.tt_wishes.proofs.KeptLaws.{kept_fits, fits_kept, all_fit, fits_all}
 use Rattle.tt_wishes.proofs.laws.wishes_are_facts.Goals as goal
 
 pub returns-clause-one : goal.returns-clause-one
