@@ -252,6 +252,7 @@ def missing_files(desk):
     for words, role in [
         ("validate none solution", "instance"),
         ("validate instance none", "solution"),
+        ("validate instance solution --wishes none", "wishes"),
         ("check instance none proof", "solution"),
         ("check instance solution none", "proof"),
         ("bound instance none", "proof"),
@@ -283,6 +284,7 @@ def folders_in_the_place_of_files(desk):
     before = {it.name for it in desk.folder.iterdir()}
     same(desk.told("validate folder solution"), not_read("instance", "folder", IS_FOLDER))
     same(desk.told("validate instance folder"), not_read("solution", "folder", IS_FOLDER))
+    same(desk.told("validate instance solution --wishes folder"), not_read("wishes", "folder", IS_FOLDER))
     same(desk.told("bound instance folder"), refused(b"proof: Read: folder: " + IS_FOLDER))
     same(desk.told("sum instance proof folder"), refused(b"proof 2: Read: folder: " + IS_FOLDER))
     for words, role in [

@@ -23,7 +23,7 @@ OUT_OF_MEMORY = (2, b"", b"refused: out of memory\n")
 HURRY = 400
 # What a refusal says after a failed call: the role and the path of the file, and the system's reason.
 PATH, REASON = rb"([^\n:]*)", rb"([^\n;]+)"
-NOT_READ = re.compile(rb"refused: (instance|solution|proof(?: \d+)?): (?:cannot read|Read): " + PATH + rb": " + REASON + rb"\n")
+NOT_READ = re.compile(rb"refused: (instance|solution|wishes|proof(?: \d+)?): (?:cannot read|Read): " + PATH + rb": " + REASON + rb"\n")
 WHEREABOUTS = rb"((?:; output \w+ is (?:kept as [^\n;]+|on standard output|in its place|lost))*)"
 NOT_WRITTEN = re.compile(rb"refused: cannot write: (output \w+): " + PATH + rb": " + REASON + WHEREABOUTS + rb"\n")
 NOT_PRINTED = re.compile(rb"refused: cannot write: standard output: " + REASON + rb"\n")
@@ -51,7 +51,7 @@ IN_FOLDER = {
     "parts": {"groups.proof": "output proof", "rooms.proof": "output proof"},
     "best": {"best.sol": "output solution", "partial.sol": "output solution", "page.html": "output page", "groups.proof": "output proof", "prices.proof": "output proof", "tree.proof": "output proof"},
 }
-INPUT_OPTIONS = {"--solution": "solution", "--from": "solution", "--proof": "proof"}
+INPUT_OPTIONS = {"--solution": "solution", "--from": "solution", "--wishes": "wishes", "--proof": "proof"}
 FLAGS = {"--keep", "--complete", "--progress", "--quiet", "--csv", "--no-formulas", "--help", "--version"}
 
 
@@ -129,6 +129,7 @@ FILES = {
     "gap.proof": GAP_PROOF,
     "gap.groups": GAP_GROUPS,
     "nothing.proof": b"CTTP 1 bound 0 B ; end",
+    "wishes": b"hold a R 0 0\nclosed * 0 1\n",
     "bad": b"bad",
     "empty": b"",
 }
@@ -154,6 +155,8 @@ COMMANDS = [
     Command("validate - gap.sol", out=MINI_COUNTS, given="mini"),
     Command("validate mini -", out=MINI_COUNTS, given="gap.sol"),
     Command("validate - -", 2, b"", None, given="mini"),
+    Command("validate mini gap.sol --wishes wishes", out=MINI_COUNTS + b"wishes 0\n"),
+    Command("validate mini gap.sol --wishes bad", 2, b"", b"refused: wishes: UnknownWord at byte 0\n"),
     Command("check gap gap.sol gap.proof", out=b"yes cost 5 bound 5 optimal\n"),
     Command("check gap gap.sol -", out=b"yes cost 5 bound 5 optimal\n", given="gap.proof"),
     Command("check mini bad gap.proof", 2, b"", b"refused: solution: UnknownCourse at byte 0\n"),

@@ -11,3 +11,4 @@ pub use tt_call_searches::{
 pub use tt_call_texts::{
     PageNames, WeekTimes, calendar, inspect, page, proved_page, report, table,
 };
+pub use tt_call_wishes::{ValidateFault, validate_wishes};
