@@ -2,9 +2,9 @@
 use Rattle.std.specs.Prelude.{◌≡◌, ℕ, ◌+◌, ◌*◌, ◌<◌, ◌⊎◌, List}
 use Rattle.tt_instance.specs.Problem.{Problem}
 use Rattle.tt_instance.specs.declared.cell.Cell.{Cell}
-use Rattle.tt_table.specs.Table.{IsTimetable}
 use Rattle.tt_rules.specs.Score.{hard, cost}
 use Rattle.tt_changes.specs.Counts.{moved_count, rooms_count}
+use Rattle.tt_stay_search.specs.Rearranged.{IsRearranged}
 use Rattle.tt_stay_search.specs.declared.stay.Stay.{Stay}
 use Rattle.tt_stay.specs.declared.staying.Near.{Near}
 use Rattle.tt_stay.specs.declared.weight.Weight.{Weight}
@@ -24,8 +24,8 @@ pub record IsWeight (p : Problem) (old t : List Cell) (w : Weight) : Type 0 wher
 abbrev pub IsLower : Stay → Weight → Weight → Type 0
 IsLower s v w = (v.hard < w.hard) ⊎ ((v.hard ≡ w.hard) × (total s v.cost v.moved v.rooms < total s w.cost w.moved w.rooms))
 
--- A timetable with its weight, and no timetable that the search started from has a lower one.
+-- A timetable with its weight: its entries are those of the timetable from which the search started, and that one has no lower weight.
 pub record IsNear (p : Problem) (old start : List Cell) (s : Stay) (n : Near) : Type 0 where
-  pub in_range : IsTimetable p n.table
+  pub entries : IsRearranged p start n.table
   pub weight : IsWeight p old n.table n.weight
   pub no_worse : (first : Weight) → IsWeight p old start first → IsLower s first n.weight → ⊥

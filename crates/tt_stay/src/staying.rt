@@ -1,7 +1,8 @@
 //! The improvement near an older timetable.
 
-ghost use Rattle.std.specs.Prelude.{◌≡◌, IfOk};
+ghost use Rattle.std.specs.Prelude.{IfOk};
 ghost use Rattle.tt_table.specs.Table.{IsTimetable};
+ghost use Rattle.tt_stay_search.specs.Rearranged.{IsRearranged};
 ghost use Rattle.tt_stay.specs.Staying.{IsNear};
 
 use crate::weight::{Weight, weigh};
@@ -29,7 +30,7 @@ fn search_in_runs<W: Watch>(
     watch: &mut W,
 ) -> Result<Timetable, AllocError>
     requires { IsTimetable instance.now start }
-    ensures { IfOk result (IsTimetable instance.now) }
+    ensures { IfOk result (IsRearranged instance.now start) }
 {
     let mut table = start;
     for run in 0..search.runs {

@@ -1,6 +1,6 @@
 //! Drawn steps near an older timetable.
 
-ghost use Rattle.std.specs.Prelude.{◌≡◌};
+ghost use Rattle.std.specs.Prelude.{◌≡◌, map};
 
 use crate::homes::Homes;
 use tt_moves::{Step, apply, can_step, change};
@@ -112,7 +112,8 @@ pub fn try_draw(
     dice: &mut Dice,
     heat: i64,
 ) -> i64
-    ensures { occupied.new.problem ≡ occupied.old.problem }
+    ensures problem { occupied.new.problem ≡ occupied.old.problem }
+    ensures courses { map (λ e. e.course) occupied.new.entries ≡ map (λ e. e.course) occupied.old.entries }
 {
     let Some(Draw { step, price }) = draw_step(occupied, homes, older, dice) else {
         return 0;

@@ -1,7 +1,7 @@
 //! The best timetable of a search near an older one.
 
 ghost use Rattle.std.specs.Prelude.{OnOk};
-ghost use Rattle.tt_table.specs.Table.{IsTimetable};
+ghost use Rattle.tt_stay_search.specs.Rearranged.{IsRearranged};
 
 use std::alloc::AllocError;
 use tt_occupancy::Occupied;
@@ -19,8 +19,8 @@ pub struct Nearest {
 impl Nearest {
     /// Counts what a step has added, and keeps the timetable if it is better.
     pub fn keep(&mut self, occupied: &Occupied<'_, '_>, added: i64) -> Result<(), AllocError>
-        requires { IsTimetable occupied.now.problem self.old.table }
-        ensures { OnOk result (IsTimetable occupied.now.problem self.new.table) }
+        requires { IsRearranged occupied.now.problem occupied.now.entries self.old.table }
+        ensures { OnOk result (IsRearranged occupied.now.problem occupied.now.entries self.new.table) }
     {
         self.added = self.added.saturating_add(added);
         if self.added < self.least {

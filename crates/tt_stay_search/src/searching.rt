@@ -1,7 +1,8 @@
 //! The search near an older timetable.
 
-ghost use Rattle.std.specs.Prelude.{◌≡◌, IfOk, OnOk};
+ghost use Rattle.std.specs.Prelude.{◌≡◌, IfOk, OnOk, map};
 ghost use Rattle.tt_table.specs.Table.{IsTimetable};
+ghost use Rattle.tt_stay_search.specs.Rearranged.{IsRearranged};
 
 use crate::drawing::try_draw;
 use crate::homes::Homes;
@@ -46,9 +47,10 @@ fn make_draws(
     drawer: &mut Drawer<'_>,
     heat: i64,
 ) -> Result<(), AllocError>
-    requires { IsTimetable occupied.old.problem nearest.old.table }
+    requires { IsRearranged occupied.old.problem occupied.old.entries nearest.old.table }
     ensures problem { occupied.new.problem ≡ occupied.old.problem }
-    ensures table { OnOk result (IsTimetable occupied.old.problem nearest.new.table) }
+    ensures courses { map (λ e. e.course) occupied.new.entries ≡ map (λ e. e.course) occupied.old.entries }
+    ensures table { OnOk result (IsRearranged occupied.old.problem occupied.old.entries nearest.new.table) }
 {
     for _ in 0..DRAWS {
         let added = try_draw(
@@ -88,7 +90,7 @@ pub fn search_near<W: Watch>(
     watch: &mut W,
 ) -> Result<Timetable, AllocError>
     requires { IsTimetable instance.now start }
-    ensures { IfOk result (IsTimetable instance.now) }
+    ensures { IfOk result (IsRearranged instance.now start) }
 {
     let Search {
         seed,
