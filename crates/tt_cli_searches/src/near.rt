@@ -1,13 +1,12 @@
 //! The answer of `improve --stay`.
 
-use std::alloc::{AllocError, Global};
+use std::alloc::Global;
 use tt_call_answers::{Answer, AppFault};
 use tt_cli_arguments::Search as Asked;
 use tt_instance_read::read_instance;
 use tt_search_complete::complete;
-use tt_stay::{Search, Stay, Weight, improve_near};
+use tt_stay::{Search, Stay, improve_near, write_weight};
 use tt_table::{read_solution, write_solution};
-use tt_text::{put_line_end, put_next_number, put_next_token, put_token};
 use tt_watch::Watch;
 
 /// A lecture that only leaves its room costs this part of the price of one that leaves its period.
@@ -19,21 +18,6 @@ fn prices(period: u32) -> Stay {
         period,
         room: period.div_ceil(ROOM_PART),
     }
-}
-
-/// Returns the line of a timetable: its hard count, its cost, and how many lectures left their period and their room.
-fn line_of(alloc: Global, weight: Weight) -> Result<Vec<u8>, AllocError> {
-    let mut out = Vec::new(alloc);
-    put_token(&mut out, b"hard")?;
-    put_next_number(&mut out, weight.hard)?;
-    put_next_token(&mut out, b"cost")?;
-    put_next_number(&mut out, weight.cost)?;
-    put_next_token(&mut out, b"moved")?;
-    put_next_number(&mut out, weight.moved)?;
-    put_next_token(&mut out, b"rooms")?;
-    put_next_number(&mut out, weight.rooms)?;
-    put_line_end(&mut out)?;
-    Ok(out)
 }
 
 /// Improves a solution, with this price of a lecture that leaves its period.
@@ -60,7 +44,7 @@ pub fn improve_priced<W: Watch>(
     let near = improve_near(alloc, &instance, &older, start, search, watch)?;
     Ok(Answer {
         status: if near.weight.hard == 0 { 0 } else { 1 },
-        out: line_of(alloc, near.weight)?,
+        out: write_weight(alloc, near.weight)?,
         table: Some(write_solution(alloc, &instance, &near.table)?),
         proof: None,
     })

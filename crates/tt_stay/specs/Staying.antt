@@ -1,5 +1,6 @@
 -- Timetables that are better than another one, if each lecture that left its place in an older one has a price.
-use Rattle.std.specs.Prelude.{◌≡◌, ℕ, ◌+◌, ◌*◌, ◌<◌, ◌⊎◌, List}
+use Rattle.std.specs.Prelude.{◌≡◌, ℕ, ◌+◌, ◌*◌, ◌<◌, ◌⊎◌, List, [], ◌∷◌, codes}
+use Rattle.tt_text.specs.Pieces.{Piece, Text, Number}
 use Rattle.tt_instance.specs.Problem.{Problem}
 use Rattle.tt_instance.specs.declared.cell.Cell.{Cell}
 use Rattle.tt_rules.specs.Score.{hard, cost}
@@ -29,3 +30,9 @@ pub record IsNear (p : Problem) (old start : List Cell) (s : Stay) (n : Near) : 
   pub entries : IsRearranged p start n.table
   pub weight : IsWeight p old n.table n.weight
   pub no_worse : (first : Weight) → IsWeight p old start first → IsLower s first n.weight → ⊥
+
+-- The line of a weight: its counts, each after its name.
+abbrev pub weight_line : Weight → List Piece
+weight_line w =
+    Text (codes "hard") ∷ Number w.hard ∷ Text (codes "cost") ∷ Number w.cost
+    ∷ Text (codes "moved") ∷ Number w.moved ∷ Text (codes "rooms") ∷ Number w.rooms ∷ []

@@ -3,7 +3,9 @@
 
 mod staying;
 mod weight;
+mod writing;
 
 pub use staying::{Near, improve_near};
 pub use tt_stay_search::{Search, Stay};
 pub use weight::{Weight, weigh};
+pub use writing::write_weight;
