@@ -1,1 +1,1 @@
-mod Rearranging
+pub mod Rearranging

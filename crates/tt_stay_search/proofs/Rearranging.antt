@@ -1,5 +1,5 @@
 -- Laws of timetables whose entries are those of another one.
-use Rattle.std.proofs.Common.{◌≡◌, ℕ, List, map, refl, sym, subst, ◌∙◌}
+use Rattle.std.proofs.Common.{◌≡◌, List, map, refl, sym, subst, ◌∙◌}
 use Rattle.tt_instance.specs.Problem.{Problem}
 use Rattle.tt_instance.specs.declared.cell.Cell.{Cell}
 use Rattle.tt_table.specs.Table.{IsTimetable}
@@ -19,3 +19,7 @@ rearranged_on p q s t u same courses is = record {
   in_range = subst (λ z. IsTimetable z u) (sym same) is.in_range;
   courses = is.courses ∙ sym courses;
 }
+
+-- from a timetable to a second one, and from there to a third
+pub rearranged_then : (p : Problem) (t u v : List Cell) → IsRearranged p t u → IsRearranged p u v → IsRearranged p t v
+rearranged_then p t u v first then = record { in_range = then.in_range; courses = then.courses ∙ first.courses }
