@@ -52,7 +52,7 @@ IN_FOLDER = {
     "best": {"best.sol": "output solution", "partial.sol": "output solution", "page.html": "output page", "groups.proof": "output proof", "prices.proof": "output proof", "tree.proof": "output proof"},
 }
 INPUT_OPTIONS = {"--solution": "solution", "--from": "solution", "--wishes": "wishes", "--proof": "proof"}
-FLAGS = {"--keep", "--complete", "--progress", "--quiet", "--csv", "--no-formulas", "--help", "--version"}
+FLAGS = {"--keep", "--complete", "--drop", "--progress", "--quiet", "--csv", "--no-formulas", "--help", "--version"}
 
 
 def without_older(files):
@@ -126,6 +126,7 @@ FILES = {
     "free": FREE,
     "mini.sol": NEXT_TO_EACH_OTHER,
     "gap.sol": APART,
+    "last.sol": b"z R 0 0\n" + APART,
     "gap.proof": GAP_PROOF,
     "gap.groups": GAP_GROUPS,
     "nothing.proof": b"CTTP 1 bound 0 B ; end",
@@ -166,6 +167,9 @@ COMMANDS = [
     Command("improve mini gap.sol - --steps 100", out=None),
     Command("improve mini gap.sol out --steps 100 --runs 3", out=b"hard 0 cost 1\n", written={"out": None}),
     Command("improve gap empty out --complete --steps 100", out=b"hard 0 cost 5\n", written={"out": None}),
+    Command("improve gap last.sol out --complete --drop --steps 100", out=b"hard 0 cost 5\n", err=b"line 1 left out, no such course: z R 0 0\n", written={"out": None}),
+    Command("improve mini gap.sol out --stay 5 --steps 20", out=b"hard 0 cost 5 moved 0 rooms 0\n", written={"out": APART}),
+    Command("improve mini gap.sol out --stay 1 --steps 20 --runs 2", out=b"hard 0 cost 1 moved 1 rooms 0\n", written={"out": None}),
     Command("improve mini gap.sol out --steps 100 --runs 5 --keep", out=b"hard 0 cost 1\n", written={"out": None}, hurry=HURRY),
     Command("improve mini gap.sol out --steps 1000 --runs 1000 --time 2", out=b"hard 0 cost 1\n", written={"out": None}, hurry=HURRY),
     Command("improve mini gap.sol mini", 2, b"", not_written("solution", "mini", "is a file that the command reads")),
@@ -230,6 +234,9 @@ COMMANDS = [
     Command("solve gap out out.proof --time 0", 2, b"", None),
     Command("solve gap out out.proof --time 1000001", 2, b"", None),
     Command("improve mini gap.sol out --steps x", 2, b"", None),
+    Command("improve mini gap.sol out --drop", 2, b"", None),
+    Command("improve mini gap.sol out --stay 1000001", 2, b"", None),
+    Command("improve mini gap.sol out --stay 5 --keep", 2, b"", None),
 ]
 WRITTEN = ["out", "out.proof", "groups.proof", "rooms.proof", "tree.proof", "best.sol", "page.html"]
 
@@ -364,7 +371,7 @@ class Runs:
             if self.is_own(outcome, files):
                 answers["as without a refusal"] += 1
                 continue
-            assert outcome.told() == OUT_OF_MEMORY, f"growth {growth}: a third answer {outcome.told()}"
+            assert (*outcome.told()[:2], self.after_own(outcome.err)) == OUT_OF_MEMORY, f"growth {growth}: a third answer {outcome.told()}"
             if self.command.keeps():
                 self.check_kept(files, set(), f"growth {growth}")
             else:
@@ -426,20 +433,20 @@ class Runs:
     def check_all_failed(self, outcome, where):
         """Where all calls fail from one on, the answer may be cut off, and the reason may be lost."""
         if outcome.status == 2:
-            assert self.what_is_said(self.after_reason(outcome.err)) or self.own.err.startswith(outcome.err), where
+            assert self.what_is_said(self.after_own(outcome.err)) or self.own.err.startswith(outcome.err), where
         else:
             assert outcome.told()[:2] == self.own.told()[:2], where
 
-    def after_reason(self, err):
-        """What stands on standard error after the reason why there is no timetable."""
-        return err.removeprefix(self.own.err) if self.own.status == 1 else err
+    def after_own(self, err):
+        """What stands on standard error after what the command says there by itself: the reason why there is no timetable, or what is left out."""
+        return err.removeprefix(self.own.err) if self.own.status != 2 else err
 
     def what_is_said(self, err):
         return NOT_READ.fullmatch(err) or NOT_WRITTEN.fullmatch(err) or NOT_PRINTED.fullmatch(err)
 
     def check_refusal(self, refusal, outcome, files, tried, where):
         """A refusal after one failed call."""
-        err = self.after_reason(outcome.err)
+        err = self.after_own(outcome.err)
         own_beginning = self.own.status == 2 and self.own.err.startswith(err)
         said = self.what_is_said(err)
         assert said or own_beginning, where
