@@ -15,21 +15,21 @@ use Rattle.tt_stop.specs.declared.stop.Stop.TheVariants.{Fault}
 use Rattle.tt_sum_laws.proofs.Added.{one_added}
 
 -- two splits of one list: at the same place, or one of them earlier
-splits : {X : Type 0} (as bs : List X) (x y : X) (cs ds : List X) → as ++ x ∷ cs ≡ bs ++ y ∷ ds
-    → ((as ≡ bs) × (x ≡ y)) ⊎ (((ms : List X) × (bs ≡ as ++ x ∷ ms)) ⊎ ((ms : List X) × (as ≡ bs ++ y ∷ ms)))
+splits : {X : Type 0} (ws vs : List X) (x y : X) (cs ds : List X) → ws ++ x ∷ cs ≡ vs ++ y ∷ ds
+    → ((ws ≡ vs) × (x ≡ y)) ⊎ (((ms : List X) × (vs ≡ ws ++ x ∷ ms)) ⊎ ((ms : List X) × (ws ≡ vs ++ y ∷ ms)))
 splits [] [] x y cs ds e = let same : x ≡ y = cc in inl (refl, same)
-splits {X} [] (b ∷ bs) x y cs ds e =
-    let same : x ≡ b = cc in inr (inl (bs, ap (λ (z : X). z ∷ bs) (sym same)))
-splits {X} (a ∷ as) [] x y cs ds e =
-    let same : a ≡ y = cc in inr (inr (as, ap (λ (z : X). z ∷ as) same))
-splits {X} (a ∷ as) (b ∷ bs) x y cs ds e =
+splits {X} [] (b ∷ vs) x y cs ds e =
+    let same : x ≡ b = cc in inr (inl (vs, ap (λ (z : X). z ∷ vs) (sym same)))
+splits {X} (a ∷ ws) [] x y cs ds e =
+    let same : a ≡ y = cc in inr (inr (ws, ap (λ (z : X). z ∷ ws) same))
+splits {X} (a ∷ ws) (b ∷ vs) x y cs ds e =
     let same : a ≡ b = cc in
-    let rest : as ++ x ∷ cs ≡ bs ++ y ∷ ds = cc in
-    elim (splits as bs x y cs ds rest) [
-      | inl here ↦ inl (ap (λ (z : X). z ∷ as) same ∙ ap (λ (l : List X). b ∷ l) here.0, here.1)
+    let rest : ws ++ x ∷ cs ≡ vs ++ y ∷ ds = cc in
+    elim (splits ws vs x y cs ds rest) [
+      | inl here ↦ inl (ap (λ (z : X). z ∷ ws) same ∙ ap (λ (l : List X). b ∷ l) here.0, here.1)
       | inr one ↦ inr (elim one [
-        | inl l ↦ inl (l.0, ap (λ (z : X). z ∷ bs) (sym same) ∙ ap (λ (zs : List X). a ∷ zs) l.1)
-        | inr l ↦ inr (l.0, ap (λ (z : X). z ∷ as) same ∙ ap (λ (zs : List X). b ∷ zs) l.1)
+        | inl l ↦ inl (l.0, ap (λ (z : X). z ∷ vs) (sym same) ∙ ap (λ (zs : List X). a ∷ zs) l.1)
+        | inr l ↦ inr (l.0, ap (λ (z : X). z ∷ ws) same ∙ ap (λ (zs : List X). b ∷ zs) l.1)
       ])
     ]
 
