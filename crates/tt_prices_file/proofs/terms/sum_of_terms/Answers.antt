@@ -1,6 +1,5 @@
 use Rattle.std.proofs.Common.{◌≡◌, ◌+◌, ◌*◌, ◌^◌, ◌<◌, length, sym, ap, subst, ◌∙◌, arith, ◌+ℤ◌, to_z}
 use Rattle.std.specs.Int.{w128}
-use Rattle.std.specs.Prelude.{IfNone}
 use Rattle.std.proofs.lemmas.Int.{ints}
 use Rattle.tt_prices.specs.Limits.{IsWithin}
 use Rattle.tt_prices_day.proofs.Within.{word-of, within-more, within-plus}
@@ -8,7 +7,7 @@ use Rattle.tt_prices_file.specs.Files.{rent_at}
 use Rattle.tt_prices_file.specs.Inner.Terms.{AreTermsBelow}
 use Rattle.tt_prices_file.proofs.Accounted.{sum_is_wide, sum_fits_wide}
 use Rattle.tt_prices_file.proofs.Places.{no_term}
-use Rattle.tt_prices_file.proofs.Termed.{if_some, prices_at, rents_at, prices_within, no_terms, term_more}
+use Rattle.tt_prices_file.proofs.Termed.{if_none, if_some, prices_at, rents_at, prices_within, no_terms, term_more}
 use Rattle.tt_prices_file.proofs.terms.sum_of_terms.Goals as goal
 
 pub loop-course-init : goal.loop-course-init
@@ -78,7 +77,7 @@ returns-in-None-clause-fault c =
     record {
       few = (
         omega (arith, c.loop-course-test.true, c.courses-course-end.ensures.value),
-        subst (λ o. IfNone o _) c.in-None.is c.in_ok-term.ensures.none,
+        if_none _ c.in_ok-term.field-0 c.in-None.is c.in_ok-term.ensures.none,
       );
       first = λ d less few. no_term p scale groups (rent_at p.periods xs) d (before.terms d) few (before.are d less);
     }
