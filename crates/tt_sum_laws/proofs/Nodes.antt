@@ -2,7 +2,7 @@
 use Rattle.std.proofs.Common.{◌≡◌, ℕ, ◌+◌, ◌≤◌, Bool, true, false, not, ◌&&◌, List, [], ◌∷◌, ◌++◌, length, Option, Some, None, refl, sym, ap, ◌∙◌, arith}
 use Rattle.std.specs.List.{list_all}
 use Rattle.std.specs.Option.{option_or}
-use Rattle.std.proofs.lemmas.Bool.{and_from, and_parts}
+use Rattle.std.proofs.lemmas.Bool.{and_from}
 use Rattle.tt_instance.specs.Problem.{Problem}
 use Rattle.tt_instance.specs.Limits.{IsInstance}
 use Rattle.tt_leaf_rules.specs.Claims.{Target}
@@ -16,25 +16,17 @@ use Rattle.tt_proof_sum.specs.Tables.{claims_at}
 use Rattle.tt_proof_sum.specs.declared.claimed.ClaimedTarget.{ClaimedTarget}
 use Rattle.tt_proof_sum.specs.declared.fault.FileFault.{FileFault}
 use Rattle.tt_proof_sum.specs.declared.fault.FileFault.TheVariants.{ClaimedElsewhere, TargetClaimedElsewhere}
+use Rattle.tt_proof_sum.proofs.Owners.{both_all}
 use Rattle.tt_proof_sum.proofs.SpelledOnce.{same_part}
 use Rattle.tt_sum_laws.proofs.Targets.{called_once, first_at, first_at-none, first_of, name_of, who-elsewhere}
 
 -- ---- targets that no part claims
 
-all_both : {X : Type 0} (a b : X → Bool) (xs : List X) → list_all (λ x. a x && b x) xs ≡ true
-    → (list_all a xs ≡ true) × (list_all b xs ≡ true)
-all_both a b [] h = (refl, refl)
-all_both a b (x ∷ xs) h =
-    let both = and_parts (a x && b x) (list_all (λ y. a y && b y) xs) h in
-    let here = and_parts (a x) (b x) both.0 in
-    let later = all_both a b xs both.1 in
-    (and_from (a x) (list_all a xs) here.0 later.0, and_from (b x) (list_all b xs) here.1 later.1)
-
 apart_unclaimed : (parts : List Part) (ys : List Target) → list_all (λ k. are_apart (claims_of k) ys) parts ≡ true
     → list_all (is_unclaimed parts []) ys ≡ true
 apart_unclaimed parts [] h = refl
 apart_unclaimed parts (y ∷ ys) h =
-    let both = all_both (λ k. not (is_among (claims_of k) y)) (λ k. are_apart (claims_of k) ys) parts h in
+    let both = both_all (λ k. not (is_among (claims_of k) y)) (λ k. are_apart (claims_of k) ys) parts h in
     and_from (is_unclaimed parts [] y) (list_all (is_unclaimed parts []) ys) both.0 (apart_unclaimed parts ys both.1)
 
 -- ---- the nodes of a tree
