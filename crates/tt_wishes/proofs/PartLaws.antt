@@ -1,5 +1,5 @@
 -- The parts of a wish: those that are read are spelled, and those that are spelled are read.
-use Rattle.std.proofs.Common.{◌≡◌, ℕ, ◌-◌, ◌<◌, ◌≤◌, Bool, true, false, cond, List, [], ◌∷◌, ◌++◌, length, map, Option, Some, None, Result, Ok, Err, refl, sym, ap, subst, ◌∙◌, append_assoc, arith, codes, inl, inr}
+use Rattle.std.proofs.Common.{◌≡◌, ℕ, ◌-◌, ◌<◌, Bool, true, false, cond, List, [], ◌∷◌, ◌++◌, length, map, Option, Some, None, Result, Ok, Err, refl, sym, ap, subst, ◌∙◌, append_assoc, arith, codes, inl, inr}
 use Rattle.std.specs.Prelude.{◌≢◌, ◌==◌, All, IfSome}
 use Rattle.std.proofs.lemmas.Bool.{both_ways, false_from_ne_true, cases_lt, eqb-false, ne_eqb}
 use Rattle.std.proofs.lemmas.List.{append-nil}
@@ -8,7 +8,7 @@ use Rattle.tt_text.specs.Tokens.{Placed}
 use Rattle.tt_text.specs.Texts.{index_of_name, is_text}
 use Rattle.tt_text.specs.Numbers.{is_number_text, number_of}
 use Rattle.tt_text.specs.Reading.{◌>>=◌}
-use Rattle.tt_text.specs.Pieces.{Piece, Text, Number, IsPiece, Begins}
+use Rattle.tt_text.specs.Pieces.{Piece, Text, IsPiece, Begins}
 use Rattle.tt_text.specs.declared.numbers.NumberFault.{NumberFault}
 use Rattle.tt_text.specs.declared.numbers.NumberFault.TheVariants as number
 use Rattle.tt_text.proofs.Steps.{done, ok_is, bind_ok, refusal_ok, Takes, takes_then}
@@ -18,7 +18,7 @@ use Rattle.tt_instance.specs.Courses.{no_course, no_room, course_ids, room_ids}
 use Rattle.tt_instance.specs.Limits.{IsWithinLimits}
 use Rattle.tt_instance.specs.Spelling.{named}
 use Rattle.tt_instance.proofs.FreshLaws.{found_is, index_is}
-use Rattle.tt_wishes.specs.Reading.{word_at, found, below, is_free, room_of, free_room_of, free_index_of, course_at, place_at, rooms_after, some_of, nothing_at}
+use Rattle.tt_wishes.specs.Reading.{word_at, found, below, room_of, free_room_of, free_index_of, course_at, place_at, rooms_after, some_of, nothing_at}
 use Rattle.tt_wishes.specs.Spelling.{room_name, room_piece, index_piece, place_pieces, IsPlace}
 use Rattle.tt_wishes.specs.declared.fault.WishesFault.{WishesFault}
 use Rattle.tt_wishes.specs.declared.fault.WishesFault.TheVariants as fault

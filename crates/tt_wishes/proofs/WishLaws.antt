@@ -1,10 +1,9 @@
 -- A wish: one that is read is spelled, and one that is spelled is read.
-use Rattle.std.proofs.Common.{◌≡◌, ℕ, ◌<◌, Bool, true, false, cond, List, [], ◌∷◌, ◌++◌, length, Result, Ok, Err, refl, sym, ap, subst, ◌∙◌, codes}
+use Rattle.std.proofs.Common.{◌≡◌, ℕ, ◌<◌, Bool, true, false, cond, List, [], ◌∷◌, length, Ok, Err, refl, sym, ap, subst, ◌∙◌, codes}
 use Rattle.std.specs.Prelude.{All}
 use Rattle.tt_text.specs.Tokens.{Placed}
 use Rattle.tt_text.specs.Texts.{is_text}
-use Rattle.tt_text.specs.Reading.{◌>>=◌}
-use Rattle.tt_text.specs.Pieces.{Piece, Begins}
+use Rattle.tt_text.specs.Pieces.{Begins}
 use Rattle.tt_text.proofs.Steps.{ok_is, bind_ok, Takes, takes_then}
 use Rattle.tt_text.proofs.Fields.{text_is}
 use Rattle.tt_instance.specs.Problem.{Problem}

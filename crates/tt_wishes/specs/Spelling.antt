@@ -1,5 +1,5 @@
 -- Which wishes the bytes of a file spell.
-use Rattle.std.specs.Prelude.{◌≡◌, ◌≢◌, ℕ, ◌<◌, ◌≤◌, Bool, true, false, List, [], ◌∷◌, length, map, filter, slice_index_or, Option, Some, None, IfSome, All, codes}
+use Rattle.std.specs.Prelude.{◌≢◌, ℕ, ◌<◌, ◌≤◌, Bool, true, false, List, [], ◌∷◌, length, map, filter, slice_index_or, Option, Some, None, IfSome, All, codes}
 use Rattle.std.specs.List.{AllZip}
 use Rattle.tt_text.specs.Tokens.{Placed}
 use Rattle.tt_text.specs.Pieces.{Piece, Text, Number, Begins}

@@ -1,8 +1,8 @@
 -- No timetable that breaks no hard rule keeps two wishes that clash.
-use Rattle.std.proofs.Common.{◌≡◌, ℕ, ◌+◌, ◌<◌, ◌≤◌, true, false, cond, Bool, not, ◌&&◌, ◌||◌, List, [], ◌∷◌, length, take, get_or, Option, Some, None, refl, sym, ap, subst, ◌∙◌, arith, eqb-true, eq-eqb, inl, inr}
-use Rattle.std.specs.Prelude.{◌==◌, All, Contains, count_by, position}
-use Rattle.std.specs.List.{list_any, list_all, position_from}
-use Rattle.std.proofs.lemmas.Bool.{both_ways, and_parts, and_from, or_cases, not-true, not_from_false, not_from_true, cases_lt}
+use Rattle.std.proofs.Common.{◌≡◌, ℕ, ◌+◌, ◌<◌, true, false, cond, Bool, not, ◌&&◌, ◌||◌, List, [], ◌∷◌, length, take, get_or, Option, Some, None, refl, sym, subst, ◌∙◌, arith, eqb-true, eq-eqb, inl, inr}
+use Rattle.std.specs.Prelude.{◌==◌, Contains, position}
+use Rattle.std.specs.List.{list_any, position_from}
+use Rattle.std.proofs.lemmas.Bool.{both_ways, and_parts, and_from, or_cases, not-true, not_from_false, cases_lt}
 use Rattle.std.proofs.lemmas.Iterator.Adapters.{position_from-zero}
 use Rattle.std.proofs.lemmas.List.{get_or_default}
 use Rattle.std.proofs.lemmas.List.Folds.{list_any_more}
@@ -17,7 +17,6 @@ use Rattle.tt_instance.specs.Courses.{conflict}
 use Rattle.tt_instance.specs.declared.cell.Cell.{Cell}
 use Rattle.tt_rules.specs.Score.{IsFeasible}
 use Rattle.tt_path.specs.Facts.{agrees}
-use Rattle.tt_path.specs.Live.{clash}
 use Rattle.tt_leaf_rules.proofs.Clash.{no_clash}
 use Rattle.tt_wishes.specs.Wishes.{is_there, is_held, is_only_in, is_empty, is_kept, broken_wishes}
 use Rattle.tt_wishes.specs.declared.wish.Place.{Place}
