@@ -6,8 +6,9 @@ use tt_instance::Instance;
 use tt_instance_read::read_instance;
 use tt_path::{Fact, Pattern, Who};
 use tt_table::read_solution;
-use tt_testing_samples::{TOUR, repeated};
+use tt_testing_samples::{MINI, TOUR, repeated};
 use tt_wishes::{MAX_WISHES, WishesFault, broken_wishes, list_facts, read_wishes};
+use tt_wishes_clash::{Clash, find_clash};
 
 /// The lectures of Tour: two in its first room and one in its second.
 const SOLUTION: &str = "x A 0 0\nx B 1 0\nx A 2 0\n";
@@ -100,5 +101,23 @@ fn facts_of_wishes(rt: HostRuntime) -> Result<(), Fail> {
         fact_in_second_room(Some(2), true),
     ];
     assert_eq!(rt; facts.as_slice(), wanted.as_slice());
+    Ok(())
+}
+
+#[test]
+fn wishes_that_clash_are_found(rt: HostRuntime) -> Result<(), Fail> {
+    for (instance, wishes, clash) in [
+        (TOUR, "hold x A 0 0\nroom x A\nclosed B * *", None),
+        (TOUR, "hold x A * 0\nclosed A 0 *", None),
+        (TOUR, "room x B\nhold x A 0 0", Some((1, 0))),
+        (TOUR, "room x A\nhold x A 0 0\nclosed * 0 *", Some((1, 2))),
+        (MINI, "hold a R 0 0\nhold b R 0 1", None),
+        (MINI, "hold a R 0 0\nhold b * 0 0", Some((0, 1))),
+    ] {
+        let instance = read_instance(rt.alloc(), instance.as_bytes())?;
+        let read = read_wishes(rt.alloc(), &instance, wishes.as_bytes())?;
+        let wanted = clash.map(|(first, second)| Clash { first, second });
+        assert_eq!(rt; find_clash(&instance, &read), wanted, "of {wishes}");
+    }
     Ok(())
 }
