@@ -1,1 +1,1 @@
-mod Weighing
+mod Prices
