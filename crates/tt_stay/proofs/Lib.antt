@@ -1,1 +1,1 @@
-mod Prices
+mod Weighing

@@ -23,7 +23,7 @@ pub struct Weight {
 }
 
 /// Returns the price of this many lectures.
-#[tactic(auto, using(crate::proofs::Prices::price_small))]
+#[tactic(auto, using(crate::proofs::Weighing::price_small))]
 fn price(count: u64, each: u32) -> u128
     ensures value { result ≡ each * count }
     ensures within { result < 2 ^ 96 }
