@@ -24,13 +24,7 @@ pub struct Place {
 }
 
 /// Returns the number of entries with which a lecture of a course would conflict in a period.
-fn clashes_in(
-    instance: &Instance<'_>,
-    tables: &Tables,
-    course: u32,
-    day: u32,
-    period: u32,
-) -> u32
+fn clashes_in(instance: &Instance<'_>, tables: &Tables, course: u32, day: u32, period: u32) -> u32
     requires course { course < length instance.now.courses }
     requires day { day < instance.now.days }
     requires period { period < instance.now.periods }
@@ -149,9 +143,14 @@ pub fn best_entry(instance: &Instance<'_>, tables: &Tables, course: u32) -> Entr
     // Brings the instance's limits into the proof.
     prove!(instance.days() > 0 && instance.periods() > 0);
     match best_place(instance, tables, course) {
-        Some(Place {
-            room, day, period, ..
-        }) => Entry {
+        Some(
+            Place {
+                room,
+                day,
+                period,
+                ..
+            },
+        ) => Entry {
             course,
             room,
             day,
