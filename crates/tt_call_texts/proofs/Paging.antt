@@ -28,8 +28,9 @@ use Rattle.tt_proof_sum.specs.declared.fault.FileFault.{FileFault}
 use Rattle.tt_proof_sum.specs.declared.fault.SumStop.{SumStop}
 use Rattle.tt_call_answers.specs.FaultMaps.{fault_from_labels, fault_from_page, fault_at_file, fault_from_sum}
 use Rattle.tt_call_answers.specs.Refusals.{IsUnwritten}
-use Rattle.tt_call_texts.specs.Paged.{labels_for, IsNotPut, IsPageRefusal, IsProvedPageRefusal}
-use Rattle.tt_call_texts.specs.declared.calls.page.PageNames.{PageNames}
+use Rattle.tt_call_names.specs.Names.{labels_for}
+use Rattle.tt_call_names.specs.declared.names.PageNames.{PageNames}
+use Rattle.tt_call_texts.specs.Paged.{IsNotPut, IsPageRefusal, IsProvedPageRefusal}
 use Rattle.tt_call_answers.specs.declared.fault.AppFault.{AppFault}
 use Rattle.tt_call_answers.specs.declared.fault.AppFault.TheVariants as fault
 use Rattle.tt_instance_read.proofs.Laws.{spelled_once}
@@ -50,20 +51,6 @@ page_unwritten old new page.OutOfMemory large memory is = memory refl
 -- being out of memory says nothing of the size
 pub memory_not_put : (f : AppFault) (text : List ℕ) → f ≡ fault.OutOfMemory → IsNotPut f text
 memory_not_put f text e = rw e tt
-
--- if the names fit the instance that the bytes spell, they are refused only for being out of memory
-pub names_memory : (i : List ℕ) (p read : Problem) (names : PageNames) (l : Labelled) (f : LabelsFault) → Spells i p → Spells i read
-    → labels_for p names ≡ Ok l → FailsUnless is_environmental f (labels_for read names)
-    → fault_from_labels f ≡ fault.OutOfMemory
-names_memory i p read names l labels.Days spells found named h =
-    let here : labels_for read names ≡ Ok l = subst (λ (q : Problem). labels_for q names ≡ Ok l)
-    (spelled_once i p read spells found) named in
-    absurd cc
-names_memory i p read names l labels.Periods spells found named h =
-    let here : labels_for read names ≡ Ok l = subst (λ (q : Problem). labels_for q names ≡ Ok l)
-    (spelled_once i p read spells found) named in
-    absurd cc
-names_memory i p read names l labels.OutOfMemory spells found named h = refl
 
 module _ (i s : List ℕ) (p : Problem) (t : List Cell) (names : PageNames) (spelled : Spells i p) (solved : SpellsTable p s t) where
   both : SpellsBoth i s p t

@@ -1,7 +1,6 @@
 -- The bytes that `page` and `proved_page` write for the bytes of an instance, of a solution and of proofs.
-use Rattle.std.specs.Prelude.{◌≡◌, ◌⊎◌, ℕ, List, Option, Result, Ok, Err, ⊤}
+use Rattle.std.specs.Prelude.{◌≡◌, ◌⊎◌, ℕ, List, Option, Ok, Err, ⊤}
 use Rattle.std.specs.Io.KnownBytes.{Appends}
-use Rattle.std.specs.Option.{option_copied}
 use Rattle.tt_instance.specs.Problem.{Problem}
 use Rattle.tt_instance_read.specs.Reading.{instance_of}
 use Rattle.tt_instance.specs.declared.cell.Cell.{Cell}
@@ -12,7 +11,6 @@ use Rattle.tt_page.specs.declared.proved.Proved.{Proved}
 use Rattle.tt_page.specs.declared.proved.Proved.TheVariants.{Unproved}
 use Rattle.tt_page_reason.specs.Explained.{IsProvedBy}
 use Rattle.tt_page_text.specs.Labelled.{Labelled}
-use Rattle.tt_page_text.specs.Labels.{labels_of}
 use Rattle.tt_page_text.specs.Puts.{IsTooLarge}
 use Rattle.tt_page_text.specs.declared.fault.LabelsFault.{LabelsFault}
 use Rattle.tt_page_text.specs.declared.fault.LabelsFault.TheVariants as labels
@@ -26,15 +24,12 @@ use Rattle.tt_proof_sum.specs.declared.fault.FileFault.{FileFault}
 use Rattle.tt_text.specs.Sinks.{TakesPart}
 use Rattle.tt_table.specs.Spelling.{SpellsBoth}
 use Rattle.tt_call_answers.specs.Refusals.{IsSilentRefusal}
-use Rattle.tt_call_texts.specs.declared.calls.page.PageNames.{PageNames}
+use Rattle.tt_call_names.specs.Names.{labels_for}
+use Rattle.tt_call_names.specs.declared.names.PageNames.{PageNames}
 use Rattle.tt_call_answers.specs.declared.fault.AppFault.{AppFault}
 use Rattle.tt_call_answers.specs.declared.fault.AppFault.TheVariants as fault
 
 -- ---- names
-
--- the labels that the names spell for the instance's days and periods, or why they don't fit
-abbrev pub labels_for : Problem → PageNames → Result Labelled LabelsFault
-labels_for p names = labels_of p.days p.periods (option_copied names.days) (option_copied names.periods)
 
 -- the files are spelled, but the names do not fit
 pub record FailsNames (instance solution : List ℕ) (names : PageNames) (f : LabelsFault) : Type 0 where

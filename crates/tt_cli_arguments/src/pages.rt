@@ -26,14 +26,16 @@ pub struct PageRequest<'a> {
     pub showing: Showing,
 }
 
-const DAYS: Argument<'static> = Argument {
+/// The option of the names of the days.
+pub const DAYS: Argument<'static> = Argument {
     id: "days",
     form: Form::Value("NAMES"),
     help: "The names of the days, as Mon,Tue,Wed,Thu,Fri; else Day 1, Day 2 and so on",
     condition: None,
 };
 
-const PERIODS: Argument<'static> = Argument {
+/// The option of the names of the periods of a day.
+pub const PERIODS: Argument<'static> = Argument {
     id: "periods",
     form: Form::Value("NAMES"),
     help: "The names of the periods of a day, as 8:00,9:00; else numbers from 1",
@@ -58,16 +60,21 @@ pub const PAGE: Description<'static> = Description {
     ],
 };
 
+/// Returns the names given for a page.
+pub fn names_of<'a>(found: &ArgMatches<'a>) -> NamesWish<'a> {
+    NamesWish {
+        days: found.get_str("days"),
+        periods: found.get_str("periods"),
+    }
+}
+
 /// Returns the options given for `page`, with its proofs.
 fn page_with<'a>(found: &ArgMatches<'a>, proofs: Vec<&'a str>) -> Option<Request<'a>> {
     Some(Request::Page(PageRequest {
         instance: found.get_str("INSTANCE")?,
         solution: found.get_str("SOLUTION")?,
         out: found.get_str("OUT")?,
-        names: NamesWish {
-            days: found.get_str("days"),
-            periods: found.get_str("periods"),
-        },
+        names: names_of(found),
         proofs,
         showing: showing_of(found),
     }))

@@ -3,18 +3,12 @@
 use crate::writers::StoppingOnce;
 use std::alloc::Global;
 use std::test::Fail;
-use tt_app::{AppFault, PageNames, page};
+use tt_app::{AppFault, UNNAMED, page};
 use tt_page::{MAX_PAGE_BYTES, PageText, put_shown};
 use tt_testing_files::{MemoryFiles, Refusal};
 use tt_testing_runs::{Outcome, run_on};
 use tt_testing_samples::{GAP, GAP_PROOF, MINI, MINI_SOLUTION, edited};
 use tt_text::{Sink, Writing};
-
-/// No names.
-const UNNAMED: PageNames<'static> = PageNames {
-    days: None,
-    periods: None,
-};
 
 /// Both courses of Mini in one period, and one of them again in another.
 const BROKEN: &str = "a R 0 0 b R 0 0 a R 0 2";

@@ -11,50 +11,28 @@ ghost use Rattle.tt_page.specs.declared.proved.Proved.{Proved};
 ghost use Rattle.tt_page.specs.declared.proved.Proved.TheVariants.{Unproved};
 ghost use Rattle.tt_page_reason.specs.Explained.{IsProvedBy};
 ghost use Rattle.tt_page_text.specs.Labelled.{Labelled};
-ghost use Rattle.tt_page_text.specs.Labels.{Gives};
 ghost use Rattle.tt_text.specs.Failures.{is_err_and};
 ghost use Rattle.tt_proof_sum.specs.Added.{Give};
 ghost use Rattle.tt_proof_sum.specs.Faults.{all_points};
 ghost use Rattle.tt_proof_sum.specs.Sums.{IsSum};
 ghost use Rattle.tt_table.specs.Spelling.{SpellsBoth};
 ghost use Rattle.tt_call_answers.specs.FaultMaps.{HoldsNoStop};
-ghost use Rattle.tt_call_texts.specs.Paged.{labels_for, IsBeforeProofs, IsNotPut, IsPaged, IsPageRefusal, IsProvedPaged, IsProvedPageRefusal, IsSilentOrNotPut};
+ghost use Rattle.tt_call_names.specs.Names.{labels_for};
+ghost use Rattle.tt_call_texts.specs.Paged.{IsBeforeProofs, IsNotPut, IsPaged, IsPageRefusal, IsProvedPaged, IsProvedPageRefusal, IsSilentOrNotPut};
 ghost use Rattle.tt_call_answers.specs.Refusals.{IsUnwritten, is_failed_write};
 ghost use Rattle.tt_call_answers.specs.Sums.{IsSpelledAndFileCheckedUpToFailedRead};
 ghost use Rattle.tt_call_answers.specs.Refusals.{is_failed_read_at};
 
 use std::alloc::Global;
 use tt_call_answers::AppFault;
-use tt_instance::Instance;
+use tt_call_names::{PageNames, labels_for};
 use tt_instance_read::read_instance;
 use tt_page::Proved;
 use tt_page_reason::explain_bound;
-use tt_page_text::{Labels, LabelsFault};
 use tt_proof_sum::sum_proofs;
 use tt_table::read_solution;
 use tt_text::Sink;
 use tt_text_peek::Peek;
-
-/// The names of the days and of the periods of a page; days or periods without names are numbered from 1.
-#[derive(Clone, Copy, Debug)]
-pub struct PageNames<'a> {
-    /// The names of the days, as Mon,Tue,Wed.
-    pub days: Option<&'a str>,
-    /// The names of the periods of a day, as 8:00,9:00.
-    pub periods: Option<&'a str>,
-}
-
-/// Returns the labels that names spell for an instance's days and periods.
-fn labels_for(
-    alloc: Global,
-    instance: &Instance<'_>,
-    names: PageNames<'_>,
-) -> Result<Labels, LabelsFault>
-    ensures { Gives (λ labels. labels) result (labels_for instance.now names.entry) }
-{
-    let PageNames { days, periods } = names;
-    Labels::read(alloc, instance.days(), instance.periods(), days, periods)
-}
 
 /// Writes the page of a solution's week, with names and a style; the status is 0.
 pub fn page<W: Sink>(

@@ -5,7 +5,8 @@ use std::alloc::Global;
 use std::cell::{Cell, RefCell};
 use std::io::{Error, ErrorKind, Write};
 use tt_call_answers::AppFault;
-use tt_call_texts::{PageNames, page, proved_page};
+use tt_call_names::PageNames;
+use tt_call_texts::{page, proved_page};
 use tt_cli_arguments::PageRequest;
 use tt_cli_files::{Batch, Draft, Label, OutputFault, Place, Ready, Role, StandardStream, finish};
 use tt_cli_saving::{
