@@ -9,4 +9,4 @@ pub use tt_call_searches::{
     BestAnswer, BestSearch, Effort, ImproveSearch, PartsAnswer, TreeEffort, WatchBest, best,
     improve, parts, solve,
 };
-pub use tt_call_texts::{WeekTimes, calendar, inspect, page, proved_page, report, table};
+pub use tt_call_texts::{PageWish, WeekTimes, calendar, inspect, page, proved_page, report, table};

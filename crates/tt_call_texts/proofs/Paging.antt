@@ -8,14 +8,15 @@ use Rattle.tt_instance.specs.declared.cell.Cell.{Cell}
 use Rattle.tt_table.specs.Spelling.{SpellsBoth, SpellsTable}
 use Rattle.tt_leaf.specs.declared.leaf.Bound.{Bound}
 use Rattle.tt_page.specs.Faults.{ExplainsSize}
+use Rattle.tt_page.specs.Limits.{IsWithinLimit}
 use Rattle.tt_page.specs.Pages.{page_text}
 use Rattle.tt_page.specs.declared.proved.Proved.{Proved}
-use Rattle.tt_page.specs.declared.proved.Proved.TheVariants.{Unproved}
 use Rattle.tt_page.specs.declared.fault.PageFault.{PageFault}
 use Rattle.tt_page.specs.declared.fault.PageFault.TheVariants as page
 use Rattle.tt_page_reason.specs.Explained.{IsProvedBy}
 use Rattle.tt_page_text.specs.Labelled.{Labelled}
 use Rattle.tt_page_text.specs.Labels.{is_environmental}
+use Rattle.tt_page_text.specs.Puts.{IsTooLarge}
 use Rattle.tt_page_text.specs.declared.fault.LabelsFault.{LabelsFault}
 use Rattle.tt_page_text.specs.declared.fault.LabelsFault.TheVariants as labels
 use Rattle.tt_proof_check.specs.Derives.{HoldsOfAll}
@@ -30,7 +31,8 @@ use Rattle.tt_call_answers.specs.FaultMaps.{fault_from_labels, fault_from_page, 
 use Rattle.tt_call_answers.specs.Refusals.{IsUnwritten}
 use Rattle.tt_call_names.specs.Names.{labels_for}
 use Rattle.tt_call_names.specs.declared.names.PageNames.{PageNames}
-use Rattle.tt_call_texts.specs.Paged.{IsNotPut, IsPageRefusal, IsProvedPageRefusal}
+use Rattle.tt_call_texts.specs.Paged.{IsNotPut, IsPageRefusal, IsProvedPageRefusal, wished_text}
+use Rattle.tt_call_texts.specs.declared.calls.page.PageWish.{PageWish}
 use Rattle.tt_call_answers.specs.declared.fault.AppFault.{AppFault}
 use Rattle.tt_call_answers.specs.declared.fault.AppFault.TheVariants as fault
 use Rattle.tt_instance_read.proofs.Laws.{spelled_once}
@@ -57,12 +59,6 @@ module _ (i s : List ℕ) (p : Problem) (t : List Cell) (names : PageNames) (spe
   both = record { spelled = spelled; solved = solved }
 
   -- an error of the names is reported
-  pub names_tell : (style : List ℕ) (before after : Option (List ℕ)) (f : LabelsFault)
-      → FailsUnless is_environmental f (labels_for p names) → IsPageRefusal i s names style before after (fault_from_labels f)
-  names_tell style before after labels.Days h = record { problem = p; table = t; both = both; fails = h }
-  names_tell style before after labels.Periods h = record { problem = p; table = t; both = both; fails = h }
-  names_tell style before after labels.OutOfMemory h = tt
-
   pub names_tell_proved : (style : List ℕ) (gives : List (List ℕ) → Type 0) (before after : Option (List ℕ)) (f : LabelsFault)
       → FailsUnless is_environmental f (labels_for p names)
       → IsProvedPageRefusal i s names style gives before after (fault_from_labels f)
@@ -84,15 +80,6 @@ module _ (i s : List ℕ) (p : Problem) (t : List Cell) (names : PageNames) (spe
       on n OutOfMemory h = tt
 
   -- an error of the page's output is reported
-  pub plain_page_tells : (style : List ℕ) (l : Labelled) (before after : Option (List ℕ)) (f : PageFault) → labels_for p names ≡ Ok l
-      → (f ≡ page.Write → TakesPart before after (page_text p t l Unproved style)) → ExplainsSize f (page_text p t l Unproved style)
-      → IsPageRefusal i s names style before after (fault_from_page f)
-  plain_page_tells style l before after page.Write named part size =
-      record { problem = p; table = t; labels = l; both = both; named = named; within = size; part = part refl }
-  plain_page_tells style l before after page.TooLarge named part size =
-      record { problem = p; table = t; labels = l; both = both; named = named; large = size }
-  plain_page_tells style l before after page.OutOfMemory named part size = tt
-
   pub page_tells : (style : List ℕ) (l : Labelled) (b : Bound) (shown : Proved) (gives : List (List ℕ) → Type 0)
       (before after : Option (List ℕ)) (f : PageFault) → labels_for p names ≡ Ok l
       → ((proofs : List (List ℕ)) → gives proofs → IsSum p proofs b) → HoldsOfAll p b → IsProvedBy p b shown
@@ -116,11 +103,45 @@ module _ (i s : List ℕ) (p : Problem) (t : List Cell) (names : PageNames) (spe
   }
   page_tells style l b shown gives before after page.OutOfMemory named sum holds by part size = tt
 
--- the page of the instance and the timetable that were read is that of those that the bytes spell
-pub page_same : (i s : List ℕ) (p read : Problem) (t found : List Cell) (names : PageNames) (l m : Labelled) (a c : Proved)
-    (style : List ℕ) → SpellsBoth i s p t → Spells i read → SpellsTable read s found
-    → labels_for p names ≡ Ok l → labels_for read names ≡ Ok m → c ≡ a → page_text read found m c style ≡ page_text p t l a style
-page_same i s p read t found names l m a c style both spells solved named given e =
+module _ (i s : List ℕ) (p : Problem) (t : List Cell) (wish : PageWish) (spelled : Spells i p) (solved : SpellsTable p s t) where
+  -- an error of the names of a page that shows no bound is reported
+  pub names_tell : (style : List ℕ) (before after : Option (List ℕ)) (f : LabelsFault)
+      → FailsUnless is_environmental f (labels_for p wish.names) → IsPageRefusal i s wish style before after (fault_from_labels f)
+  names_tell style before after labels.Days h =
+      record { problem = p; table = t; both = record { spelled = spelled; solved = solved }; fails = h }
+  names_tell style before after labels.Periods h =
+      record { problem = p; table = t; both = record { spelled = spelled; solved = solved }; fails = h }
+  names_tell style before after labels.OutOfMemory h = tt
+
+  -- an error of its output is reported
+  pub plain_page_tells : (style : List ℕ) (l : Labelled) (before after : Option (List ℕ)) (f : PageFault) (text : List ℕ)
+      → labels_for p wish.names ≡ Ok l → text ≡ wished_text wish.sheet style p t l
+      → (f ≡ page.Write → TakesPart before after text) → ExplainsSize f text
+      → IsPageRefusal i s wish style before after (fault_from_page f)
+  plain_page_tells style l before after page.Write text named is part size = record {
+    problem = p;
+    table = t;
+    labels = l;
+    both = record { spelled = spelled; solved = solved };
+    named = named;
+    within = subst IsWithinLimit is size;
+    part = subst (λ (x : List ℕ). TakesPart before after x) is (part refl);
+  }
+  plain_page_tells style l before after page.TooLarge text named is part size = record {
+    problem = p;
+    table = t;
+    labels = l;
+    both = record { spelled = spelled; solved = solved };
+    named = named;
+    large = subst IsTooLarge is size;
+  }
+  plain_page_tells style l before after page.OutOfMemory text named is part size = tt
+
+-- a text of the instance and the timetable that were read is that of those that the bytes spell
+pub page_same : (i s : List ℕ) (p read : Problem) (t found : List Cell) (names : PageNames) (l m : Labelled)
+    (text : Problem → List Cell → Labelled → List ℕ) → SpellsBoth i s p t → Spells i read → SpellsTable read s found
+    → labels_for p names ≡ Ok l → labels_for read names ≡ Ok m → text read found m ≡ text p t l
+page_same i s p read t found names l m text both spells solved named given =
     let same : read ≡ p = spelled_once i read p spells both.spelled in
     let here : SpellsTable p s found = subst (λ (q : Problem). SpellsTable q s found) same solved in
     let table : found ≡ t = one_table s i p found t both.spelled here both.solved in

@@ -1,18 +1,29 @@
 //! The command `page`.
 
 use crate::arguments::Request;
-use crate::description::{Argument, Description, Form};
+use crate::description::{Argument, Condition, Description, Form};
 use crate::files::{INSTANCE, OUT, SOLUTION};
 use crate::showing::{PROGRESS, QUIET, Showing, showing_of};
 use crate::sums::words_of;
 use clap::ArgMatches;
 use std::alloc::{AllocError, Global};
+use tt_report::By;
 
 /// The names of the days and of the periods of a page, as they are given; days or periods without names show their numbers.
 #[derive(Clone, Copy, Debug)]
 pub struct NamesWish<'a> {
     pub days: Option<&'a str>,
     pub periods: Option<&'a str>,
+}
+
+/// The weeks of a page that shows no more than them.
+#[derive(Clone, Copy, Debug)]
+pub enum WeeksWish<'a> {
+    /// Those of all rooms, of all teachers or of all curricula.
+    Section(By),
+    Days,
+    /// Those of the room, the teacher and the curriculum of this name.
+    Named(&'a str),
 }
 
 /// The files and options of `page`.
@@ -22,6 +33,8 @@ pub struct PageRequest<'a> {
     pub solution: &'a str,
     pub out: &'a str,
     pub names: NamesWish<'a>,
+    /// The weeks that are shown; if none are given, everything is.
+    pub weeks: Option<WeeksWish<'a>>,
     pub proofs: Vec<&'a str>,
     pub showing: Showing,
 }
@@ -42,6 +55,25 @@ pub const PERIODS: Argument<'static> = Argument {
     condition: None,
 };
 
+/// The words for the parts of a page that may be shown alone.
+const PART_WORDS: [&'static str; 4] = ["rooms", "teachers", "curricula", "days"];
+
+/// The option that leaves out all but one part.
+const ONLY: Argument<'static> = Argument {
+    id: "only",
+    form: Form::Choice("PART", &PART_WORDS),
+    help: "Shows these weeks and no more, without counts and links",
+    condition: Some(Condition::ConflictsWith(&["week", "proof"])),
+};
+
+/// The option that leaves out all but the weeks of one name.
+const WEEK: Argument<'static> = Argument {
+    id: "week",
+    form: Form::Value("NAME"),
+    help: "Shows the week of the room, teacher or curriculum of this name and no more, as a sheet to hand out",
+    condition: Some(Condition::ConflictsWith(&["only", "proof"])),
+};
+
 /// The option of the proofs whose bound is shown; it may be given more than once.
 const PROOFS: Argument<'static> = Argument {
     id: "proof",
@@ -56,7 +88,7 @@ pub const PAGE: Description<'static> = Description {
     about: "Writes a page of HTML that shows the weeks of a solution, and what it costs where",
     example: "Example: tt page week.ctt week.sol week.html --days Mon,Tue,Wed,Thu,Fri --proof groups.proof --proof rooms.proof",
     arguments: &[
-        INSTANCE, SOLUTION, OUT, DAYS, PERIODS, PROOFS, PROGRESS, QUIET,
+        INSTANCE, SOLUTION, OUT, DAYS, PERIODS, ONLY, WEEK, PROOFS, PROGRESS, QUIET,
     ],
 };
 
@@ -68,6 +100,29 @@ pub fn names_of<'a>(found: &ArgMatches<'a>) -> NamesWish<'a> {
     }
 }
 
+/// Returns the part of a page that a word names.
+fn part_of(word: &str) -> Option<WeeksWish<'static>> {
+    if word == "rooms" {
+        Some(WeeksWish::Section(By::Room))
+    } else if word == "teachers" {
+        Some(WeeksWish::Section(By::Teacher))
+    } else if word == "curricula" {
+        Some(WeeksWish::Section(By::Curriculum))
+    } else if word == "days" {
+        Some(WeeksWish::Days)
+    } else {
+        None
+    }
+}
+
+/// Returns the weeks given for a page.
+fn weeks_of<'a>(found: &ArgMatches<'a>) -> Option<WeeksWish<'a>> {
+    if let Some(name) = found.get_str("week") {
+        return Some(WeeksWish::Named(name));
+    }
+    part_of(found.get_str("only")?)
+}
+
 /// Returns the options given for `page`, with its proofs.
 fn page_with<'a>(found: &ArgMatches<'a>, proofs: Vec<&'a str>) -> Option<Request<'a>> {
     Some(Request::Page(PageRequest {
@@ -75,6 +130,7 @@ fn page_with<'a>(found: &ArgMatches<'a>, proofs: Vec<&'a str>) -> Option<Request
         solution: found.get_str("SOLUTION")?,
         out: found.get_str("OUT")?,
         names: names_of(found),
+        weeks: weeks_of(found),
         proofs,
         showing: showing_of(found),
     }))

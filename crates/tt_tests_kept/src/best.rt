@@ -76,7 +76,10 @@ fn a_page_with_names(rt: HostRuntime) -> Result<(), Fail> {
     let page = run_named(rt.alloc(), &words, &memory)?;
     assert_eq!(rt; page.status, 0);
     let best = memory.text("found/page.html")?;
-    assert!(rt; best.as_deref().is_some_and(|text| text.contains("Mon, 9:00")));
+    assert!(rt;
+        best.as_deref()
+            .is_some_and(|text| text.contains("Mon, 9:00"))
+    );
     assert_eq!(rt; best, memory.text("a.html")?);
     Ok(())
 }

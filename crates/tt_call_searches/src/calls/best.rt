@@ -28,9 +28,9 @@ use tt_call_names::{PageNames, labels_for};
 use tt_instance::Instance;
 use tt_instance_read::read_instance;
 use tt_leaf::Bound;
-use tt_page::Proved;
+use tt_page::{Look, Proved};
 use tt_page_reason::explain_bound;
-use tt_page_text::{Labels, TextFault};
+use tt_page_text::TextFault;
 use tt_parts::{Parts, copy_texts};
 use tt_rules::score;
 use tt_table::{Entry, Timetable, write_solution};
@@ -86,22 +86,6 @@ impl WatchBest for Unwatched {
     }
 
     fn keep(&mut self, _answer: &BestAnswer) {}
-}
-
-/// How a page looks.
-struct Look<'a> {
-    /// The names of its days and periods.
-    labels: &'a Labels,
-    style: &'a str,
-}
-
-impl<'a> Drop for Look<'a> {
-    fn drop(self) {
-        let Look {
-            labels: _,
-            style: _,
-        } = self;
-    }
 }
 
 /// Gives the results on the way to a watch as answers.
@@ -199,7 +183,7 @@ fn page_of(
     requires proved { IsProvedOf instance.now proved.now }
     ensures { IfOk result (λ page. ShowsPage page (page_text instance.now table.now look.now.labels.now proved.now look.now.style.now)) }
 {
-    match tt_page::text_of(alloc, instance, table, look.labels, proved, look.style) {
+    match tt_page::text_of(alloc, instance, table, proved, look) {
         Ok(text) => Ok(Some(text)),
         Err(TextFault::TooLarge) => Ok(None),
         Err(TextFault::OutOfMemory) => Err(AllocError),

@@ -26,5 +26,5 @@ returns-then-feasible-clause-costs c =
     IfOk-weaker c.found_answer.result
     (λ a. (i : List ℕ) (names : PageNames) → Spells i p → labels_for p names ≡ Ok look.labels.now → CostsAtMost i names style c.cost.result a)
     (λ a. (i : List ℕ) (names : PageNames) → Spells i p → labels_for p names ≡ Ok look.labels.now → IsFeasible p t
-        → CostsAtMost i names style (cost p t) a)
+    → CostsAtMost i names style (cost p t) a)
     (λ a h i names spells named feasible. let x = h i names spells named in record { found = x.found; within = omega (arith, x.within) }) c.found_answer.ensures
