@@ -27,7 +27,7 @@ use Rattle.tt_call_names.specs.Names.{labels_for}
 use Rattle.tt_call_names.specs.declared.names.PageNames.{PageNames}
 use Rattle.tt_call_answers.specs.Sums.{CertifiesSum}
 
--- the solution and the proofs certify a cost and a bound, which holds for every feasible timetable, and the page shows them with these names
+-- the solution and the proofs certify a cost and a bound, which holds for every feasible timetable, and the page shows them
 pub record IsWhole {A : Type 0} (instance solution : List ℕ) (files : List (List ℕ)) (page : Option (Vec ℕ A)) (names : PageNames)
     (labels : Labelled) (style : List ℕ) (c b : ℕ) : Type 0 where
   pub certified : CertifiesSum instance solution files c b

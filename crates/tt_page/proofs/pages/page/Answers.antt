@@ -12,12 +12,14 @@ returns-in_default-clause-size g c =
     let put : c.put_all.new.out ≡ put_text (window 0 PAGE_PIECE_BYTES too_many) text =
     c.put_all.ensures
     ∙ (λ i. put_text (c.in_ok-out.ensures i)
-    (shown_text (c.in_ok-plan.ensures i).problem (c.in_ok-plan.ensures i).table c.args.look.now.labels.now c.args.shown c.args.look.now.style.now)) in
+    (shown_text (c.in_ok-plan.ensures i).problem (c.in_ok-plan.ensures i).table c.args.look.now.labels.now c.args.shown
+    c.args.look.now.style.now)) in
     page_too_large PAGE_PIECE_BYTES text c.put_all.new.out c.total.result put c.total.ensures c.in_default.is
 
 pub write_pieces-requires-clause-total : goal.write_pieces-requires-clause-total
 write_pieces-requires-clause-total g c =
-    let text = shown_text c.in_ok-plan.plan.problem c.in_ok-plan.plan.table c.args.look.now.labels.now c.args.shown c.args.look.now.style.now in
+    let text = shown_text c.in_ok-plan.plan.problem c.in_ok-plan.plan.table c.args.look.now.labels.now c.args.shown
+    c.args.look.now.style.now in
     let put = c.put_all.ensures ∙ ap (λ (s : PageState). put_text s text) c.in_ok-out.ensures in
     (page_counted PAGE_PIECE_BYTES c.in-Some.total text c.put_all.new.out c.total.result put c.total.ensures c.in-Some.is).0
 
@@ -27,7 +29,8 @@ returns-in_err-write_pieces-clause-size g c =
     let put : c.put_all.new.out ≡ put_text (window 0 PAGE_PIECE_BYTES too_many) text =
     c.put_all.ensures
     ∙ (λ i. put_text (c.in_ok-out.ensures i)
-    (shown_text (c.in_ok-plan.ensures i).problem (c.in_ok-plan.ensures i).table c.args.look.now.labels.now c.args.shown c.args.look.now.style.now)) in
+    (shown_text (c.in_ok-plan.ensures i).problem (c.in_ok-plan.ensures i).table c.args.look.now.labels.now c.args.shown
+    c.args.look.now.style.now)) in
     size_of_write _ text c.from_residual-in_err-write_pieces.ensures.1
     (page_counted PAGE_PIECE_BYTES c.in-Some.total text c.put_all.new.out c.total.result put c.total.ensures c.in-Some.is).1
 
@@ -37,5 +40,6 @@ returns-clause-size g c =
     let put : c.put_all.new.out ≡ put_text (window 0 PAGE_PIECE_BYTES too_many) text =
     c.put_all.ensures
     ∙ (λ i. put_text (c.in_ok-out.ensures i)
-    (shown_text (c.in_ok-plan.ensures i).problem (c.in_ok-plan.ensures i).table c.args.look.now.labels.now c.args.shown c.args.look.now.style.now)) in
+    (shown_text (c.in_ok-plan.ensures i).problem (c.in_ok-plan.ensures i).table c.args.look.now.labels.now c.args.shown
+    c.args.look.now.style.now)) in
     (page_counted PAGE_PIECE_BYTES c.in-Some.total text c.put_all.new.out c.total.result put c.total.ensures c.in-Some.is).1

@@ -8,7 +8,8 @@ abbrev pub invariant-pieces : goal.invariant-pieces
 invariant-pieces g l = record {
   within : l.from ≤ l.total;
   size : l.out.size ≡ PAGE_PIECE_BYTES;
-  piece : l.out.bytes ≡ take PAGE_PIECE_BYTES (drop l.from (shown_text l.plan.problem l.plan.table l.look.labels.now l.shown l.look.style.now));
+  piece : l.out.bytes ≡ take PAGE_PIECE_BYTES (drop l.from (shown_text l.plan.problem l.plan.table l.look.labels.now l.shown
+      l.look.style.now));
   taken : Taken (g.W.Sink.contents l.fn.sink) (g.W.Sink.contents l.sink)
       (shown_text l.plan.problem l.plan.table l.look.labels.now l.shown l.look.style.now)
       (drop l.from (shown_text l.plan.problem l.plan.table l.look.labels.now l.shown l.look.style.now));

@@ -13,7 +13,8 @@ returns-then-feasible-clause-found c =
     let look = c.args.look.now in
     let style = look.style.now in
     IfOk-weaker c.found_answer.result
-    (λ a. (i : List ℕ) (names : PageNames) → Spells i p → labels_for p names ≡ Ok look.labels.now → CostsAtMost i names style c.cost.result a)
+    (λ a. (i : List ℕ) (names : PageNames) → Spells i p → labels_for p names ≡ Ok look.labels.now → CostsAtMost i names style
+    c.cost.result a)
     (λ a. (i : List ℕ) (names : PageNames) → Spells i p → labels_for p names ≡ Ok look.labels.now → IsBest i names style a)
     (λ a h i names spells named. inl (h i names spells named).found) c.found_answer.ensures
 
@@ -24,7 +25,9 @@ returns-then-feasible-clause-costs c =
     let look = c.args.look.now in
     let style = look.style.now in
     IfOk-weaker c.found_answer.result
-    (λ a. (i : List ℕ) (names : PageNames) → Spells i p → labels_for p names ≡ Ok look.labels.now → CostsAtMost i names style c.cost.result a)
+    (λ a. (i : List ℕ) (names : PageNames) → Spells i p → labels_for p names ≡ Ok look.labels.now → CostsAtMost i names style
+    c.cost.result a)
     (λ a. (i : List ℕ) (names : PageNames) → Spells i p → labels_for p names ≡ Ok look.labels.now → IsFeasible p t
     → CostsAtMost i names style (cost p t) a)
-    (λ a h i names spells named feasible. let x = h i names spells named in record { found = x.found; within = omega (arith, x.within) }) c.found_answer.ensures
+    (λ a h i names spells named feasible.
+    let x = h i names spells named in record { found = x.found; within = omega (arith, x.within) }) c.found_answer.ensures

@@ -17,7 +17,8 @@ returns-in_err-instance-clause-fault g c =
 pub returns-in_err-instance-clause-only : goal.returns-in_err-instance-clause-only
 returns-in_err-instance-clause-only g c =
     let e = err_from_is_err_and c.from_residual.result c.from_residual.ensures.1 in
-    λ p l spells some named. rw (e.1, e.2) (read_memory c.args.instance.now p c.in_err-instance.field-0.0 spells c.in_err-instance.ensures.exact)
+    λ p l spells some named. rw (e.1, e.2) (read_memory c.args.instance.now p c.in_err-instance.field-0.0 spells
+    c.in_err-instance.ensures.exact)
 
 pub returns-in_err-table-clause-fault : goal.returns-in_err-table-clause-fault
 returns-in_err-table-clause-fault g c =
@@ -78,7 +79,8 @@ returns-clause-found g c =
 
 pub returns-clause-no_more : goal.returns-clause-no_more
 returns-clause-no_more g c =
-    costs_no_more c.args.instance.now (option_copied c.args.search.start) c.args.names c.args.style.now c.in_ok-instance.instance c.in_ok-table.table
+    costs_no_more c.args.instance.now (option_copied c.args.search.start) c.args.names c.args.style.now c.in_ok-instance.instance
+    c.in_ok-table.table
     c.in_ok-week.week.table _
     c.in_ok-instance.ensures.found c.in_ok-table.ensures.found c.in_ok-week.ensures.week.table c.in_ok-week.ensures.no_worse
     (c.in_ok-answer_of.ensures.costs c.args.instance.now c.args.names c.in_ok-instance.ensures.found c.in_ok-labels.ensures)

@@ -67,7 +67,8 @@ returns-in_err-page-clause-fault g c =
 
 pub returns-clause-written : goal.returns-clause-written
 returns-clause-written g c =
-    let same = c.shown_for-shown.ensures.text c.args.style.now c.in_ok-instance.instance c.in_ok-table.table c.in_ok-labels.labels in record {
+    let same = c.shown_for-shown.ensures.text c.args.style.now c.in_ok-instance.instance c.in_ok-table.table c.in_ok-labels.labels
+    in record {
       put = record {
         problem = c.in_ok-instance.instance;
         table = c.in_ok-table.table;

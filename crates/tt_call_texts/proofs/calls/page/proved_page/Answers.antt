@@ -182,7 +182,8 @@ returns-clause-only g c =
       proved_same c.args.instance.now p c.in_ok-instance.instance b c.in_ok-bound.bound proved both.spelled c.in_ok-instance.ensures.found
           (c.in_ok-bound.ensures.only files b given here.is here.within) c.in_ok-proved.ensures.by,
       (
-        subst (λ (x : List ℕ). Appends (g.W.Sink.contents c.args.sink.now) (g.W.Sink.contents c.page.new.sink) x) same c.in_ok-page.ensures.written,
+        subst (λ (x : List ℕ). Appends (g.W.Sink.contents c.args.sink.now) (g.W.Sink.contents c.page.new.sink) x) same
+            c.in_ok-page.ensures.written,
         subst IsWithinLimit same c.in_ok-page.ensures.size,
       ),
     )
