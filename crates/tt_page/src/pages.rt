@@ -96,7 +96,7 @@ fn put_all(
     look: &Look<'_>,
 )
     requires score { IsScore plan.now.problem plan.now.table score.now }
-    requires shown { IsShownOf plan.now.problem shown.entry }
+    requires shown { IsShownOf plan.now.problem shown }
     ensures { out.new ≡ put_text out.old (shown_text plan.now.problem plan.now.table look.now.labels.now shown.entry look.now.style.now) }
 {
     match shown {
@@ -146,9 +146,9 @@ fn write_pieces<W: Sink>(
     sink: &mut W,
 ) -> Result<(), WriteFailed>
     requires score { IsScore plan.now.problem plan.now.table score.now }
-    requires shown { IsShownOf plan.now.problem shown.entry }
-    requires first { out.old ≡ put_text (window 0 PAGE_PIECE_BYTES too_many) (shown_text plan.now.problem plan.now.table look.now.labels.now shown.entry look.now.style.now) }
-    requires total { total ≡ length (shown_text plan.now.problem plan.now.table look.now.labels.now shown.entry look.now.style.now) }
+    requires shown { IsShownOf plan.now.problem shown }
+    requires first { out.old ≡ put_text (window 0 PAGE_PIECE_BYTES too_many) (shown_text plan.now.problem plan.now.table look.now.labels.now shown look.now.style.now) }
+    requires total { total ≡ length (shown_text plan.now.problem plan.now.table look.now.labels.now shown look.now.style.now) }
     requires within { total ≤ MAX_PAGE_BYTES }
     ensures written { OnOk result (Appends (W.contents sink.old) (W.contents sink.new) (shown_text plan.now.problem plan.now.table look.now.labels.now shown.entry look.now.style.now)) }
     ensures part { OnErr result (TakesPart (W.contents sink.old) (W.contents sink.new) (shown_text plan.now.problem plan.now.table look.now.labels.now shown.entry look.now.style.now)) }
@@ -177,7 +177,7 @@ pub fn page<W: Sink>(
     sink: &mut W,
 ) -> Result<(), PageFault>
     requires table { IsTimetable instance.now table.now }
-    requires shown { IsShownOf instance.now shown.entry }
+    requires shown { IsShownOf instance.now shown }
     ensures written { OnOk result (Appends (W.contents sink.old) (W.contents sink.new) (shown_text instance.now table.now look.now.labels.now shown.entry look.now.style.now)) }
     // After a failed write, a part from the front of the text was taken.
     ensures part { result ≡ Err fault.Write → TakesPart (W.contents sink.old) (W.contents sink.new) (shown_text instance.now table.now look.now.labels.now shown.entry look.now.style.now) }
