@@ -1,4 +1,6 @@
-use Rattle.std.proofs.Common.{◌≡◌, ap, ◌∙◌}
+use Rattle.std.proofs.Common.{◌≡◌, ap, subst, sym, ◌∙◌}
+use Rattle.tt_rules.specs.Score.{IsScore}
+use Rattle.tt_page_plan.specs.Planned.{Planned}
 use Rattle.tt_page_text.specs.Puts.{put_text, too_many, window}
 use Rattle.tt_page_text.specs.Windowed.{PageState}
 use Rattle.tt_page_text.specs.declared.page_text.TheConstants.{PAGE_PIECE_BYTES}
@@ -15,6 +17,10 @@ returns-in_default-clause-size g c =
     (shown_text (c.in_ok-plan.ensures i).problem (c.in_ok-plan.ensures i).table c.args.look.now.labels.now c.args.shown
     c.args.look.now.style.now)) in
     page_too_large PAGE_PIECE_BYTES text c.put_all.new.out c.total.result put c.total.ensures c.in_default.is
+
+pub write_pieces-requires-clause-score : goal.write_pieces-requires-clause-score
+write_pieces-requires-clause-score g c =
+    subst (λ (p : Planned). IsScore p.problem p.table c.score-score.result) (sym c.in_ok-plan.ensures) c.score-score.ensures
 
 pub write_pieces-requires-clause-total : goal.write_pieces-requires-clause-total
 write_pieces-requires-clause-total g c =
