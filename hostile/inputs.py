@@ -252,11 +252,14 @@ def missing_files(desk):
     for words, role in [
         ("validate none solution", "instance"),
         ("validate instance none", "solution"),
+        ("validate instance solution --wishes none", "wishes"),
         ("check instance none proof", "solution"),
         ("check instance solution none", "proof"),
         ("bound instance none", "proof"),
         ("upgrade instance none out", "proof"),
         ("improve instance none out", "solution"),
+        ("improve instance none out --complete --drop", "solution"),
+        ("improve instance none out --stay 5", "solution"),
         ("solve none out proof", "instance"),
         ("report instance none --by room", "solution"),
         ("report instance none --changes solution", "solution"),
@@ -283,6 +286,7 @@ def folders_in_the_place_of_files(desk):
     before = {it.name for it in desk.folder.iterdir()}
     same(desk.told("validate folder solution"), not_read("instance", "folder", IS_FOLDER))
     same(desk.told("validate instance folder"), not_read("solution", "folder", IS_FOLDER))
+    same(desk.told("validate instance solution --wishes folder"), not_read("wishes", "folder", IS_FOLDER))
     same(desk.told("bound instance folder"), refused(b"proof: Read: folder: " + IS_FOLDER))
     same(desk.told("sum instance proof folder"), refused(b"proof 2: Read: folder: " + IS_FOLDER))
     for words, role in [
@@ -311,6 +315,8 @@ def standard_input(desk):
         ("sum instance --solution - nothing proof", APART, (0, b"yes cost 5 bound 5 optimal\n", b"")),
         ("sum instance - nothing", GAP_GROUPS, (0, b"bound 4\n", b"")),
         ("improve - solution out", GAP, (0, b"hard 0 cost 5\n", b"")),
+        ("improve instance - out --complete --drop", b"z R 0 0\n" + APART, (0, b"hard 0 cost 5\n", b"line 1 left out, no such course: z R 0 0\n")),
+        ("improve - solution out --stay 5", GAP, (0, b"hard 0 cost 5 moved 0 rooms 0\n", b"")),
         ("upgrade instance - out", GAP_PROOF, (0, b"bound 5\n", b"")),
         ("solve - out other", GAP, (0, b"cost 5 bound 5 finished\n", b"")),
         ("page instance solution out --proof -", GAP_PROOF, (0, b"", b"")),

@@ -23,7 +23,7 @@ OUT_OF_MEMORY = (2, b"", b"refused: out of memory\n")
 HURRY = 400
 # What a refusal says after a failed call: the role and the path of the file, and the system's reason.
 PATH, REASON = rb"([^\n:]*)", rb"([^\n;]+)"
-NOT_READ = re.compile(rb"refused: (instance|solution|proof(?: \d+)?): (?:cannot read|Read): " + PATH + rb": " + REASON + rb"\n")
+NOT_READ = re.compile(rb"refused: (instance|solution|wishes|proof(?: \d+)?): (?:cannot read|Read): " + PATH + rb": " + REASON + rb"\n")
 WHEREABOUTS = rb"((?:; output \w+ is (?:kept as [^\n;]+|on standard output|in its place|lost))*)"
 NOT_WRITTEN = re.compile(rb"refused: cannot write: (output \w+): " + PATH + rb": " + REASON + WHEREABOUTS + rb"\n")
 NOT_PRINTED = re.compile(rb"refused: cannot write: standard output: " + REASON + rb"\n")
@@ -51,8 +51,8 @@ IN_FOLDER = {
     "parts": {"groups.proof": "output proof", "rooms.proof": "output proof"},
     "best": {"best.sol": "output solution", "partial.sol": "output solution", "page.html": "output page", "groups.proof": "output proof", "prices.proof": "output proof", "tree.proof": "output proof"},
 }
-INPUT_OPTIONS = {"--solution": "solution", "--from": "solution", "--proof": "proof"}
-FLAGS = {"--keep", "--complete", "--progress", "--quiet", "--csv", "--no-formulas", "--help", "--version"}
+INPUT_OPTIONS = {"--solution": "solution", "--from": "solution", "--wishes": "wishes", "--proof": "proof"}
+FLAGS = {"--keep", "--complete", "--drop", "--progress", "--quiet", "--csv", "--no-formulas", "--help", "--version"}
 
 
 def without_older(files):
@@ -126,9 +126,11 @@ FILES = {
     "free": FREE,
     "mini.sol": NEXT_TO_EACH_OTHER,
     "gap.sol": APART,
+    "last.sol": b"z R 0 0\n" + APART,
     "gap.proof": GAP_PROOF,
     "gap.groups": GAP_GROUPS,
     "nothing.proof": b"CTTP 1 bound 0 B ; end",
+    "wishes": b"hold a R 0 0\nclosed * 0 1\n",
     "bad": b"bad",
     "empty": b"",
 }
@@ -154,6 +156,8 @@ COMMANDS = [
     Command("validate - gap.sol", out=MINI_COUNTS, given="mini"),
     Command("validate mini -", out=MINI_COUNTS, given="gap.sol"),
     Command("validate - -", 2, b"", None, given="mini"),
+    Command("validate mini gap.sol --wishes wishes", out=MINI_COUNTS + b"wishes 0\n"),
+    Command("validate mini gap.sol --wishes bad", 2, b"", b"refused: wishes: UnknownWord at byte 0\n"),
     Command("check gap gap.sol gap.proof", out=b"yes cost 5 bound 5 optimal\n"),
     Command("check gap gap.sol -", out=b"yes cost 5 bound 5 optimal\n", given="gap.proof"),
     Command("check mini bad gap.proof", 2, b"", b"refused: solution: UnknownCourse at byte 0\n"),
@@ -163,6 +167,9 @@ COMMANDS = [
     Command("improve mini gap.sol - --steps 100", out=None),
     Command("improve mini gap.sol out --steps 100 --runs 3", out=b"hard 0 cost 1\n", written={"out": None}),
     Command("improve gap empty out --complete --steps 100", out=b"hard 0 cost 5\n", written={"out": None}),
+    Command("improve gap last.sol out --complete --drop --steps 100", out=b"hard 0 cost 5\n", err=b"line 1 left out, no such course: z R 0 0\n", written={"out": None}),
+    Command("improve mini gap.sol out --stay 5 --steps 20", out=b"hard 0 cost 5 moved 0 rooms 0\n", written={"out": APART}),
+    Command("improve mini gap.sol out --stay 1 --steps 20 --runs 2", out=b"hard 0 cost 1 moved 1 rooms 0\n", written={"out": None}),
     Command("improve mini gap.sol out --steps 100 --runs 5 --keep", out=b"hard 0 cost 1\n", written={"out": None}, hurry=HURRY),
     Command("improve mini gap.sol out --steps 1000 --runs 1000 --time 2", out=b"hard 0 cost 1\n", written={"out": None}, hurry=HURRY),
     Command("improve mini gap.sol mini", 2, b"", not_written("solution", "mini", "is a file that the command reads")),
@@ -235,6 +242,9 @@ COMMANDS = [
     Command("solve gap out out.proof --time 0", 2, b"", None),
     Command("solve gap out out.proof --time 1000001", 2, b"", None),
     Command("improve mini gap.sol out --steps x", 2, b"", None),
+    Command("improve mini gap.sol out --drop", 2, b"", None),
+    Command("improve mini gap.sol out --stay 1000001", 2, b"", None),
+    Command("improve mini gap.sol out --stay 5 --keep", 2, b"", None),
 ]
 WRITTEN = ["out", "out.proof", "groups.proof", "rooms.proof", "tree.proof", "best.sol", "page.html"]
 
@@ -369,7 +379,7 @@ class Runs:
             if self.is_own(outcome, files):
                 answers["as without a refusal"] += 1
                 continue
-            assert outcome.told() == OUT_OF_MEMORY, f"growth {growth}: a third answer {outcome.told()}"
+            assert (*outcome.told()[:2], self.after_own(outcome.err)) == OUT_OF_MEMORY, f"growth {growth}: a third answer {outcome.told()}"
             if self.command.keeps():
                 self.check_kept(files, set(), f"growth {growth}")
             else:
@@ -431,20 +441,20 @@ class Runs:
     def check_all_failed(self, outcome, where):
         """Where all calls fail from one on, the answer may be cut off, and the reason may be lost."""
         if outcome.status == 2:
-            assert self.what_is_said(self.after_reason(outcome.err)) or self.own.err.startswith(outcome.err), where
+            assert self.what_is_said(self.after_own(outcome.err)) or self.own.err.startswith(outcome.err), where
         else:
             assert outcome.told()[:2] == self.own.told()[:2], where
 
-    def after_reason(self, err):
-        """What stands on standard error after the reason why there is no timetable."""
-        return err.removeprefix(self.own.err) if self.own.status == 1 else err
+    def after_own(self, err):
+        """What stands on standard error after what the command says there by itself: the reason why there is no timetable, or what is left out."""
+        return err.removeprefix(self.own.err) if self.own.status != 2 else err
 
     def what_is_said(self, err):
         return NOT_READ.fullmatch(err) or NOT_WRITTEN.fullmatch(err) or NOT_PRINTED.fullmatch(err)
 
     def check_refusal(self, refusal, outcome, files, tried, where):
         """A refusal after one failed call."""
-        err = self.after_reason(outcome.err)
+        err = self.after_own(outcome.err)
         own_beginning = self.own.status == 2 and self.own.err.startswith(err)
         said = self.what_is_said(err)
         assert said or own_beginning, where

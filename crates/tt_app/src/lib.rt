@@ -10,3 +10,4 @@ pub use tt_call_searches::{
     improve, parts, solve,
 };
 pub use tt_call_texts::{PageWish, WeekTimes, calendar, inspect, page, proved_page, report, table};
+pub use tt_call_wishes::{ValidateFault, validate_wishes};

@@ -9,4 +9,5 @@ pub use calls::check::check;
 pub use calls::check_sum::check_sum;
 pub use calls::sum::sum;
 pub use calls::upgrade::upgrade;
-pub use calls::validate::validate;
+pub use calls::validate::{score_text, validate};
+pub use lines::put_count;

@@ -2,8 +2,8 @@
 
 use crate::best::{BEST, BestRequest, best_request};
 use crate::checks::{
-    BOUND, BoundRequest, CHECK, CheckRequest, UPGRADE, UpgradeRequest, VALIDATE, bound_request,
-    check_request, upgrade_request, validate_request,
+    BOUND, BoundRequest, CHECK, CheckRequest, UPGRADE, UpgradeRequest, VALIDATE, WishesRequest,
+    bound_request, check_request, upgrade_request, validate_request,
 };
 use crate::description::{Description, commands_of};
 use crate::files::TimetableFiles;
@@ -24,6 +24,7 @@ use std::alloc::{AllocError, Global};
 #[derive(Drop)]
 pub enum Request<'a> {
     Validate(TimetableFiles<'a>),
+    Wishes(WishesRequest<'a>),
     Inspect(InspectRequest<'a>),
     Page(PageRequest<'a>),
     Check(CheckRequest<'a>),

@@ -2,9 +2,16 @@
 
 use crate::arguments::Request;
 use crate::description::Description;
-use crate::files::{INSTANCE, OUT, PROOF, SOLUTION, TimetableFiles};
+use crate::files::{INSTANCE, OUT, PROOF, SOLUTION, TimetableFiles, WISHES};
 use crate::showing::{PROGRESS, QUIET, Showing, showing_of};
 use clap::ArgMatches;
+
+/// The files of `validate --wishes`.
+#[derive(Clone, Copy, Debug)]
+pub struct WishesRequest<'a> {
+    pub files: TimetableFiles<'a>,
+    pub wishes: &'a str,
+}
 
 /// The files and options of `check`.
 #[derive(Clone, Copy, Debug)]
@@ -37,7 +44,7 @@ pub const VALIDATE: Description<'static> = Description {
     name: "validate",
     about: "Prints the eight counts of a solution",
     example: "Example: tt validate week.ctt week.sol",
-    arguments: &[INSTANCE, SOLUTION, PROGRESS, QUIET],
+    arguments: &[INSTANCE, SOLUTION, WISHES, PROGRESS, QUIET],
 };
 
 /// The command `check`.
@@ -66,10 +73,14 @@ pub const UPGRADE: Description<'static> = Description {
 
 /// Returns the options given for `validate`.
 pub fn validate_request<'a>(found: &ArgMatches<'a>) -> Option<Request<'a>> {
-    Some(Request::Validate(TimetableFiles {
+    let files = TimetableFiles {
         instance: found.get_str("INSTANCE")?,
         solution: found.get_str("SOLUTION")?,
-    }))
+    };
+    if let Some(wishes) = found.get_str("wishes") {
+        return Some(Request::Wishes(WishesRequest { files, wishes }));
+    }
+    Some(Request::Validate(files))
 }
 
 /// Returns the options given for `check`.

@@ -33,6 +33,14 @@ pub const PROOF: Argument<'static> = Argument {
     condition: None,
 };
 
+/// What a timetable is to keep besides the hard rules.
+pub const WISHES: Argument<'static> = Argument {
+    id: "wishes",
+    form: Form::Value("WISHES"),
+    help: "What the timetable is to keep besides the hard rules: lines of a lecture that stays, of a course's rooms, of what is closed",
+    condition: None,
+};
+
 /// The file that is written.
 pub const OUT: Argument<'static> = Argument {
     id: "OUT",

@@ -15,6 +15,9 @@ const MAX_RUNS: u64 = 1_000;
 /// The maximum number of seconds of a search.
 const MAX_SECONDS: u64 = 1_000_000;
 
+/// The maximum price of a lecture that leaves its place.
+const MAX_STAY: u64 = 1_000_000;
+
 /// How `improve` searches.
 #[derive(Clone, Copy, Debug)]
 pub struct Search {
@@ -30,6 +33,8 @@ pub struct Search {
     pub completes: bool,
     /// Whether the entries that the instance doesn't have are left out before that.
     pub drops: bool,
+    /// The price of a lecture that leaves its period in the solution, if lectures have one.
+    pub stay: Option<u32>,
 }
 
 /// The files and options of `improve`.
@@ -156,6 +161,18 @@ const DROP: Argument<'static> = Argument {
     condition: Some(Condition::Requires(&["complete"])),
 };
 
+/// The option that prices the lectures which leave their places.
+const STAY: Argument<'static> = Argument {
+    id: "stay",
+    form: Form::Number(Range {
+        least: 0,
+        most: MAX_STAY,
+        default: None,
+    }),
+    help: "Adds a price for each lecture that leaves its period in the solution, 0 to 1000000, and a fifth if it only leaves its room",
+    condition: Some(Condition::ConflictsWith(&["keep"])),
+};
+
 /// The proof that is written.
 const NEW_PROOF: Argument<'static> = Argument {
     id: "PROOF",
@@ -170,7 +187,8 @@ pub const IMPROVE: Description<'static> = Description {
     about: "Searches from a solution, and writes a timetable that is no worse",
     example: "Example: tt improve week.ctt week.sol better.sol --steps 100000",
     arguments: &[
-        INSTANCE, SOLUTION, OUT, SEED, STEPS, RUNS, TIME, KEEP, COMPLETE, DROP, PROGRESS, QUIET,
+        INSTANCE, SOLUTION, OUT, SEED, STEPS, RUNS, TIME, KEEP, COMPLETE, DROP, STAY, PROGRESS,
+        QUIET,
     ],
 };
 
@@ -184,6 +202,12 @@ pub const SOLVE: Description<'static> = Description {
     ],
 };
 
+/// Returns the price given for a lecture that leaves its place, if there is one.
+fn stay_of(found: &ArgMatches<'_>) -> Option<u32> {
+    let price: u64 = found.get_one("stay")?;
+    u32::try_from(price).ok()
+}
+
 /// Returns the search given for `improve`.
 fn search_of(found: &ArgMatches<'_>) -> Option<Search> {
     Some(Search {
@@ -194,6 +218,7 @@ fn search_of(found: &ArgMatches<'_>) -> Option<Search> {
         keeps: found.get_flag("keep"),
         completes: found.get_flag("complete"),
         drops: found.get_flag("drop"),
+        stay: stay_of(found),
     })
 }
 

@@ -11,3 +11,4 @@ pub mod sum;
 pub mod table;
 pub mod upgrade;
 pub mod validate;
+pub mod wishes;

@@ -6,6 +6,7 @@ use std::io;
 use thiserror::Error;
 use tt_call_answers::AppFault;
 use tt_call_changes::ChangesFault;
+use tt_call_wishes::ValidateFault;
 use tt_cli_files::WriteFault;
 
 /// The reason why a command is refused.
@@ -17,6 +18,8 @@ pub enum CommandFault {
     Call(AppFault),
     #[error("{0}")]
     Changes(ChangesFault),
+    #[error("{0}")]
+    Wishes(ValidateFault),
     /// A call was refused since the file of this path couldn't be read.
     #[error("{fault}: {path}: {reason}")]
     Unread {
@@ -56,6 +59,12 @@ impl From<AppFault> for CommandFault {
 impl From<ChangesFault> for CommandFault {
     fn from(fault: ChangesFault) -> CommandFault {
         CommandFault::Changes(fault)
+    }
+}
+
+impl From<ValidateFault> for CommandFault {
+    fn from(fault: ValidateFault) -> CommandFault {
+        CommandFault::Wishes(fault)
     }
 }
 

@@ -23,6 +23,9 @@ pub enum Input {
     /// The solution with which another one is compared.
     #[error("older solution")]
     OlderSolution,
+    /// What a timetable is to keep besides the hard rules.
+    #[error("wishes")]
+    Wishes,
     #[error("proof")]
     Proof,
     /// One of several proofs, by its number from 1 on.

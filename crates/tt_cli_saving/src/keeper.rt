@@ -1,5 +1,8 @@
 //! Watches a search: shows its progress, ends it in time, and keeps what it has found.
 
+ghost use Rattle.std.specs.Prelude.{◌≡◌, ◌⊎◌, IsTrue, Some};
+ghost use Rattle.tt_cli_saving.specs.Inner.Keeping.{MayReplace};
+
 use crate::limit::TimeLimit;
 use crate::pace::Pace;
 use crate::shelf::Shelf;
@@ -62,23 +65,37 @@ impl<'k, F> KeptTable<'k, F> {
     }
 
     /// Checks whether a timetable is better than the one that is stored, and is to be stored.
-    fn is_wanted(&self, pair: Pair) -> bool {
-        let is_better = self.kept.is_none_or(|kept| pair.is_below(kept));
-        is_better && !(self.is_strict && pair.hard > 0) && matches!(self.out.ready, Ready::Place(_))
+    fn is_wanted(&self, pair: Pair) -> bool
+        ensures { IsTrue result → MayReplace self.is_strict self.kept pair }
+    {
+        let is_better = match self.kept {
+            Some(kept) => pair.is_below(kept),
+            None => true,
+        };
+        is_better
+            && (!self.is_strict || pair.hard == 0)
+            && matches!(self.out.ready, Ready::Place(_))
     }
 
-    /// Writes a timetable to its file, and returns whether it is there.
-    fn write<R: World<File = F>, S: Shelf>(
+    /// Writes a better timetable to its file, and remembers it if it is there.
+    fn replace<R: World<File = F>, S: Shelf>(
         &mut self,
         rt: &R,
         shelf: &mut S,
+        pair: Pair,
         entries: &[Entry],
-    ) -> Result<bool, AllocError> {
+    ) -> Result<(), AllocError>
+        requires { MayReplace self.is_strict self.kept pair }
+        ensures { (self.new.kept ≡ self.kept) ⊎ (self.new.kept ≡ Some pair) }
+    {
         let Some(text) = text_of(rt.alloc(), &self.instance, entries) else {
-            return Ok(false);
+            return Ok(());
         };
         let batch = self.out.write(rt, Batch::new(rt.alloc()), &text)?;
-        Ok(shelf.clear(batch)?.put_or_remove(rt))
+        if shelf.clear(batch)?.put_or_remove(rt) {
+            self.kept = Some(pair);
+        }
+        Ok(())
     }
 }
 
@@ -156,9 +173,7 @@ impl<'k, 't, R: World, E: Write, S: Shelf> Keeper<'k, 't, R, E, S> {
         if !table.is_wanted(pair) || !self.pace.is_due(self.rt) {
             return;
         }
-        if let Ok(true) = table.write(self.rt, &mut self.shelf, entries) {
-            table.kept = Some(pair);
-        }
+        let _ = table.replace(self.rt, &mut self.shelf, pair, entries);
         self.pace.rest(self.rt);
     }
 }

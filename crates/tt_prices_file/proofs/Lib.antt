@@ -2,6 +2,7 @@ pub mod Accounted
 pub mod Holding
 pub mod Once
 pub mod Parts
+pub mod Places
 pub mod Priced
 pub mod Rented
 pub mod RentsSummed

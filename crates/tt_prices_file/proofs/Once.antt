@@ -1,11 +1,11 @@
 -- A text is at most one file of groups with prices, and one that is right is refused only if a group is beyond the limits of the check.
-use Rattle.std.proofs.Common.{◌≡◌, ℕ, ◌*◌, ◌<◌, ◌≤◌, zero, suc, Bool, true, false, List, [], ◌∷◌, ◌++◌, length, map, append-nil, append_assoc, Option, Some, None, Result, Ok, Err, refl, sym, ap, subst, ◌∙◌, arith, inl, inr}
-use Rattle.std.specs.Prelude.{◌==◌, not, ℤ, pos, ◌+ℤ◌, ◌≤ℤ◌, ◌⊎◌, Contains, flat_map}
+use Rattle.std.proofs.Common.{◌≡◌, ℕ, ◌*◌, ◌<◌, ◌≤◌, Bool, true, false, List, [], ◌∷◌, ◌++◌, length, map, append-nil, append_assoc, Option, Some, None, Result, Ok, Err, refl, sym, ap, subst, ◌∙◌, arith, inl, inr}
+use Rattle.std.specs.Prelude.{◌==◌, not, ℤ, pos, ◌+ℤ◌, ◌≤ℤ◌, Contains, flat_map}
 use Rattle.std.specs.List.{list_all, AllByRecursion}
 use Rattle.std.proofs.lemmas.Bool.{and_parts, both_ways, not-true}
 use Rattle.std.proofs.lemmas.Grind.{flat_map-append}
 use Rattle.std.proofs.lemmas.Int.{ints}
-use Rattle.std.proofs.lemmas.List.{map-append, length-map}
+use Rattle.std.proofs.lemmas.List.{map-append}
 use Rattle.std.proofs.lemmas.List.Elements.{Contains-append_right, recursion_from_All}
 use Rattle.tt_list_laws.specs.Words.{has_number, are_distinct, each_two}
 use Rattle.tt_list_laws.proofs.Members.{at_member, each_two-of_append, member_cases, member_from_any}
@@ -14,10 +14,7 @@ use Rattle.tt_list_laws.proofs.Twos.{each_two-append}
 use Rattle.tt_text.specs.Feeds.{Stream}
 use Rattle.tt_instance.specs.Problem.{Problem}
 use Rattle.tt_instance.specs.Limits.{IsInstance}
-use Rattle.tt_instance.specs.Cells.{slot, cell}
-use Rattle.tt_instance.specs.Courses.{lectures}
-use Rattle.tt_instance.specs.declared.cell.Slot.{Slot}
-use Rattle.tt_prices.specs.Prices.{PricedGroup, cell_cost}
+use Rattle.tt_prices.specs.Prices.{PricedGroup}
 use Rattle.tt_prices_check.specs.Groups.{IsLeast}
 use Rattle.tt_prices_read.specs.Reading.{Group, RoomRents, Part, GroupPart, RentPart, item_at}
 use Rattle.tt_prices_read.specs.Reads.{ReadsParts, ReadsFile}
@@ -25,8 +22,6 @@ use Rattle.tt_prices_read.specs.Spelling.{SpellsFile}
 use Rattle.tt_prices_read.specs.declared.fault.PricesTextFault.{PricesTextFault}
 use Rattle.tt_prices_read.specs.declared.header.Header.{Header}
 use Rattle.tt_prices_read.proofs.SpelledFiles.{spelled_reads}
-use Rattle.tt_prices_rooms.specs.Least.{IsSumOf}
-use Rattle.tt_prices_rooms.specs.Terms.{IsTerm, open_slots}
 use Rattle.tt_proof_check.specs.Streams.{sizes_of, stream_of}
 use Rattle.tt_proof_check.proofs.Sizes.{are_sizes_of}
 use Rattle.tt_proof_read.proofs.Small.{are_small}
@@ -36,6 +31,7 @@ use Rattle.tt_prices_file.specs.Files.{priced, groups_in, groups_of, curricula_i
 use Rattle.tt_prices_file.specs.declared.fault.PricesFault.{PricesFault}
 use Rattle.tt_prices_file.specs.declared.fault.PricesFault.TheVariants as fault
 use Rattle.tt_prices_file.proofs.Holding.{one_total}
+use Rattle.tt_prices_file.proofs.Places.{no_term}
 use Rattle.tt_prices_file.proofs.Parts.{groups_in-append, rents_in-append, curricula_of, courses_of}
 
 -- ---- parts that a stream gives
@@ -53,7 +49,7 @@ not_both_answers : (k : Part) (s t : Stream) → answer (Some k) s ≡ answer No
 unfolding has_part
 not_both_answers k s t e = let no : true ≡ false = ap has_part e in cc
 
-part_same : (x k : Part) (s t : Stream) → answer (Some x) s ≡ answer (Some k) t → (x ≡ k) × (s ≡ t)
+pub part_same : (x k : Part) (s t : Stream) → answer (Some x) s ≡ answer (Some k) t → (x ≡ k) × (s ≡ t)
 part_same x k s t e =
     let pair : (Some x, s) ≡ (Some k, t) = cc in
     let some : Some x ≡ Some k = ap (λ (z : Option Part × Stream). z.0) pair in
@@ -116,7 +112,7 @@ module _ (sizes : Sizes) (has_rooms : Bool) where
 abbrev headed_by : Header → Stream → Result (Header × Stream) PricesTextFault
 headed_by h s = Ok (h, s)
 
-header_same : (h k : Header) (s t : Stream) → headed_by h s ≡ headed_by k t → (h ≡ k) × (s ≡ t)
+pub header_same : (h k : Header) (s t : Stream) → headed_by h s ≡ headed_by k t → (h ≡ k) × (s ≡ t)
 header_same h k s t e =
     let same : (h, s) ≡ (k, t) = cc in
     (ap (λ (x : Header × Stream). x.0) same, ap (λ (x : Header × Stream). x.1) same)
@@ -141,7 +137,7 @@ file_once p is bytes h k xs ys first second =
 -- ---- numbers that are listed twice
 
 -- no number of a later list is in an earlier one
-not_twice : (ns ms rest : List ℕ) (n : ℕ) → are_distinct (ns ++ (ms ++ rest)) ≡ true → has_number ns n ≡ true → Contains ms n → ⊥
+pub not_twice : (ns ms rest : List ℕ) (n : ℕ) → are_distinct (ns ++ (ms ++ rest)) ≡ true → has_number ns n ≡ true → Contains ms n → ⊥
 not_twice ns ms rest n apart earlier here =
     let test : ℕ → ℕ → Bool = λ a b. not (a == b) in
     let whole : each_two test ((ns ++ ms) ++ rest) ≡ true = ap (each_two test) (append_assoc ns ms rest) ∙ apart in
@@ -154,15 +150,6 @@ not_twice ns ms rest n apart earlier here =
     both_ways (w.0 == n) (not-true (w.0 == n) cell) w.2
 
 -- ---- faults of a file that is right
-
--- a sum of so many numbers of a list needs as many
-enough_numbers : (n : ℕ) (xs : List ℤ) (b : ℤ) → IsSumOf n xs b → n ≤ length xs
-enough_numbers zero xs b is = omega arith
-enough_numbers (suc n) [] b is = absurd is
-enough_numbers (suc n) (x ∷ xs) b is = elim is [
-  | inl taken ↦ let rest = enough_numbers n xs taken.0 taken.1 in omega (arith, rest)
-  | inr left ↦ let rest = enough_numbers (suc n) xs b left in omega (arith, rest)
-]
 
 module _ (p : Problem) (is : IsInstance p) (bytes : List ℕ) (h : Header) (parts : List Part) (spelled : SpellsFile (sizes_of p) bytes h parts)
     (right : IsRight p h parts) where
@@ -260,23 +247,9 @@ module _ (p : Problem) (is : IsInstance p) (bytes : List ℕ) (h : Header) (part
       let n = next reported (GroupPart g) reported.is.2 reported.is.3 in
       let none = subst (λ (x : Header). IsLeast p x.scale (priced p g) None) (read_on reported).header reported.is.4.1 in
       has_least reported.parts g n.0 n.1 none
-  left_open (fault.TooFewPlaces c) reported = has_term reported.is.2.0 (right.is.courses c reported.is.2.0) reported.is.2.1
-    where
-      enough : (f : Slot → ℤ) (b : ℤ) → IsSumOf (lectures p c) (map f (open_slots p c)) b → lectures p c ≤ length (open_slots p c)
-      enough f b paid = let n = enough_numbers (lectures p c) (map f (open_slots p c)) b paid in omega (arith, n, length-map (open_slots p c) f)
-
-      has_term : c < length p.courses → IsTerm p (room_scale h) (groups_of p parts) (rent_of p parts) c (right.is.terms c)
-          → (length (open_slots p c) < lectures p c) ⊎ (length p.rooms ≡ 0) → ⊥
-      has_term inside term (inl few) = elim term.paid [
-        | inl one ↦
-            let n = enough (λ s. cell_cost p (room_scale h) (groups_of p parts) (rent_of p parts) (cell c one.0 s)) (right.is.terms c) one.2 in
-            omega (arith, n, few)
-        | inr more ↦ let n = enough more.1 more.3 more.4 in omega (arith, n, few)
-      ]
-      has_term inside term (inr none) = elim term.paid [
-        | inl one ↦ let l = one.1 in omega (arith, l, none)
-        | inr more ↦ let l = (more.2.paid (slot 0 0)).1 in omega (arith, l, none)
-      ]
+  left_open (fault.TooFewPlaces c) reported =
+      let few = reported.is.2.few in
+      no_term p (room_scale h) (groups_of p parts) (rent_of p parts) c (right.is.terms c) few (right.is.courses c few.0)
   left_open fault.TooCheap reported =
       let all = whole reported reported.is.0 reported.is.1 in
       let head = (read_on reported).header in

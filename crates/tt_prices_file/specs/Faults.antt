@@ -66,6 +66,11 @@ pub record IsUnclaimed (parts : List Part) (g : PricedGroup) : Type 0 where
 abbrev pub HasTooFewPlaces : Problem → ℕ → Type 0
 HasTooFewPlaces p c = (c < length p.courses) × ((length (open_slots p c) < lectures p c) ⊎ (length p.rooms ≡ 0))
 
+-- The course is the first, in the instance's order, that has too few places.
+pub record IsFirstWithTooFewPlaces (p : Problem) (c : ℕ) : Type 0 where
+  pub few : HasTooFewPlaces p c
+  pub first : (d : ℕ) → d < c → HasTooFewPlaces p d → ⊥
+
 -- The file's total is too low for its bound.
 abbrev pub IsTooCheap : Problem → Header → List Part → Type 0
 IsTooCheap p h parts = (total : ℤ) × HasTotal p h parts total × ((total +ℤ pos h.scale) ≤ℤ pos (h.scale * h.bound))
@@ -82,7 +87,7 @@ ExplainsPrices p s (RentedTwice r) =
     × (item_at (sizes_of p) h.has_rooms rest ≡ Ok (Some (RentPart x), after)) × (x.room ≡ r) × (has_number (rented parts) r ≡ true))
 ExplainsPrices p s (Refused i f) = AtGroup p s i (λ h parts g. IsUnclaimed parts g × IsRefusal p g f)
 ExplainsPrices p s (NoTimetable i) = AtGroup p s i (λ h parts g. IsUnclaimed parts g × IsLeast p h.scale g None)
-ExplainsPrices p s (TooFewPlaces c) = AtEnd p s (λ h parts. HasTooFewPlaces p c)
+ExplainsPrices p s (TooFewPlaces c) = AtEnd p s (λ h parts. IsFirstWithTooFewPlaces p c)
 ExplainsPrices p s TooCheap = AtEnd p s (λ h parts. IsTooCheap p h parts)
 
 -- ---- memory, and reads that failed

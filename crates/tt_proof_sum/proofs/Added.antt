@@ -1,10 +1,11 @@
 -- Another file is added, or the check of a group isn't finished.
-use Rattle.std.proofs.Common.{◌≡◌, ℕ, ◌+◌, ◌-◌, ◌<◌, ◌≤◌, ◌^◌, Bool, true, ◌||◌, List, [], ◌∷◌, ◌++◌, Option, Some, refl, sym, ap, subst, ◌∙◌, arith, zero-le}
+use Rattle.std.proofs.Common.{◌≡◌, ℕ, ◌+◌, ◌-◌, ◌<◌, ◌≤◌, ◌^◌, zero, suc, Bool, true, ◌||◌, List, [], ◌∷◌, ◌++◌, length, length-append, Option, Some, refl, sym, ap, subst, ◌∙◌, arith, zero-le, inl, inr}
 use Rattle.std.specs.Prelude.{flat_map}
 use Rattle.std.specs.List.{list_any}
 use Rattle.std.proofs.lemmas.List.Folds.{list_any-append}
 use Rattle.std.proofs.lemmas.List.Sums.{sum_by-append}
-use Rattle.std.proofs.lemmas.Bool.{or_left, or_right}
+use Rattle.std.proofs.lemmas.Bool.{cases_lt, or_left, or_right}
+use Rattle.std.proofs.lemmas.List.{take_all, take-append-le}
 use Rattle.tt_list_laws.proofs.Sums.{list_any-of_flat_map}
 use Rattle.tt_list_laws.proofs.Twos.{each_two-push, each_two-last}
 use Rattle.tt_list_laws.proofs.Tested.{all_at}
@@ -24,7 +25,7 @@ use Rattle.tt_proof_sum.specs.declared.summed.Sum.{Sum}
 use Rattle.tt_text_peek.specs.declared.kind.FileKind.TheVariants as kind
 use Rattle.tt_prices_file.proofs.Once as prices
 use Rattle.tt_proof_sum.specs.Added.{IsPartOf, Joins, IsSumOf, Adds}
-use Rattle.tt_proof_sum.specs.Faults.{points, all_points, IsClaimedElsewhere, IsTooLarge, IsTargetClaimedElsewhere, ExplainsAdded, IsUnfinished}
+use Rattle.tt_proof_sum.specs.Faults.{points, all_points, AreSmall, IsLarge, IsSmall, IsClaimedElsewhere, IsTooLarge, IsTargetClaimedElsewhere, ExplainsAdded, IsUnfinished}
 use Rattle.tt_proof_sum.specs.Sums.{claimed_by, is_among, are_apart, TreePart, GroupsPart, PricesPart, Part, TreeProof, GroupsFile, PricesFile, IsTreePart, IsGroupsPart, IsPricesPart, IsPart, prices_targets, bound_of, claims_of, AreApart, both_bounds, sum_of}
 use Rattle.tt_proof_sum.specs.Tables.{State, claims_at}
 use Rattle.tt_proof_sum.proofs.Joining.{tree_claims}
@@ -74,19 +75,49 @@ claimed_in_tree tree before node more y e h =
     ∙ list_any-append among before (node ∷ more) ∙ or_right (list_any among before) (among node || list_any among more)
     (or_left (among node) (list_any among more) h)
 
+-- -- sums below 2^64
+
+not_large : (b : Bound) → IsSmall b → IsLarge b → ⊥
+not_large (AtLeast n) small large = omega (arith, small, large)
+not_large Nothing small large = absurd large
+
+small_bound : (b : Bound) → points b < 2 ^ 64 → IsSmall b
+small_bound (AtLeast n) h = h
+small_bound Nothing h = tt
+
+-- if all points add up to less than 2^64, so does the sum
+pub small_points : (parts : List Part) → all_points parts < 2 ^ 64 → IsSmall (sum_of parts)
+small_points parts h = small_bound (sum_of parts) (omega (arith, points-sum_of parts, h))
+
+pub small_none : AreSmall []
+small_none zero = omega arith
+small_none (suc n) = omega arith
+
+small_more : (parts : List Part) (part : Part) → AreSmall parts → IsSmall (sum_of (parts ++ part ∷ [])) → AreSmall (parts ++ part ∷ [])
+small_more parts part before small n = elim (cases_lt n (length parts + 1)) [
+  | inl less ↦ subst (λ (l : List Part). IsSmall (sum_of l)) (sym (take-append-le n parts (part ∷ []) (omega (arith, less)))) (before n)
+  | inr more ↦ subst (λ (l : List Part). IsSmall (sum_of l))
+      (sym (take_all n (parts ++ part ∷ []) (omega (arith, more, length-append parts (part ∷ []))))) small
+]
+
 -- -- the sum after adding
 
 pub adds : (p : Problem) (remaining : Option (List ℕ)) (s : Sum) (parts : List Part) (a : State) (b total : Bound) → IsSumOf s parts
-    → Joins p remaining parts a b → total ≡ both_bounds s.total b → Adds p remaining parts (record { table = a; total = total })
-adds p remaining s parts a b total of j e = (
+    → Joins p remaining parts a b → total ≡ both_bounds s.total b → IsSmall total
+    → Adds p remaining parts (record { table = a; total = total })
+adds p remaining s parts a b total of j e small = (
   j.part,
   j.is,
   record {
     table = j.table;
     apart = each_two-push (λ x y. are_apart (claims_of x) (claims_of y)) parts j.part of.apart j.apart;
-    total = e ∙ ap (λ x. both_bounds x b) of.total ∙ ap (both_bounds (sum_of parts)) (sym j.bound) ∙ sym (sum_of-push parts j.part);
+    total = e ∙ sum_is;
+    small = small_more parts j.part of.small (subst IsSmall (e ∙ sum_is) small);
   },
 )
+  where
+    sum_is : both_bounds s.total b ≡ sum_of (parts ++ j.part ∷ [])
+    sum_is = ap (λ x. both_bounds x b) of.total ∙ ap (both_bounds (sum_of parts)) (sym j.bound) ∙ sym (sum_of-push parts j.part)
 
 -- if the bytes are known, they spell the part
 pub spelled_part : (p : Problem) (remaining : Option (List ℕ)) (bytes : List ℕ) (k : Part) → remaining ≡ Some bytes
@@ -104,22 +135,22 @@ spelled_part p remaining bytes (PricesFile k) known is = record {
 }
 
 pub too_large : (p : Problem) (remaining : Option (List ℕ)) (s : Sum) (parts : List Part) (a : State) (b : Bound) → IsSumOf s parts
-    → Joins p remaining parts a b → 2 ^ 64 ≤ points s.total + points b → (bytes : List ℕ) → remaining ≡ Some bytes
+    → Joins p remaining parts a b → IsLarge (both_bounds s.total b) → (bytes : List ℕ) → remaining ≡ Some bytes
     → IsTooLarge p parts bytes
 too_large p remaining s parts a b of j large bytes known =
-    let total : points s.total ≡ points (sum_of parts) = ap points of.total in
-    let bound : points (bound_of j.part) ≡ points b = ap points j.bound in
+    let sum_is : both_bounds s.total b ≡ sum_of (parts ++ j.part ∷ []) =
+    ap (λ x. both_bounds x b) of.total ∙ ap (both_bounds (sum_of parts)) (sym j.bound) ∙ sym (sum_of-push parts j.part) in
     record {
       part = j.part;
       is = spelled_part p remaining bytes j.part known j.is;
       apart = j.apart;
-      large = omega (arith, large, total, bound, points-sum_of parts);
+      large = subst IsLarge sum_is large;
     }
 
 -- ---- faults
 
 -- if a tree claims a target that one of the parts claims, the two are not apart
-tree_meets : (p : Problem) → IsInstance p → (parts : List Part) (bytes : List ℕ) (k : TreePart) (i e : ℕ) → IsTreePart p bytes k
+pub tree_meets : (p : Problem) → IsInstance p → (parts : List Part) (bytes : List ℕ) (k : TreePart) (i e : ℕ) → IsTreePart p bytes k
     → AreApart (parts ++ TreeProof k ∷ []) → IsClaimedElsewhere p parts bytes i e → ⊥
 tree_meets p is parts bytes k i e spelled apart reported =
     let same = (spelled_once p is bytes reported.part.version k.version reported.part.bound k.bound reported.part.tree k.tree
@@ -134,7 +165,7 @@ tree_meets p is parts bytes k i e spelled apart reported =
 
 -- a tree proof that can be added has no fault
 tree_faultless : (p : Problem) → IsInstance p → (parts : List Part) (bytes : List ℕ) (k : TreePart) → IsTreePart p bytes k
-    → AreApart (parts ++ TreeProof k ∷ []) → all_points (parts ++ TreeProof k ∷ []) < 2 ^ 64 → (f : FileFault)
+    → AreApart (parts ++ TreeProof k ∷ []) → IsSmall (sum_of (parts ++ TreeProof k ∷ [])) → (f : FileFault)
     → ExplainsAdded p parts bytes f → ⊥
 tree_faultless p is parts bytes k spelled apart within (Proof f) reported =
     proved_faultless p is bytes k.bound (k.version, k.tree, spelled.spelled, spelled.derives) f reported.fault
@@ -148,12 +179,11 @@ tree_faultless p is parts bytes k spelled apart within (TargetClaimedElsewhere n
     let no : kind.Tree ≡ kind.Prices = kinds_same p bytes (TreeProof k) (PricesFile reported.part) spelled reported.is in cc
 tree_faultless p is parts bytes k spelled apart within TooLarge reported =
     let same : reported.part ≡ TreeProof k = same_part p is bytes reported.part (TreeProof k) reported.is spelled in
-    let points_same : points (bound_of reported.part) ≡ points k.bound = ap (λ (x : Part). points (bound_of x)) same in
-    omega (arith, reported.large, points_same, within, all_points-push parts (TreeProof k))
+    not_large (sum_of (parts ++ TreeProof k ∷ [])) within (subst (λ (x : Part). IsLarge (sum_of (parts ++ x ∷ []))) same reported.large)
 
 -- a file of groups that can be added is refused only if a claim's check wasn't finished
 groups_unfinished : (p : Problem) → IsInstance p → (parts : List Part) (bytes : List ℕ) (k : GroupsPart) → IsGroupsPart p bytes k
-    → AreApart (parts ++ GroupsFile k ∷ []) → all_points (parts ++ GroupsFile k ∷ []) < 2 ^ 64 → (f : FileFault)
+    → AreApart (parts ++ GroupsFile k ∷ []) → IsSmall (sum_of (parts ++ GroupsFile k ∷ [])) → (f : FileFault)
     → ExplainsAdded p parts bytes f → IsUnfinished f
 groups_unfinished p is parts bytes k spelled apart within (Proof f) reported =
     let no : kind.Groups ≡ kind.Tree = sym spelled.kind ∙ reported.kind in cc
@@ -167,11 +197,10 @@ groups_unfinished p is parts bytes k spelled apart within (TargetClaimedElsewher
     let no : kind.Groups ≡ kind.Prices = kinds_same p bytes (GroupsFile k) (PricesFile reported.part) spelled reported.is in cc
 groups_unfinished p is parts bytes k spelled apart within TooLarge reported =
     let same : reported.part ≡ GroupsFile k = same_part p is bytes reported.part (GroupsFile k) reported.is spelled in
-    let points_same : points (bound_of reported.part) ≡ k.bound = ap (λ (x : Part). points (bound_of x)) same in
-    absurd (omega (arith, reported.large, points_same, within, all_points-push parts (GroupsFile k)))
+    absurd (not_large (sum_of (parts ++ GroupsFile k ∷ [])) within (subst (λ (x : Part). IsLarge (sum_of (parts ++ x ∷ []))) same reported.large))
 
 -- if groups with prices claim a target that one of the parts claims, the two are not apart
-prices_meet : (p : Problem) → IsInstance p → (parts : List Part) (bytes : List ℕ) (k : PricesPart) (name : ClaimedTarget) (e : ℕ)
+pub prices_meet : (p : Problem) → IsInstance p → (parts : List Part) (bytes : List ℕ) (k : PricesPart) (name : ClaimedTarget) (e : ℕ)
     → IsPricesPart p bytes k → AreApart (parts ++ PricesFile k ∷ []) → IsTargetClaimedElsewhere p parts bytes name e → ⊥
 prices_meet p is parts bytes k name e spelled apart reported =
     let same = same_part p is bytes (PricesFile reported.part) (PricesFile k) reported.is spelled in
@@ -184,7 +213,7 @@ prices_meet p is parts bytes k name e spelled apart reported =
 
 -- a file of groups with prices that can be added is refused only if a group's check wasn't finished
 prices_unfinished : (p : Problem) → IsInstance p → (parts : List Part) (bytes : List ℕ) (k : PricesPart) → IsPricesPart p bytes k
-    → AreApart (parts ++ PricesFile k ∷ []) → all_points (parts ++ PricesFile k ∷ []) < 2 ^ 64 → (f : FileFault)
+    → AreApart (parts ++ PricesFile k ∷ []) → IsSmall (sum_of (parts ++ PricesFile k ∷ [])) → (f : FileFault)
     → ExplainsAdded p parts bytes f → IsUnfinished f
 prices_unfinished p is parts bytes k spelled apart within (Proof f) reported =
     let no : kind.Prices ≡ kind.Tree = sym spelled.kind ∙ reported.kind in cc
@@ -198,11 +227,10 @@ prices_unfinished p is parts bytes k spelled apart within (TargetClaimedElsewher
     prices_meet p is parts bytes k name e spelled apart reported
 prices_unfinished p is parts bytes k spelled apart within TooLarge reported =
     let same : reported.part ≡ PricesFile k = same_part p is bytes reported.part (PricesFile k) reported.is spelled in
-    let points_same : points (bound_of reported.part) ≡ k.header.bound = ap (λ (x : Part). points (bound_of x)) same in
-    absurd (omega (arith, reported.large, points_same, within, all_points-push parts (PricesFile k)))
+    absurd (not_large (sum_of (parts ++ PricesFile k ∷ [])) within (subst (λ (x : Part). IsLarge (sum_of (parts ++ x ∷ []))) same reported.large))
 
 pub only_unfinished : (p : Problem) → IsInstance p → (parts : List Part) (bytes : List ℕ) (part : Part) → IsPart p bytes part
-    → AreApart (parts ++ part ∷ []) → all_points (parts ++ part ∷ []) < 2 ^ 64 → (f : FileFault)
+    → AreApart (parts ++ part ∷ []) → IsSmall (sum_of (parts ++ part ∷ [])) → (f : FileFault)
     → ExplainsAdded p parts bytes f → IsUnfinished f
 only_unfinished p is parts bytes (TreeProof k) spelled apart within f reported =
     absurd (tree_faultless p is parts bytes k spelled apart within f reported)

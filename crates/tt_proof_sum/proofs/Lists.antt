@@ -22,7 +22,7 @@ use Rattle.tt_proof_sum.specs.declared.summed.Sum.{Sum}
 use Rattle.tt_proof_sum.specs.Added.{IsPartOf, IsSumOf, Adds, due, Give}
 use Rattle.tt_proof_sum.specs.Faults.{points, all_points, is_failed_read_at, IsReached, IsSumStop, ExplainsAdded, IsUnfinished}
 use Rattle.tt_proof_sum.specs.Sums.{are_apart, Part, IsPart, bound_of, claims_of, AreApart, sum_of, IsSum}
-use Rattle.tt_proof_sum.proofs.Added.{spelled_part, only_unfinished}
+use Rattle.tt_proof_sum.proofs.Added.{spelled_part, small_points, only_unfinished}
 use Rattle.tt_proof_sum.proofs.FailedReads.{this_read, other_read}
 use Rattle.tt_proof_sum.proofs.SpelledOnce.{same_part}
 use Rattle.tt_proof_sum.proofs.Together.{parts_hold, part_of_shows}
@@ -36,15 +36,15 @@ slice_get-set_other (y ∷ xs) zero (suc k) x ne = refl
 slice_get-set_other (y ∷ xs) (suc i) zero x ne = refl
 slice_get-set_other (y ∷ xs) (suc i) (suc k) x ne = slice_get-set_other xs i k x (λ e. ne (ap suc e))
 
-record Split {A B : Type 0} (R : A → B → Type 0) (xs : List A) (x : A) (ks : List B) : Type 0 where
-  first : List B
-  at : B
-  more : List B
-  split : ks ≡ first ++ at ∷ more
-  each : AllZip R xs first
-  one : R x at
+pub record Split {A B : Type 0} (R : A → B → Type 0) (xs : List A) (x : A) (ks : List B) : Type 0 where
+  pub first : List B
+  pub at : B
+  pub more : List B
+  pub split : ks ≡ first ++ at ∷ more
+  pub each : AllZip R xs first
+  pub one : R x at
 
-zip_split : {A B : Type 0} (R : A → B → Type 0) (xs : List A) (x : A) (ys : List A) (ks : List B) → AllZip R (xs ++ x ∷ ys) ks
+pub zip_split : {A B : Type 0} (R : A → B → Type 0) (xs : List A) (x : A) (ys : List A) (ks : List B) → AllZip R (xs ++ x ∷ ys) ks
     → Split R xs x ks
 zip_split R [] x ys [] h = absurd h
 zip_split R [] x ys (k ∷ ks) h = record { first = []; at = k; more = ks; split = refl; each = tt; one = h.0 }
@@ -81,7 +81,8 @@ module _ (p : Problem) (is : IsInstance p) where
       (subst AreApart split h.apart)).0 in
       let total = sum_by-append (λ (k : Part). points (bound_of k)) (r.parts ++ z.at ∷ []) z.more in
       let all : all_points h.parts ≡ all_points ((r.parts ++ z.at ∷ []) ++ z.more) = ap all_points split in
-      only_unfinished p is r.parts r.bytes z.at z.one apart (omega (arith, total, all, within)) f r.is
+      only_unfinished p is r.parts r.bytes z.at z.one apart
+      (small_points (r.parts ++ z.at ∷ []) (omega (arith, total, all, within))) f r.is
 
   -- files have at most one sum
   pub same_sum : (proofs : List (List ℕ)) (s t : Bound) → IsSum p proofs s → IsSum p proofs t → s ≡ t
@@ -215,6 +216,7 @@ module _ {R : Type 0} (p : Problem) (remaining : R → Option (List ℕ)) (faile
             parts = h.parts;
             each = zip_known p remaining (take i old) g.before h.parts g.each h.each;
             apart = h.of.apart;
+            small = h.of.small;
             numbered = numbered ∙ number;
             is = explains h.parts g.bytes h.of g.known;
           }

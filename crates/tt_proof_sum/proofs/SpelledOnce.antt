@@ -89,7 +89,7 @@ not_both_answers : (k : GroupClaim) (s t : Stream) → answer (Some k) s ≡ ans
 unfolding has_claim
 not_both_answers k s t e = let no : true ≡ false = ap has_claim e in cc
 
-claim_same : (x k : GroupClaim) (s t : Stream) → answer (Some x) s ≡ answer (Some k) t → (x ≡ k) × (s ≡ t)
+pub claim_same : (x k : GroupClaim) (s t : Stream) → answer (Some x) s ≡ answer (Some k) t → (x ≡ k) × (s ≡ t)
 claim_same x k s t e =
     let pair : (Some x, s) ≡ (Some k, t) = cc in
     let some : Some x ≡ Some k = ap (λ (z : Option GroupClaim × Stream). z.0) pair in
@@ -159,7 +159,7 @@ module _ (sizes : Sizes) where
 abbrev headed_by : ℕ → Stream → Result (ℕ × Stream) GroupTextFault
 headed_by b s = Ok (b, s)
 
-header_bound : (b c : ℕ) (s t : Stream) → headed_by b s ≡ headed_by c t → (b ≡ c) × (s ≡ t)
+pub header_bound : (b c : ℕ) (s t : Stream) → headed_by b s ≡ headed_by c t → (b ≡ c) × (s ≡ t)
 header_bound b c s t e =
     let same : (b, s) ≡ (c, t) = cc in
     (ap (λ (x : ℕ × Stream). x.0) same, ap (λ (x : ℕ × Stream). x.1) same)
@@ -236,7 +236,7 @@ split_among targets before y more split =
     (or_left (same_target y y) (is_among more y) (same_target-itself y))
 
 -- no target of a claim is a target of those before it
-claims_meet : (before : List GroupClaim) (k : GroupClaim) (more : List GroupClaim) (y : Target) → AreClaimsApart (before ++ k ∷ more)
+pub claims_meet : (before : List GroupClaim) (k : GroupClaim) (more : List GroupClaim) (y : Target) → AreClaimsApart (before ++ k ∷ more)
     → is_among (targets_of_claims before) y ≡ true → is_among (targets_in k) y ≡ true → ⊥
 claims_meet before k more y apart earlier here =
     let test : GroupClaim → GroupClaim → Bool = λ a b. are_apart (targets_in a) (targets_in b) in

@@ -12,6 +12,7 @@ use Rattle.tt_text_peek.specs.Fronts.{kind_of}
 use Rattle.tt_text_peek.specs.declared.kind.FileKind.{FileKind}
 use Rattle.tt_text_peek.specs.declared.kind.FileKind.TheVariants as kind
 use Rattle.tt_proof_check.specs.Streams.{sizes_of}
+use Rattle.tt_proof_sum.specs.Faults.{AreSmall}
 use Rattle.tt_proof_sum.specs.Sums.{are_apart, AreRight, ArePricesRight, TreePart, GroupsPart, PricesPart, Part, TreeProof, GroupsFile, PricesFile, bound_of, claims_of, AreApart, sum_of}
 use Rattle.tt_proof_sum.specs.Tables.{State, IsTableOf}
 
@@ -56,6 +57,7 @@ pub record IsSumOf (s : Sum) (parts : List Part) : Type 0 where
   pub table : IsTableOf s.table parts
   pub apart : AreApart parts
   pub total : s.total ≡ sum_of parts
+  pub small : AreSmall parts
 
 -- The number of the next file, counted from 1.
 abbrev pub due : Sum → ℕ

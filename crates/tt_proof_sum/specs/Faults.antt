@@ -1,5 +1,5 @@
 -- The meaning of the refusals of files that are added up.
-use Rattle.std.specs.Prelude.{◌≡◌, ℕ, ◌+◌, ◌≤◌, ◌^◌, Bool, true, ◌&&◌, ◌==◌, if◌then◌else◌, List, [], ◌∷◌, ◌++◌, length, sum_by, ⊤, ◌⊎◌}
+use Rattle.std.specs.Prelude.{◌≡◌, ℕ, ◌+◌, ◌<◌, ◌≤◌, ◌^◌, Bool, true, ◌&&◌, ◌==◌, if◌then◌else◌, List, [], ◌∷◌, ◌++◌, length, take, sum_by, ⊤, ◌⊎◌}
 use Rattle.std.specs.List.{list_all, AllZip}
 use Rattle.tt_stop.specs.Stops as stops
 use Rattle.tt_stop.specs.Stops.{mapped}
@@ -28,7 +28,7 @@ use Rattle.tt_proof_sum.specs.declared.fault.SumStop.{SumStop}
 use Rattle.tt_proof_sum.specs.declared.groups_fault.GroupsFault.{GroupsFault}
 use Rattle.tt_proof_sum.specs.declared.groups_fault.GroupsFault.TheVariants as groups
 use Rattle.tt_proof_sum.specs.GroupsFaults.{IsOfFile, IsLeftOpen, ExplainsGroups, FirstClaimed, IsClaimedBy}
-use Rattle.tt_proof_sum.specs.Sums.{are_apart, TreePart, PricesPart, Part, IsTreePart, IsPricesPart, IsPart, prices_targets, bound_of, claims_of, AreApart}
+use Rattle.tt_proof_sum.specs.Sums.{are_apart, TreePart, PricesPart, Part, IsTreePart, IsPricesPart, IsPart, prices_targets, bound_of, claims_of, AreApart, sum_of}
 use Rattle.tt_proof_sum.specs.Tables.{claims_at}
 
 -- -- another file, after those of these parts
@@ -55,12 +55,26 @@ points Nothing = 0
 abbrev pub all_points : List Part → ℕ
 all_points parts = sum_by (λ k. points (bound_of k)) parts
 
+-- The bound is a number below 2^64, or says that no timetable exists.
+abbrev pub IsSmall : Bound → Type 0
+IsSmall (AtLeast n) = n < 2 ^ 64
+IsSmall Nothing = ⊤
+
+-- The bound is a number of 2^64 or more.
+abbrev pub IsLarge : Bound → Type 0
+IsLarge (AtLeast n) = 2 ^ 64 ≤ n
+IsLarge Nothing = ⊥
+
+-- However many of the first parts are added up, their sum is small.
+abbrev pub AreSmall : List Part → Type 0
+AreSmall parts = (n : ℕ) → IsSmall (sum_of (take n parts))
+
 -- The file spells a part that is right and claims no target that one of the parts claims, and its bound and theirs add up to 2^64 or more.
 pub record IsTooLarge (p : Problem) (parts : List Part) (bytes : List ℕ) : Type 0 where
   pub part : Part
   pub is : IsPart p bytes part
   pub apart : list_all (λ k. are_apart (claims_of k) (claims_of part)) parts ≡ true
-  pub large : 2 ^ 64 ≤ all_points parts + points (bound_of part)
+  pub large : IsLarge (sum_of (parts ++ part ∷ []))
 
 -- The text is a tree proof, and has this fault.
 pub record IsTreeFault (p : Problem) (bytes : List ℕ) (f : CheckFault) : Type 0 where
@@ -110,6 +124,7 @@ pub record IsReached (p : Problem) (files : List (List ℕ)) (number : ℕ) (P :
   pub parts : List Part
   pub each : AllZip (IsPart p) before parts
   pub apart : AreApart parts
+  pub small : AreSmall parts
   pub numbered : number ≡ length parts + 1
   pub is : P parts bytes
 

@@ -3,7 +3,7 @@
 ghost use Rattle.std.specs.Prelude.{◌≡◌, ◌+◌, ◌<◌, ◌≤◌, ◌^◌, ℕ, List, [], ◌++◌, ◌∷◌, Some, Err, true, if◌then◌else◌, IfOk, MatchOption};
 ghost use Rattle.tt_proof_sum.specs.Added.{IsSumOf, Adds, due};
 ghost use Rattle.tt_stop.specs.Stops.{IfFault, is_read_failed};
-ghost use Rattle.tt_proof_sum.specs.Faults.{ExplainsAdded, HoldsNoStop, IsUnfinished, points, all_points};
+ghost use Rattle.tt_proof_sum.specs.Faults.{ExplainsAdded, HoldsNoStop, IsLarge, IsSmall, IsUnfinished, all_points};
 ghost use Rattle.tt_proof_sum.specs.Sums.{Part, IsPart, AreApart, both_bounds, sum_of};
 ghost use Rattle.tt_proof_sum.specs.UpToFailedRead.{IsFileCheckedUpToFailedRead};
 
@@ -18,7 +18,7 @@ use tt_text_peek::Peek;
 
 /// Returns the sum of two bounds if it is below 2^64.
 fn both(a: Bound, b: Bound) -> Option<Bound>
-    ensures { MatchOption result (2 ^ 64 ≤ points a + points b) (λ c. c ≡ both_bounds a b) }
+    ensures { MatchOption result (IsLarge (both_bounds a b)) (λ c. (c ≡ both_bounds a b) × IsSmall c) }
 {
     match (a, b) {
         (Bound::AtLeast(a), Bound::AtLeast(b)) => Some(Bound::AtLeast(a.checked_add(b)?)),

@@ -13,6 +13,7 @@ use Rattle.tt_rules.specs.Hard.{entries_of}
 use Rattle.tt_construct.specs.Inner.Filled.{HasMore}
 use Rattle.tt_search_complete.specs.Completed.{IsCompleted}
 use Rattle.tt_search_complete.specs.Inner.Progress.{AreMissing, Begins, IsCompletedTo}
+use Rattle.tt_search_complete.specs.Suiting.{AreSuited}
 
 pub begins_none : (t : List Cell) → Begins t t
 begins_none t = ([], sym (append-nil t))
@@ -30,6 +31,7 @@ completed_none p t inside = record {
   size = omega arith;
   placed = λ c h. absurd (omega arith);
   others = λ c h. refl;
+  suited = λ n e from below. absurd (omega (arith, from, below));
 }
 
 -- there is room for the lectures of all courses so far
@@ -42,13 +44,14 @@ max_sum : (a l : ℕ) → a + (l - a) ≡ max a l
 max_sum a l = omega arith
 
 pub completed_more : (p : Problem) (n m : ℕ) (t u v : List Cell) → IsCompletedTo p n t u → n < length p.courses
-    → m ≡ lectures p n - entries_of t n → HasMore p n m u v → Begins u v → IsCompletedTo p (n + 1) t v
-completed_more p n m t u v done h is more after = record {
+    → m ≡ lectures p n - entries_of t n → HasMore p n m u v → Begins u v → AreSuited p (length t) v → IsCompletedTo p (n + 1) t v
+completed_more p n m t u v done h is more after suited = record {
   in_range = more.in_range done.in_range;
   begins = begins_after t u v done.begins after;
   size = omega (arith, more.size, done.size, is, sum_by_more (λ (c : Course). c.lectures) p.courses n no_course h);
   placed = λ c l. elim (cases_eq n c) [ inl e ↦ here c e | inr e ↦ before c e (omega arith) ];
   others = λ c l. let e = ne_eqb n c (λ e. omega arith) in let k = rw e at (more.counts c) in omega (arith, k, done.others c (omega arith));
+  suited = suited;
 }
   where
     here : (c : ℕ) → n ≡ c → entries_of v c ≡ max (entries_of t c) (lectures p c)
@@ -74,4 +77,5 @@ completed_all p t u done = record {
   added = done.begins.0;
   begins = done.begins.1;
   lectures_placed = λ c h. done.placed c h;
+  suited = done.suited;
 }

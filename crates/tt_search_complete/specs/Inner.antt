@@ -1,2 +1,3 @@
 -- Definitions that only clauses of private functions name: not part of the trusted statement.
+pub mod Places
 pub mod Progress

@@ -1,2 +1,3 @@
 pub mod Completed
 pub mod Inner
+pub mod Suiting

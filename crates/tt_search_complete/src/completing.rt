@@ -3,6 +3,7 @@
 ghost use Rattle.std.specs.Prelude.{◌≡◌, ◌+◌, ◌<◌, ◌≤◌, ◌↔◌, [], length, Err, IfOk, OnOk};
 ghost use Rattle.tt_table.specs.Table.{IsTimetable};
 ghost use Rattle.tt_table.specs.declared.table.TheConstants.{MAX_ENTRIES};
+ghost use Rattle.tt_tallies.specs.Inner.Tables.{AreTables};
 ghost use Rattle.tt_search_complete.specs.Completed.{IsCompleted};
 ghost use Rattle.tt_search_complete.specs.Inner.Progress.{AreMissing, IsCompletedTo};
 ghost use Rattle.tt_search_complete.specs.declared.completing.TheConstants.{MOST_ENTRIES};
@@ -11,51 +12,55 @@ ghost use Rattle.tt_search_complete.specs.declared.fault.CompleteFault.TheVarian
 use crate::adding::add_lectures;
 use crate::fault::CompleteFault;
 use crate::missing::{count_missing, missing_at};
-use crate::taken_places::TakenPlaces;
 use std::alloc::{AllocError, Global};
 use tt_instance::{Instance, MAX_LECTURES};
 use tt_table::{MAX_ENTRIES, Timetable};
+use tt_tallies::Tables;
 
 /// The maximum number of entries of a timetable that is completed: all lectures of an instance may be missing.
 pub const MOST_ENTRIES: usize = MAX_ENTRIES - MAX_LECTURES as usize;
 
-/// Marks the places of the entries as taken.
-fn take_places(
+/// Returns the tables of a timetable.
+fn tables_of(
     alloc: Global,
     instance: &Instance<'_>,
     table: &Timetable,
-) -> Result<TakenPlaces, AllocError> {
-    let mut places = TakenPlaces::new(alloc, instance)?;
+) -> Result<Tables, AllocError>
+    requires in_range { IsTimetable instance.now table.now }
+    ensures { IfOk result (AreTables instance.now table.now) }
+{
+    let mut tables = Tables::new(alloc, instance)?;
     for entry in table.entries() {
-        places.take(*entry);
+        tables.add(instance, *entry);
     }
-    Ok(places)
+    Ok(tables)
 }
 
 /// Adds the lectures that are missing, course by course.
 fn add_all(
     instance: &Instance<'_>,
     table: &mut Timetable,
-    places: &mut TakenPlaces,
+    tables: &mut Tables,
     missing: &[u32],
 ) -> Result<(), AllocError>
     requires rooms { 0 < length instance.now.rooms }
     requires table { IsTimetable instance.now table.old }
     requires at_most { length table.old ≤ MOST_ENTRIES }
     requires missing { AreMissing instance.now table.old (length instance.now.courses) missing.now }
+    requires tables { AreTables instance.now table.old tables.old }
     ensures { OnOk result (IsCompletedTo instance.now (length instance.now.courses) table.old table.new) }
 {
     // Brings the instance's limits into the proof.
     prove!(instance.days() > 0);
     for course in 0..instance.courses() {
         let count = missing_at(missing, course);
-        add_lectures(instance, table, places, course, count)?;
+        add_lectures(instance, table, tables, course, count)?;
     }
     Ok(())
 }
 
 /// Adds entries until each course has its lectures: at free places where they conflict with the fewest entries. The existing entries remain
-/// unchanged, at the front. Nothing is promised about how well the added entries suit.
+/// unchanged, at the front.
 pub fn complete(
     alloc: Global,
     instance: &Instance<'_>,
@@ -73,8 +78,8 @@ pub fn complete(
         return Err(CompleteFault::NoRoom);
     }
     let missing = count_missing(alloc, instance, &table)?;
-    let mut places = take_places(alloc, instance, &table)?;
+    let mut tables = tables_of(alloc, instance, &table)?;
     let mut table = table;
-    add_all(instance, &mut table, &mut places, &missing)?;
+    add_all(instance, &mut table, &mut tables, &missing)?;
     Ok(table)
 }

@@ -5,7 +5,7 @@ mod adding;
 mod completing;
 mod fault;
 mod missing;
-mod taken_places;
+mod suiting;
 
 pub use completing::complete;
 pub use fault::CompleteFault;

@@ -1,8 +1,10 @@
 //! The output of `validate` for a solution.
 
+use std::alloc::Global;
 use std::test::Fail;
 use tt_table::MAX_ENTRIES;
-use tt_testing_runs::validated;
+use tt_testing_files::StoredFile;
+use tt_testing_runs::{Outcome, run_with, validated};
 use tt_testing_samples::{LONG, MINI, TOUR, TRIO, edited, repeated};
 
 #[test]
@@ -66,5 +68,45 @@ fn nothing_is_read_after_the_end(rt: HostRuntime) -> Result<(), Fail> {
     let outcome = validated(rt.alloc(), &joined, "a R 0 0 b R 0 1")?;
     let refused = "refused: instance: Expected END. at byte 183\n";
     assert_eq!(rt; outcome.answer(), (2, "", refused));
+    Ok(())
+}
+
+/// Returns the outcome of `validate --wishes` for both lectures of Mini.
+fn validated_with(alloc: Global, solution: &str, wishes: &str) -> Result<Outcome, Fail> {
+    let files = [
+        StoredFile::new("a.ctt", MINI.as_bytes()),
+        StoredFile::new("a.sol", solution.as_bytes()),
+        StoredFile::new("a.wishes", wishes.as_bytes()),
+    ];
+    run_with(
+        alloc,
+        &["validate", "a.ctt", "a.sol", "--wishes", "a.wishes"],
+        &files,
+    )
+}
+
+#[test]
+fn wishes_are_counted_after_the_score(rt: HostRuntime) -> Result<(), Fail> {
+    for (wishes, status, count) in [
+        ("hold a R 0 0\n", 0, 0),
+        ("hold a R 0 1\nclosed * 0 1\nroom b R\n", 1, 2),
+    ] {
+        let outcome = validated_with(rt.alloc(), "a R 0 0 b R 0 1", wishes)?;
+        let last = format!(in rt.alloc(); "hard 0\ncost 1\nwishes {count}\n")?;
+        assert_eq!(rt; (outcome.status, outcome.err.as_str()), (status, ""));
+        assert!(rt; outcome.out.ends_with(last.as_str()), "{}", outcome.out);
+    }
+    Ok(())
+}
+
+#[test]
+fn wishes_are_refused_after_the_solution(rt: HostRuntime) -> Result<(), Fail> {
+    for (solution, refused) in [
+        ("a R 0 0", "refused: wishes: UnknownCourse at byte 5\n"),
+        ("a R 0", "refused: solution: Ended at byte 5\n"),
+    ] {
+        let outcome = validated_with(rt.alloc(), solution, "hold c R 0 0")?;
+        assert_eq!(rt; outcome.answer(), (2, "", refused));
+    }
     Ok(())
 }

@@ -13,3 +13,5 @@ mod keeping;
 mod parts;
 #[cfg(test)]
 mod solving;
+#[cfg(test)]
+mod staying;

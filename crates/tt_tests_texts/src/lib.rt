@@ -12,4 +12,6 @@ mod tables;
 #[cfg(test)]
 mod texts;
 #[cfg(test)]
+mod wishes;
+#[cfg(test)]
 mod writing;

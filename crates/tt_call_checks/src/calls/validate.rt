@@ -16,7 +16,7 @@ use tt_rules::{Score, score};
 use tt_table::read_solution;
 
 /// Returns the ten lines of a score.
-fn score_text(alloc: Global, score: &Score) -> Result<Vec<u8>, AllocError>
+pub fn score_text(alloc: Global, score: &Score) -> Result<Vec<u8>, AllocError>
     ensures { IfOk result (λ out. out.items ≡ score_lines score.now) }
 {
     let mut out = Vec::new(alloc);

@@ -1,6 +1,7 @@
 //! The files of `improve`.
 
 use crate::dropping::drop_and_list;
+use crate::near::improve_priced;
 use crate::saving::kept_table;
 use std::io::Write;
 use tt_call_answers::{Answer, AppFault};
@@ -29,6 +30,17 @@ fn improve_shown<'k, R: World, E: Write>(
 ) -> Result<Answer, AppFault> {
     let table = kept_table(rt.alloc(), start.instance, out, search.keeps, false);
     let mut keeper = Keeper::new(rt, ticker, search.seconds, table, NoShelf, false);
+    let alloc = rt.alloc();
+    if let Some(period) = search.stay {
+        return improve_priced(
+            alloc,
+            start.instance,
+            start.solution,
+            search,
+            period,
+            &mut keeper,
+        );
+    }
     let Search {
         seed,
         steps,
@@ -42,13 +54,7 @@ fn improve_shown<'k, R: World, E: Write>(
         runs,
         completes,
     };
-    improve(
-        rt.alloc(),
-        start.instance,
-        start.solution,
-        search,
-        &mut keeper,
-    )
+    improve(alloc, start.instance, start.solution, search, &mut keeper)
 }
 
 /// Returns the answer of `improve`, once the timetable is in its file.

@@ -9,7 +9,7 @@ use Rattle.tt_prices.specs.Signed.{signed_sum}
 use Rattle.tt_prices_check.specs.Groups.{IsLeast}
 use Rattle.tt_prices_read.specs.Reading.{Part}
 use Rattle.tt_prices_read.specs.declared.header.Header.{Header}
-use Rattle.tt_prices_file.specs.Faults.{Pass, HasTooFewPlaces, IsTooCheap}
+use Rattle.tt_prices_file.specs.Faults.{Pass, IsFirstWithTooFewPlaces, IsTooCheap}
 use Rattle.tt_prices_file.specs.Files.{groups_of, curricula_in, courses_in, rents_in, room_scale}
 use Rattle.tt_prices_file.specs.Inner.Groups.{IsGroupFault}
 use Rattle.tt_prices_file.specs.Inner.Rents.{IsRentTable}
@@ -53,8 +53,8 @@ abbrev pub ExplainsRent : Account → ℕ → PricesFault → Type 0
 ExplainsRent a room (fault.RentedTwice r) = (r ≡ room) × (has_number a.rents.rooms.items room ≡ true)
 ExplainsRent a room _ = ⊥
 
--- The fault says that a course has too few places, or that the total is too low.
+-- The fault says which course is the first with too few places, or that the total is too low.
 abbrev pub ExplainsEnd : Problem → Header → List Part → PricesFault → Type 0
-ExplainsEnd p h parts (fault.TooFewPlaces c) = HasTooFewPlaces p c
+ExplainsEnd p h parts (fault.TooFewPlaces c) = IsFirstWithTooFewPlaces p c
 ExplainsEnd p h parts fault.TooCheap = IsTooCheap p h parts
 ExplainsEnd p h parts _ = ⊥

@@ -6,7 +6,7 @@ use Rattle.tt_prices.specs.Prices.{PricedGroup}
 use Rattle.tt_prices.specs.Signed.{signed_sum}
 use Rattle.tt_prices_read.specs.Reading.{RoomRents}
 use Rattle.tt_prices_rooms.specs.Terms.{IsTerm}
-use Rattle.tt_prices_file.specs.Faults.{HasTooFewPlaces}
+use Rattle.tt_prices_file.specs.Faults.{IsFirstWithTooFewPlaces}
 use Rattle.tt_prices_file.specs.Files.{rent_at}
 use Rattle.tt_prices_file.specs.declared.fault.PricesFault.{PricesFault}
 use Rattle.tt_prices_file.specs.declared.fault.PricesFault.TheVariants as fault
@@ -21,7 +21,7 @@ pub record AreTermsBelow (p : Problem) (scale : ℕ) (groups : List PricedGroup)
 abbrev pub AreTerms : Problem → ℕ → List PricedGroup → List RoomRents → ℤ → Type 0
 AreTerms p scale groups xs total = AreTermsBelow p scale groups xs (length p.courses) total
 
--- The fault names a course that has too few places.
+-- The fault names the first course that has too few places.
 abbrev pub IsTermFault : Problem → PricesFault → Type 0
-IsTermFault p (fault.TooFewPlaces c) = HasTooFewPlaces p c
+IsTermFault p (fault.TooFewPlaces c) = IsFirstWithTooFewPlaces p c
 IsTermFault p _ = ⊥

@@ -6,6 +6,7 @@ use Rattle.tt_instance.specs.Columns.{lectures_of}
 use Rattle.tt_instance.specs.declared.cell.Cell.{Cell}
 use Rattle.tt_table.specs.Table.{IsTimetable}
 use Rattle.tt_rules.specs.Hard.{entries_of}
+use Rattle.tt_search_complete.specs.Suiting.{AreSuited}
 
 -- the number of lectures of each of the first n courses that a timetable lacks
 pub record AreMissing (p : Problem) (t : List Cell) (n : ℕ) (missing : List ℕ) : Type 0 where
@@ -23,3 +24,4 @@ pub record IsCompletedTo (p : Problem) (n : ℕ) (t u : List Cell) : Type 0 wher
   pub size : length u ≤ length t + lectures_of (take n p.courses)
   pub placed : (c : ℕ) → c < n → entries_of u c ≡ max (entries_of t c) (lectures p c)
   pub others : (c : ℕ) → n ≤ c → entries_of u c ≡ entries_of t c
+  pub suited : AreSuited p (length t) u

@@ -6,7 +6,8 @@ use Rattle.tt_prices_day.proofs.Within.{word-of, within-more, within-plus}
 use Rattle.tt_prices_file.specs.Files.{rent_at}
 use Rattle.tt_prices_file.specs.Inner.Terms.{AreTermsBelow}
 use Rattle.tt_prices_file.proofs.Accounted.{sum_is_wide, sum_fits_wide}
-use Rattle.tt_prices_file.proofs.Termed.{if_some, prices_at, rents_at, prices_within, no_terms, term_more}
+use Rattle.tt_prices_file.proofs.Places.{no_term}
+use Rattle.tt_prices_file.proofs.Termed.{if_none, if_some, prices_at, rents_at, prices_within, no_terms, term_more}
 use Rattle.tt_prices_file.proofs.terms.sum_of_terms.Goals as goal
 
 pub loop-course-init : goal.loop-course-init
@@ -64,3 +65,19 @@ pub returns-clause-small : goal.returns-clause-small
 returns-clause-small c =
     within-more (c.loop-course.course * 2 ^ 62) (2 ^ 74) (to_z w128 c.loop-course.total-bits)
     (let top = c.courses-course-end.ensures.within in let stop = c.loop-course.auto.course-end in omega (arith, top, stop)) c.loop-course.invariant.small
+
+-- each course before has a term
+pub returns-in-None-clause-fault : goal.returns-in-None-clause-fault
+returns-in-None-clause-fault c =
+    let p = c.args.instance.now in
+    let scale = c.args.rents.now.prices.scale in
+    let groups = c.requires.prices.0 in
+    let xs = c.requires.rents.0 in
+    let before = c.loop-course.invariant.terms groups xs c.requires.prices.1 c.requires.rents.1 in
+    record {
+      few = (
+        omega (arith, c.loop-course-test.true, c.courses-course-end.ensures.value),
+        if_none _ c.in_ok-term.field-0 c.in-None.is c.in_ok-term.ensures.none,
+      );
+      first = λ d less few. no_term p scale groups (rent_at p.periods xs) d (before.terms d) few (before.are d less);
+    }

@@ -1,8 +1,8 @@
-use Rattle.std.proofs.Common.{refl}
+use Rattle.std.proofs.Common.{[], ◌∷◌, ◌++◌, refl}
 use Rattle.std.proofs.lemmas.Result.{err_from_is_err_and}
 use Rattle.tt_stop.proofs.Stops.{OnFault-weaker, passed_reads}
 use Rattle.tt_proof_sum.specs.declared.fault.FileFault.TheVariants.{TooLarge}
-use Rattle.tt_proof_sum.proofs.Added.{adds, too_large, only_unfinished}
+use Rattle.tt_proof_sum.proofs.Added.{adds, small_points, too_large, only_unfinished}
 use Rattle.tt_proof_sum.proofs.summed.Sum.add.Goals as goal
 
 pub returns-in_err-bound-clause-only : goal.returns-in_err-bound-clause-only
@@ -11,7 +11,8 @@ returns-in_err-bound-clause-only g c =
     λ parts bytes part of known is apart within.
     rw (e.1, e.2)
     (OnFault-weaker c.in_err-bound.field-0.0 _ _
-    (λ f explains. only_unfinished c.args.instance.now c.days.ensures.instance parts bytes part is apart within f
+    (λ f explains. only_unfinished c.args.instance.now c.days.ensures.instance parts bytes part is apart
+    (small_points (parts ++ part ∷ []) within) f
     (explains parts bytes of.table known)) c.in_err-bound.ensures.fault)
 
 pub returns-in_err-bound-clause-fault : goal.returns-in_err-bound-clause-fault
@@ -24,14 +25,15 @@ pub returns-in-Some-clause-added : goal.returns-in-Some-clause-added
 returns-in-Some-clause-added g c =
     λ parts of.
     adds c.args.instance.now (g.R.Source.remaining c.args.source.now) c.args.self parts c.take_file.new.table c.in_ok-bound.bound
-    c.in-Some.total of (c.in_ok-bound.ensures.joins parts of.table) c.in-Some.ensures
+    c.in-Some.total of (c.in_ok-bound.ensures.joins parts of.table) c.in-Some.ensures.0 c.in-Some.ensures.1
 
 pub returns-in-None-clause-only : goal.returns-in-None-clause-only
 returns-in-None-clause-only g c =
     λ parts bytes part of known is apart within.
     let large = too_large c.args.instance.now (g.R.Source.remaining c.args.source.now) c.args.self parts c.take_file.new.table
     c.in_ok-bound.bound of (c.in_ok-bound.ensures.joins parts of.table) c.in-None.ensures bytes known in
-    only_unfinished c.args.instance.now c.days.ensures.instance parts bytes part is apart within TooLarge large
+    only_unfinished c.args.instance.now c.days.ensures.instance parts bytes part is apart
+    (small_points (parts ++ part ∷ []) within) TooLarge large
 
 pub returns-in-None-clause-fault : goal.returns-in-None-clause-fault
 returns-in-None-clause-fault g c =

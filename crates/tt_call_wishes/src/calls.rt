@@ -1,0 +1,3 @@
+//! The calls, one file each.
+
+pub mod validate_wishes;

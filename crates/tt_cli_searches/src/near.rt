@@ -1,0 +1,51 @@
+//! The answer of `improve --stay`.
+
+use std::alloc::Global;
+use tt_call_answers::{Answer, AppFault};
+use tt_cli_arguments::Search as Asked;
+use tt_instance_read::read_instance;
+use tt_search_complete::complete;
+use tt_stay::{Search, Stay, improve_near, write_weight};
+use tt_table::{read_solution, write_solution};
+use tt_watch::Watch;
+
+/// A lecture that only leaves its room costs this part of the price of one that leaves its period.
+const ROOM_PART: u32 = 5;
+
+/// Returns the prices for the price of a lecture that leaves its period.
+fn prices(period: u32) -> Stay {
+    Stay {
+        period,
+        room: period.div_ceil(ROOM_PART),
+    }
+}
+
+/// Improves a solution, with this price of a lecture that leaves its period.
+pub fn improve_priced<W: Watch>(
+    alloc: Global,
+    instance: &[u8],
+    solution: &[u8],
+    asked: Asked,
+    period: u32,
+    watch: &mut W,
+) -> Result<Answer, AppFault> {
+    let instance = read_instance(alloc, instance)?;
+    let older = read_solution(alloc, &instance, solution)?;
+    let mut start = older.copy()?;
+    if asked.completes {
+        start = complete(alloc, &instance, start)?;
+    }
+    let search = Search {
+        seed: asked.seed,
+        steps: asked.steps,
+        runs: asked.runs,
+        stay: prices(period),
+    };
+    let near = improve_near(alloc, &instance, &older, start, search, watch)?;
+    Ok(Answer {
+        status: if near.weight.hard == 0 { 0 } else { 1 },
+        out: write_weight(alloc, near.weight)?,
+        table: Some(write_solution(alloc, &instance, &near.table)?),
+        proof: None,
+    })
+}

@@ -1,0 +1,5 @@
+use Rattle.tt_stay_search.specs.Rearranged.{IsRearranged}
+use Rattle.tt_stay.proofs.staying.search_in_runs.Given as goal
+
+abbrev pub invariant-loop-run : goal.invariant-loop-run
+invariant-loop-run g l = IsRearranged l.instance l.initial.table l.table

@@ -1,0 +1,129 @@
+//! The search near an older timetable.
+
+ghost use Rattle.std.specs.Prelude.{◌≡◌, IfOk, OnOk, map};
+ghost use Rattle.tt_table.specs.Table.{IsTimetable};
+ghost use Rattle.tt_stay_search.specs.Rearranged.{IsRearranged};
+
+use crate::drawing::try_draw;
+use crate::homes::Homes;
+use crate::nearest::Nearest;
+use crate::stay::Search;
+use std::alloc::{AllocError, Global};
+use tt_instance::Instance;
+use tt_occupancy::Occupied;
+use tt_plans_odds::Dice;
+use tt_table::{Entry, Timetable};
+use tt_watch::{Progress, Unit, Watch};
+
+/// The number of draws of a step.
+const DRAWS: u32 = 64;
+
+/// The number of steps between two reports to the watch, and between two questions whether the search is to end.
+const STEPS_BETWEEN: u64 = 16;
+
+/// The heat of the first step: three cost points more are a nat less likely.
+const FIRST_HEAT: u64 = 3_072;
+
+/// Returns the heat of a step: it falls to 0.
+fn heat_of(made: u64, steps: u64) -> i64 {
+    let left = steps.saturating_sub(made);
+    let share = u128::from(left).saturating_mul(u128::from(FIRST_HEAT));
+    let heat = share.checked_div(u128::from(steps)).unwrap_or(0);
+    i64::try_from(heat).unwrap_or(0)
+}
+
+/// What a search draws from.
+#[derive(Drop)]
+struct Drawer<'o> {
+    homes: Homes,
+    older: &'o [Entry],
+    dice: Dice,
+}
+
+/// Makes the draws of a step, and keeps the best timetable.
+fn make_draws(
+    occupied: &mut Occupied<'_, '_>,
+    nearest: &mut Nearest,
+    drawer: &mut Drawer<'_>,
+    heat: i64,
+) -> Result<(), AllocError>
+    requires { IsRearranged occupied.old.problem occupied.old.entries nearest.old.table }
+    ensures problem { occupied.new.problem ≡ occupied.old.problem }
+    ensures courses { map (λ e. e.course) occupied.new.entries ≡ map (λ e. e.course) occupied.old.entries }
+    ensures table { OnOk result (IsRearranged occupied.old.problem occupied.old.entries nearest.new.table) }
+{
+    for _ in 0..DRAWS {
+        let added = try_draw(
+            occupied,
+            &drawer.homes,
+            drawer.older,
+            &mut drawer.dice,
+            heat,
+        );
+        nearest.keep(occupied, added)?;
+    }
+    Ok(())
+}
+
+/// Reports the progress of a search.
+fn tell<W: Watch>(watch: &mut W, made: u64, steps: u64) {
+    watch.see(
+        Progress {
+            unit: Unit::Steps,
+            done: made,
+            limit: steps,
+            best: None,
+            bound: None,
+            tried: None,
+        },
+        &[],
+    );
+}
+
+/// Searches from a timetable; the watch may end the search. Returns the best timetable that was found.
+pub fn search_near<W: Watch>(
+    alloc: Global,
+    instance: &Instance<'_>,
+    older: &[Entry],
+    start: Timetable,
+    search: Search,
+    watch: &mut W,
+) -> Result<Timetable, AllocError>
+    requires { IsTimetable instance.now start }
+    ensures { IfOk result (IsRearranged instance.now start) }
+{
+    let Search {
+        seed,
+        steps,
+        stay,
+        ..
+    } = search;
+    let mut nearest = Nearest {
+        table: start.copy()?,
+        added: 0,
+        least: 0,
+    };
+    let Ok(mut occupied) = Occupied::new(alloc, instance, start) else {
+        return Err(AllocError);
+    };
+    let mut drawer = Drawer {
+        homes: Homes::new(alloc, instance, older, stay)?,
+        older,
+        dice: Dice::new(alloc, seed)?,
+    };
+    for made in 0..steps {
+        if made % STEPS_BETWEEN == 0 {
+            if watch.is_over() {
+                break;
+            }
+            tell(watch, made, steps);
+        }
+        make_draws(
+            &mut occupied,
+            &mut nearest,
+            &mut drawer,
+            heat_of(made, steps),
+        )?;
+    }
+    Ok(nearest.table)
+}

@@ -1,0 +1,3 @@
+-- Definitions that only clauses of private functions name: not part of the trusted statement.
+pub mod Listing
+pub mod Offsets

@@ -1,0 +1,190 @@
+-- No timetable that breaks no hard rule keeps two wishes that clash.
+use Rattle.std.proofs.Common.{◌≡◌, ℕ, ◌+◌, ◌<◌, true, false, cond, Bool, not, ◌&&◌, ◌||◌, List, [], ◌∷◌, length, take, get_or, Option, Some, None, refl, sym, subst, ◌∙◌, arith, eqb-true, eq-eqb, inl, inr}
+use Rattle.std.specs.Prelude.{◌==◌, Contains, position}
+use Rattle.std.specs.List.{list_any, position_from}
+use Rattle.std.proofs.lemmas.Bool.{both_ways, and_parts, and_from, or_cases, not-true, not_from_false, cases_lt}
+use Rattle.std.proofs.lemmas.Iterator.Adapters.{position_from-zero}
+use Rattle.std.proofs.lemmas.List.{get_or_default}
+use Rattle.std.proofs.lemmas.List.Folds.{list_any_more}
+use Rattle.std.proofs.lemmas.List.Quantifiers.{position-Some}
+use Rattle.tt_list_laws.specs.Words.{has_number}
+use Rattle.tt_list_laws.proofs.Members.{at_member, any_member, member_from_any, none_passes}
+use Rattle.tt_list_laws.proofs.Sums.{each_from_list_all}
+use Rattle.tt_list_laws.proofs.Truth.{wanted}
+use Rattle.tt_instance.specs.Problem.{Problem}
+use Rattle.tt_instance.specs.Cells.{is_of, same_cell}
+use Rattle.tt_instance.specs.Courses.{conflict}
+use Rattle.tt_instance.specs.declared.cell.Cell.{Cell}
+use Rattle.tt_rules.specs.Score.{IsFeasible}
+use Rattle.tt_path.specs.Facts.{agrees}
+use Rattle.tt_leaf_rules.proofs.Clash.{no_clash}
+use Rattle.tt_wishes.specs.Wishes.{is_there, is_held, is_only_in, is_empty, is_kept, broken_wishes}
+use Rattle.tt_wishes.specs.declared.wish.Place.{Place}
+use Rattle.tt_wishes.specs.declared.wish.Wish.{Wish}
+use Rattle.tt_wishes.specs.declared.wish.Wish.TheVariants.{Hold, Rooms, Closed}
+use Rattle.tt_wishes_clash.specs.Clashes.{both_give, covers, place_covers, is_other_room, holds_clash, clashes, clashes_with_any, AreClashing}
+
+-- ---- parts of places
+
+both_same : (a b : Option ℕ) (m n : ℕ) → both_give a b ≡ true → agrees a m ≡ true → agrees b n ≡ true → m ≡ n
+both_same None b m n h e f = absurd cc
+both_same (Some k) None m n h e f = absurd cc
+both_same (Some k) (Some l) m n h e f = sym (eqb-true k m e) ∙ eqb-true k l h ∙ eqb-true l n f
+
+covers_agrees : (a b : Option ℕ) (n : ℕ) → covers a b ≡ true → agrees b n ≡ true → agrees a n ≡ true
+covers_agrees None b n c e = refl
+covers_agrees (Some m) None n c e = absurd cc
+covers_agrees (Some m) (Some k) n c e = subst (λ (j : ℕ). (m == j) ≡ true) (eqb-true k n e) c
+
+other_unlisted : (rooms : List ℕ) (o : Option ℕ) (n : ℕ) → is_other_room rooms o ≡ true → agrees o n ≡ true → has_number rooms n ≡ false
+other_unlisted rooms None n h e = absurd cc
+other_unlisted rooms (Some r) n h e =
+    subst (λ (k : ℕ). has_number rooms k ≡ false) (eqb-true r n e) (not-true (has_number rooms r) h)
+
+or_second : (a b : Bool) → b ≡ true → (a || b) ≡ true
+or_second true b e = refl
+or_second false b e = e
+
+-- ---- a lecture that stays
+
+record Held (t : List Cell) (c : ℕ) (g : Place) : Type 0 where
+  entry : Cell
+  member : Contains t entry
+  course : is_of c entry ≡ true
+  room : agrees g.room entry.room ≡ true
+  day : agrees g.day entry.day ≡ true
+  period : agrees g.period entry.period ≡ true
+
+held_entry : (t : List Cell) (c : ℕ) (g : Place) → is_held t c g ≡ true → Held t c g
+held_entry t c g held =
+    let m = member_from_any (λ e. is_of c e && is_there g e) t held in
+    let a = and_parts (is_of c m.0) (is_there g m.0) m.2 in
+    let b = and_parts (agrees g.room m.0.room && agrees g.day m.0.day) (agrees g.period m.0.period) a.1 in
+    let d = and_parts (agrees g.room m.0.room) (agrees g.day m.0.day) b.0 in
+    record { entry = m.0; member = m.1; course = a.0; room = d.0; day = d.1; period = b.1 }
+
+-- it isn't in a place that stays empty
+held_in_closed : (t : List Cell) (c : ℕ) (g h : Place) → place_covers h g ≡ true → is_held t c g ≡ true → is_empty t h ≡ true → ⊥
+held_in_closed t c g h covered held empty =
+    let x = held_entry t c g held in
+    let a = and_parts (covers h.room g.room && covers h.day g.day) (covers h.period g.period) covered in
+    let b = and_parts (covers h.room g.room) (covers h.day g.day) a.0 in
+    let there : is_there h x.entry ≡ true =
+    and_from (agrees h.room x.entry.room && agrees h.day x.entry.day) (agrees h.period x.entry.period)
+    (and_from (agrees h.room x.entry.room) (agrees h.day x.entry.day) (covers_agrees h.room g.room x.entry.room b.0 x.room)
+    (covers_agrees h.day g.day x.entry.day b.1 x.day)) (covers_agrees h.period g.period x.entry.period a.1 x.period) in
+    let yes = any_member (is_there h) t x.entry x.member there in
+    both_ways (list_any (is_there h) t) (not-true (list_any (is_there h) t) empty) yes
+
+-- it is in one of its course's rooms
+held_in_other : (t : List Cell) (c : ℕ) (g : Place) (d : ℕ) (rooms : List ℕ) → ((c == d) && is_other_room rooms g.room) ≡ true
+    → is_held t c g ≡ true → is_only_in t d rooms ≡ true → ⊥
+held_in_other t c g d rooms other held kept =
+    let x = held_entry t c g held in
+    let a = and_parts (c == d) (is_other_room rooms g.room) other in
+    let of : is_of d x.entry ≡ true = subst (λ (k : ℕ). is_of k x.entry ≡ true) (eqb-true c d a.0) x.course in
+    let here = at_member (λ e. (not (is_of d e) || has_number rooms e.room) ≡ true) t x.entry
+    (each_from_list_all (λ e. not (is_of d e) || has_number rooms e.room) t kept) x.member in
+    let listed = wanted (is_of d x.entry) (has_number rooms x.entry.room) here of in
+    both_ways (has_number rooms x.entry.room) (other_unlisted rooms g.room x.entry.room a.1 x.room) listed
+
+module _ (p : Problem) (t : List Cell) (ok : IsFeasible p t) where
+  -- two lectures that stay are apart
+  held_twice : (c : ℕ) (g : Place) (d : ℕ) (h : Place) → holds_clash p c g d h ≡ true → is_held t c g ≡ true → is_held t d h ≡ true → ⊥
+  held_twice c g d h e held held_too =
+      let x = held_entry t c g held in
+      let y = held_entry t d h held_too in
+      let w = and_parts (both_give g.day h.day && both_give g.period h.period && not (c == d))
+      (both_give g.room h.room || conflict p c d) e in
+      let v = and_parts (both_give g.day h.day && both_give g.period h.period) (not (c == d)) w.0 in
+      let u = and_parts (both_give g.day h.day) (both_give g.period h.period) v.0 in
+      let first : x.entry.course ≡ c = eqb-true x.entry.course c x.course in
+      let second : y.entry.course ≡ d = eqb-true y.entry.course d y.course in
+      let differ : (x.entry.course == y.entry.course) ≡ false = rw (first, second) (not-true (c == d) v.1) in
+      let other : same_cell x.entry y.entry ≡ false = rw differ refl in
+      let days : (x.entry.day == y.entry.day) ≡ true =
+      eq-eqb x.entry.day y.entry.day (both_same g.day h.day x.entry.day y.entry.day u.0 x.day y.day) in
+      let periods : (x.entry.period == y.entry.period) ≡ true =
+      eq-eqb x.entry.period y.entry.period (both_same g.period h.period x.entry.period y.entry.period u.1 x.period y.period) in
+      let near : ((x.entry.room == y.entry.room) || (x.entry.course == y.entry.course) || conflict p x.entry.course y.entry.course) ≡ true =
+      elim (or_cases (both_give g.room h.room) (conflict p c d) w.1) [
+        | inl k ↦ rw (eq-eqb x.entry.room y.entry.room (both_same g.room h.room x.entry.room y.entry.room k x.room y.room)) refl
+        | inr k ↦ or_second ((x.entry.room == y.entry.room) || (x.entry.course == y.entry.course)) (conflict p x.entry.course y.entry.course)
+            (rw (first, second) k)
+      ] in
+      no_clash p t ok x.entry y.entry x.member y.member
+      (and_from (not (same_cell x.entry y.entry) && (x.entry.day == y.entry.day) && (x.entry.period == y.entry.period))
+      ((x.entry.room == y.entry.room) || (x.entry.course == y.entry.course) || conflict p x.entry.course y.entry.course)
+      (and_from (not (same_cell x.entry y.entry) && (x.entry.day == y.entry.day)) (x.entry.period == y.entry.period)
+      (and_from (not (same_cell x.entry y.entry)) (x.entry.day == y.entry.day) (not_from_false (same_cell x.entry y.entry) other) days)
+      periods) near)
+
+  -- ---- two wishes
+
+  not_both : (v w : Wish) → clashes p v w ≡ true → is_kept t v ≡ true → is_kept t w ≡ true → ⊥
+  not_both (Hold c g) (Hold d h) e v w = held_twice c g d h e v w
+  not_both (Hold c g) (Rooms d rooms) e v w = held_in_other t c g d rooms e v w
+  not_both (Hold c g) (Closed h) e v w = held_in_closed t c g h e v w
+  not_both (Rooms c rooms) w e k l = absurd cc
+  not_both (Closed g) w e k l = absurd cc
+
+  is_kept_in : (ws : List Wish) (w : Wish) → broken_wishes t ws ≡ 0 → Contains ws w → is_kept t w ≡ true
+  is_kept_in ws w none m =
+      let passes = none_passes (λ v. not (is_kept t v)) ws w none m in
+      elim (is_kept t w) as (λ b. not b ≡ false → b ≡ true) [ true ↦ (λ e. refl) | false ↦ (λ e. absurd cc) ] passes
+
+  some_broken : (ws : List Wish) (i j : ℕ) → AreClashing p ws i j → 0 < broken_wishes t ws
+  some_broken ws i j a = elim (cases_lt 0 (broken_wishes t ws)) [
+    | inl some ↦ some
+    | inr few ↦
+        let none : broken_wishes t ws ≡ 0 = omega (arith, few) in
+        absurd (not_both a.first a.second a.clash (is_kept_in ws a.first none (i, a.first_within, sym a.first_is))
+        (is_kept_in ws a.second none (j, a.second_within, sym a.second_is)))
+  ]
+
+pub clash_breaks : (p : Problem) (ws : List Wish) (i j : ℕ) → AreClashing p ws i j → (t : List Cell) → IsFeasible p t
+    → 0 < broken_wishes t ws
+clash_breaks p ws i j a t ok = some_broken p t ok ws i j a
+
+-- ---- the search for two of them
+
+none_from : {X : Type 0} (q : X → Bool) (i : ℕ) (xs : List X) → position_from q i xs ≡ None → list_any q xs ≡ false
+none_from q i [] e = refl
+none_from q i (x ∷ xs) e = by_test (q x) refl e (none_from q (i + 1) xs)
+  where
+    by_test : (b : Bool) → q x ≡ b → cond b (Some i) (position_from q (i + 1) xs) ≡ None
+        → (position_from q (i + 1) xs ≡ None → list_any q xs ≡ false) → list_any q (x ∷ xs) ≡ false
+    by_test true is h more = absurd cc
+    by_test false is h more = rw is (more h)
+
+-- a wish without a partner
+no_partner : (p : Problem) (ws : List Wish) (v : Wish) → position (clashes p v) ws ≡ None → clashes_with_any p ws v ≡ false
+no_partner p ws v e = none_from (clashes p v) 0 ws (sym (position_from-zero (clashes p v) ws) ∙ e)
+
+none_of_both : (a b : Bool) → a ≡ false → b ≡ false → (a || b) ≡ false
+none_of_both true b e f = absurd cc
+none_of_both false b e f = f
+
+-- one wish more without a partner
+pub one_more : (p : Problem) (ws : List Wish) (i : ℕ) (v : Wish) → i < length ws → v ≡ get_or ws i v
+    → list_any (clashes_with_any p ws) (take i ws) ≡ false → position (clashes p v) ws ≡ None
+    → list_any (clashes_with_any p ws) (take (i + 1) ws) ≡ false
+one_more p ws i v within is so_far e =
+    list_any_more (clashes_with_any p ws) ws i v within
+    ∙ none_of_both (list_any (clashes_with_any p ws) (take i ws)) (clashes_with_any p ws (get_or ws i v)) so_far
+    (subst (λ (u : Wish). clashes_with_any p ws u ≡ false) is (no_partner p ws v e))
+
+-- a wish with a partner
+pub partners : (p : Problem) (ws : List Wish) (i j : ℕ) (v : Wish) → i < length ws → v ≡ get_or ws i v
+    → position (clashes p v) ws ≡ Some j → AreClashing p ws i j
+partners p ws i j v within is e =
+    let at = position-Some (clashes p v) ws j v e in
+    record {
+      first = v;
+      second = get_or ws j v;
+      first_within = within;
+      first_is = is;
+      second_within = at.0;
+      second_is = get_or_default ws j v (get_or ws j v) at.0;
+      clash = at.1;
+    }
