@@ -1,5 +1,6 @@
 -- The answers of `page` and `proved_page`, from the results of their steps.
-use Rattle.std.proofs.Common.{◌≡◌, ℕ, List, Option, Ok, refl, subst}
+use Rattle.std.proofs.Common.{◌≡◌, ℕ, true, false, List, Option, Ok, refl, subst}
+use Rattle.std.specs.Prelude.{IsTrue}
 use Rattle.tt_text.specs.Reading.{FailsUnless}
 use Rattle.tt_text.specs.Sinks.{TakesPart}
 use Rattle.tt_instance.specs.Problem.{Problem}
@@ -11,6 +12,7 @@ use Rattle.tt_page.specs.Faults.{ExplainsSize}
 use Rattle.tt_page.specs.Limits.{IsWithinLimit}
 use Rattle.tt_page.specs.Pages.{page_text}
 use Rattle.tt_page.specs.declared.proved.Proved.{Proved}
+use Rattle.tt_page.specs.declared.sheet.Sheet.{Sheet}
 use Rattle.tt_page.specs.declared.fault.PageFault.{PageFault}
 use Rattle.tt_page.specs.declared.fault.PageFault.TheVariants as page
 use Rattle.tt_page_reason.specs.Explained.{IsProvedBy}
@@ -31,7 +33,7 @@ use Rattle.tt_call_answers.specs.FaultMaps.{fault_from_labels, fault_from_page, 
 use Rattle.tt_call_answers.specs.Refusals.{IsUnwritten}
 use Rattle.tt_call_names.specs.Names.{labels_for}
 use Rattle.tt_call_names.specs.declared.names.PageNames.{PageNames}
-use Rattle.tt_call_texts.specs.Paged.{IsNotPut, IsPageRefusal, IsProvedPageRefusal, wished_text}
+use Rattle.tt_call_texts.specs.Paged.{IsNotPut, IsPageRefusal, IsProvedPageRefusal, has_weeks, wished_text}
 use Rattle.tt_call_texts.specs.declared.calls.page.PageWish.{PageWish}
 use Rattle.tt_call_answers.specs.declared.fault.AppFault.{AppFault}
 use Rattle.tt_call_answers.specs.declared.fault.AppFault.TheVariants as fault
@@ -53,6 +55,13 @@ page_unwritten old new page.OutOfMemory large memory is = memory refl
 -- being out of memory says nothing of the size
 pub memory_not_put : (f : AppFault) (text : List ℕ) → f ≡ fault.OutOfMemory → IsNotPut f text
 memory_not_put f text e = rw e tt
+
+-- an instance that the bytes spell has the weeks that another reading of them has
+pub weeks_there : (i : List ℕ) (p read : Problem) (sheet : Option Sheet) → Spells i p → Spells i read → IsTrue (has_weeks p sheet)
+    → has_weeks read sheet ≡ false → ⊥
+weeks_there i p read sheet spells found there none =
+    let here : has_weeks read sheet ≡ true = subst (λ (q : Problem). has_weeks q sheet ≡ true) (spelled_once i p read spells found) there in
+    absurd cc
 
 module _ (i s : List ℕ) (p : Problem) (t : List Cell) (names : PageNames) (spelled : Spells i p) (solved : SpellsTable p s t) where
   both : SpellsBoth i s p t

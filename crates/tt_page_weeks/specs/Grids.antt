@@ -17,7 +17,7 @@ use Rattle.tt_page_plan.specs.Orders.{numbers_of}
 use Rattle.tt_page_plan.specs.Links.{week_link}
 use Rattle.tt_page_weeks.specs.Lectures.{hue_class, lecture_text}
 use Rattle.tt_table.specs.declared.kind.Kind.{Kind}
-use Rattle.tt_table.specs.declared.kind.Kind.TheVariants.{Room, Teacher, Curriculum}
+use Rattle.tt_table.specs.declared.kind.Kind.TheVariants.{Room, Curriculum}
 
 -- ---- cells
 

@@ -1,4 +1,4 @@
-use Rattle.std.proofs.Common.{ℕ, List, Err, refl, ap, subst, ◌∙◌}
+use Rattle.std.proofs.Common.{ℕ, List, Err, refl, ap, subst, sym, ◌∙◌}
 use Rattle.std.specs.Io.KnownBytes.{Appends}
 use Rattle.tt_page.specs.Limits.{IsWithinLimit}
 use Rattle.std.proofs.lemmas.Result.{err_from_is_err_and}
@@ -8,7 +8,7 @@ use Rattle.tt_call_answers.specs.Refusals.{is_failed_write}
 use Rattle.tt_call_answers.proofs.FailedReads.{passed, calm, instance_write, solution_write, labels_write, page_write}
 use Rattle.tt_call_answers.proofs.Files.{tells_instance, tells_solution, only_memory}
 use Rattle.tt_call_names.proofs.Fitting.{names_memory}
-use Rattle.tt_call_texts.proofs.Paging.{names_tell, plain_page_tells, page_same, output_tells, memory_not_put}
+use Rattle.tt_call_texts.proofs.Paging.{names_tell, plain_page_tells, page_same, output_tells, memory_not_put, weeks_there}
 use Rattle.tt_call_texts.proofs.calls.page.page.Goals as goal
 
 pub returns-in_err-instance-clause-only : goal.returns-in_err-instance-clause-only
@@ -43,6 +43,22 @@ returns-in_err-labels-clause-only g c =
     (memory_not_put _ _
     (names_memory c.args.instance.now p c.in_ok-instance.instance c.args.wish.names l c.in_err-labels.field-0.0 both.spelled
     c.in_ok-instance.ensures.found named c.in_err-labels.ensures))
+
+pub returns-then-not-has_weeks-clause-fault : goal.returns-then-not-has_weeks-clause-fault
+returns-then-not-has_weeks-clause-fault g c = record {
+  problem = c.in_ok-instance.instance;
+  table = c.in_ok-table.table;
+  labels = c.in_ok-labels.labels;
+  both = record { spelled = c.in_ok-instance.ensures.found; solved = c.in_ok-table.ensures.found };
+  named = c.in_ok-labels.ensures;
+  none = sym c.has_weeks.ensures ∙ c.if-not-has_weeks.true;
+}
+
+pub returns-then-not-has_weeks-clause-only : goal.returns-then-not-has_weeks-clause-only
+returns-then-not-has_weeks-clause-only g c =
+    λ p t l both named there. absurd
+    (weeks_there c.args.instance.now p c.in_ok-instance.instance c.args.wish.sheet both.spelled c.in_ok-instance.ensures.found there
+    (sym c.has_weeks.ensures ∙ c.if-not-has_weeks.true))
 
 pub returns-in_err-page-clause-only : goal.returns-in_err-page-clause-only
 returns-in_err-page-clause-only g c =
@@ -80,7 +96,7 @@ returns-clause-written g c =
             c.in_ok-page.ensures.written;
         done = refl;
       };
-      there = ?;
+      there = sym c.has_weeks.ensures ∙ c.if-not-has_weeks.false;
     }
 
 pub returns-clause-only : goal.returns-clause-only
