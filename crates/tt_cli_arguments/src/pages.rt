@@ -19,10 +19,10 @@ pub struct NamesWish<'a> {
 /// The weeks of a page that shows no more than them.
 #[derive(Clone, Copy, Debug)]
 pub enum WeeksWish<'a> {
-    /// Those of all rooms, of all teachers or of all curricula.
+    /// The weeks of all rooms, of all teachers or of all curricula.
     Section(By),
     Days,
-    /// Those of the room, the teacher and the curriculum of this name.
+    /// The weeks of the room, the teacher and the curriculum of this name.
     Named(&'a str),
 }
 

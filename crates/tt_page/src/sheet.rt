@@ -17,11 +17,11 @@ use tt_table::Kind;
 /// The weeks of a sheet.
 #[derive(Clone, Copy, Debug)]
 pub enum Sheet<'a> {
-    /// Those of all rooms, of all teachers or of all curricula.
+    /// The weeks of all rooms, of all teachers or of all curricula.
     Section(Kind),
     /// The days, each with all rooms.
     Days,
-    /// Those of the room, the teacher and the curriculum that have this name.
+    /// The weeks of the room, the teacher and the curriculum that have this name.
     Named(&'a [u8]),
 }
 
