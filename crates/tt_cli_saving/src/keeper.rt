@@ -66,7 +66,7 @@ impl<'k, F> KeptTable<'k, F> {
 
     /// Checks whether a timetable is better than the one that is stored, and is to be stored.
     fn is_wanted(&self, pair: Pair) -> bool
-        ensures { IsTrue result → MayReplace self.is_strict self.kept pair }
+        ensures { IsTrue result → MayReplace self.now.is_strict self.now.kept pair }
     {
         let is_better = match self.kept {
             Some(kept) => pair.is_below(kept),
@@ -85,8 +85,8 @@ impl<'k, F> KeptTable<'k, F> {
         pair: Pair,
         entries: &[Entry],
     ) -> Result<(), AllocError>
-        requires { MayReplace self.is_strict self.kept pair }
-        ensures { (self.new.kept ≡ self.kept) ⊎ (self.new.kept ≡ Some pair) }
+        requires { MayReplace self.old.is_strict self.old.kept pair }
+        ensures { (self.new.kept ≡ self.old.kept) ⊎ (self.new.kept ≡ Some pair) }
     {
         let Some(text) = text_of(rt.alloc(), &self.instance, entries) else {
             return Ok(());
