@@ -143,7 +143,10 @@ module _ (p : Problem) (parts : List Part) (s : Stream) (apart : AreApart parts)
       absurd (omega (arith, bound less.0 less.1, less.2))))
   told groups.TooCheap reported closed =
       inr (after_claims groups.TooCheap reported (sym (ap (verdict parts reported.claims) reported.is.1))
-      (λ ys on passed. let no : answer None reported.is.0 ≡ answer (Some on.claim) on.mid = sym reported.is.1 ∙ on.reads in absurd cc))
+      (λ ys on passed.
+      let no : answer None reported.is.0 ≡ answer (Some on.claim) on.mid = sym reported.is.1 ∙ on.reads in
+      let pair : (None, reported.is.0) ≡ (Some on.claim, on.mid) = cc in
+      let some : None ≡ Some on.claim = ap (λ (z : Option GroupClaim × Stream). z.0) pair in absurd cc))
 
   -- a header isn't both right and wrong
   headed_once : (b : ℕ) (headed : Stream) (t : GroupTextFault) → header_at s ≡ Ok (b, headed) → header_at s ≡ Err t → ⊥

@@ -239,10 +239,16 @@ module _ (p : Problem) (s : Stream) where
       (next_split reported.header.has_rooms reported.parts ys reported.rest reported.is.2 (GroupPart g) reported.is.3 on) passed reported.is.4.1))
   told (fault.TooFewPlaces c) reported closed =
       inr (after_parts (fault.TooFewPlaces c) reported (answer None reported.is.0) reported.is.1 (inl (c, refl, reported.is.2))
-      (λ ys on passed. let no : answer None reported.is.0 ≡ answer (Some on.part) on.mid = sym reported.is.1 ∙ on.reads in absurd cc))
+      (λ ys on passed.
+      let no : answer None reported.is.0 ≡ answer (Some on.part) on.mid = sym reported.is.1 ∙ on.reads in
+      let pair : (None, reported.is.0) ≡ (Some on.part, on.mid) = cc in
+      let some : None ≡ Some on.part = ap (λ (z : Option Part × Stream). z.0) pair in absurd cc))
   told fault.TooCheap reported closed =
       inr (after_parts fault.TooCheap reported (answer None reported.is.0) reported.is.1 (inr (refl, reported.is.2))
-      (λ ys on passed. let no : answer None reported.is.0 ≡ answer (Some on.part) on.mid = sym reported.is.1 ∙ on.reads in absurd cc))
+      (λ ys on passed.
+      let no : answer None reported.is.0 ≡ answer (Some on.part) on.mid = sym reported.is.1 ∙ on.reads in
+      let pair : (None, reported.is.0) ≡ (Some on.part, on.mid) = cc in
+      let some : None ≡ Some on.part = ap (λ (z : Option Part × Stream). z.0) pair in absurd cc))
 
   -- a header isn't both right and wrong
   headed_once : (h : Header) (headed : Stream) (t : PricesTextFault) → header_at s ≡ Ok (h, headed) → header_at s ≡ Err t → ⊥
