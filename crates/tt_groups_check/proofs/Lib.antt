@@ -1,3 +1,4 @@
 pub mod Adding
 pub mod CoursesAndSizes
 pub mod Places
+pub mod Reported
