@@ -1,7 +1,8 @@
-use Rattle.std.proofs.Common.{◌≡◌, ℕ, ◌<◌, inl, inr, List, length, drop, set, get_or-set_same, sym, ap, subst, ◌∙◌, arith, Vec}
+use Rattle.std.proofs.Common.{◌≡◌, ℕ, ◌+◌, ◌*◌, ◌<◌, ◌≤◌, inl, inr, List, length, drop, set, get_or-set_same, sym, ap, subst, ◌∙◌, arith, Vec}
 use Rattle.std.specs.Global.{Global}
 use Rattle.std.specs.Prelude.{All, slice_index}
 use Rattle.std.proofs.Math.ListN.{length-set}
+use Rattle.std.proofs.Math.Nat.{mul-le-mul_left, mul-le-mul_right}
 use Rattle.std.proofs.lemmas.List.{length-replicate, get_or-replicate}
 use Rattle.tt_groups_week.specs.Steps.{IsMadeFrom}
 use Rattle.tt_groups_week.specs.Fold.{AreReady}
@@ -40,6 +41,8 @@ loop-list-init c =
           (subst (λ (l : List ℕ). slice_index (set l 0 0) k < c.args.bound) table low) in
           subst (λ (n : ℕ). IsReachedPlace p g cs 0 n (slice_index (set items 0 0) k)) (sym at)
           (reached_first p g cs (slice_index (set items 0 0) k));
+      fewer = omega arith;
+      taken = λ n short. omega arith;
     }
 
 pub extend-requires-clause-ready : goal.extend-requires-clause-ready
@@ -95,7 +98,58 @@ loop-list-preserved c =
             c.index-lists-list.result table c.loop-list-test.true c.index-lists-list.is r
             (c.loop-list.invariant.reached p g cs s r) k (slice_index new k) g2
       ]);
+      fewer = omega (arith, c.loop-list.invariant.fewer, c.in_ok-extend.ensures.fewer);
+      taken = λ n short.
+          let i = slice_index a.of_day.now c.loop-list.list-index in
+          let inside = c.requires.inside c.loop-list.list-index 0 c.loop-list-test.true in
+          let few : length c.deref.result.now ≤ n =
+          omega (
+            arith,
+            short i c.index-lists-list.result inside,
+            ap (λ (v : Vec Move Global). length v.items) c.index-lists-list.is,
+            ap (λ (l : List Move). length l) c.deref.ensures.value,
+          ) in
+          let product : length c.deref-in-loop-list.result.now * length c.deref.result.now ≡ d.count * length c.deref.result.now =
+          ap (λ m. m * length c.deref.result.now) (ap length c.deref-in-loop-list.ensures.value ∙ whole) in
+          omega (
+            arith,
+            c.loop-list.invariant.taken n short,
+            c.in_ok-extend.ensures.taken,
+            product,
+            mul-le-mul_left d.count few,
+          );
     }
+
+pub returns-in_err-extend-clause-too_few : goal.returns-in_err-extend-clause-too_few
+returns-in_err-extend-clause-too_few c = λ is n short.
+    let a = c.args in
+    let d = a.digits.now in
+    let i = slice_index a.of_day.now c.loop-list.list-index in
+    let inside = c.requires.inside c.loop-list.list-index 0 c.loop-list-test.true in
+    let few : length c.deref.result.now ≤ n =
+    omega (
+      arith,
+      short i c.index-lists-list.result inside,
+      ap (λ (v : Vec Move Global). length v.items) c.index-lists-list.is,
+      ap (λ (l : List Move). length l) c.deref.ensures.value,
+    ) in
+    let product : length c.deref-in-loop-list.result.now * length c.deref.result.now ≡ d.count * length c.deref.result.now =
+    ap (λ m. m * length c.deref.result.now) (ap length c.deref-in-loop-list.ensures.value ∙ c.loop-list.invariant.whole) in
+    let less : c.loop-list.list-index + 1 ≤ length a.of_day.now = omega (arith, c.loop-list-test.true) in
+    omega (
+      arith,
+      c.loop-list.invariant.taken n short,
+      c.in_err-extend.ensures.too_few,
+      product,
+      mul-le-mul_left d.count few,
+      mul-le-mul_right (d.count * n) less,
+    )
+
+pub returns-clause-taken : goal.returns-clause-taken
+returns-clause-taken c = λ n short.
+    let d = c.args.digits.now in
+    let end : c.loop-list.list-index ≡ length c.args.of_day.now = omega (arith, c.loop-list-test.false, c.loop-list.auto.list-index-end) in
+    omega (arith, c.loop-list.invariant.taken n short, ap (λ m. m * (d.count * n)) end)
 
 pub returns-clause-holds : goal.returns-clause-holds
 returns-clause-holds c =

@@ -1,0 +1,8 @@
+-- The sequences of sets of a day, counted by their first set.
+use Rattle.std.proofs.Common.{◌≡◌, ℕ, zero, suc, ◌+◌, ◌*◌, ◌<◌, ap, arith}
+use Rattle.tt_groups_day.specs.Work.{sequences_of}
+
+-- each sequence begins with one of the sets, and is this set alone or goes on
+pub sequences_next : (k n m : ℕ) → n ≡ m + 1 → sequences_of k n ≡ k * (1 + sequences_of k m)
+sequences_next k zero m e = absurd (omega (arith, e))
+sequences_next k (suc n) m e = let same : n ≡ m = omega (arith, e) in ap (λ (i : ℕ). k * (1 + sequences_of k i)) same
