@@ -2,3 +2,4 @@ pub mod Adding
 pub mod CoursesAndSizes
 pub mod Places
 pub mod Reported
+pub mod Taken

@@ -117,8 +117,8 @@ pub fn check_group(
     ensures sequences { work.old.days.sequences ≤ MAX_SEQUENCES → work.new.days.sequences ≤ MAX_SEQUENCES }
     ensures tries { work.new.days.tries ≤ work.old.days.tries }
     ensures relaxations { work.new.relaxations ≤ work.old.relaxations }
-    ensures at_most { OnOk result ((work.old.days.tries ≤ work.new.days.tries + most_sequences instance.now group.now) ×
-        (work.old.relaxations ≤ work.new.relaxations + most_relaxations instance.now group.now)) }
+    ensures tries_taken { work.old.days.tries ≤ work.new.days.tries + most_sequences instance.now group.now }
+    ensures relaxations_taken { work.old.relaxations ≤ work.new.relaxations + most_relaxations instance.now group.now }
 {
     if is_too_wide(instance, group, value) {
         return Err(GroupFault::TooWide);

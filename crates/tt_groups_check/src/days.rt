@@ -42,7 +42,7 @@ pub fn lists_of(
     ensures sequences { work.new.sequences ≤ work.old.sequences }
     ensures tries { work.new.tries ≤ work.old.tries }
     ensures each_tried { work.old.sequences + work.new.tries ≤ work.old.tries + work.new.sequences }
-    ensures at_most { OnOk result (work.old.tries ≤ work.new.tries + instance.now.days * sequences_of (sets_count instance.now courses.now) instance.now.periods) }
+    ensures at_most { work.old.tries ≤ work.new.tries + instance.now.days * sequences_of (sets_count instance.now courses.now) instance.now.periods }
     ensures used_up { result ≡ Err fault.TooMuchWork → (sets_count instance.now courses.now ≤ MAX_SETS) × IsUsedUp work.new }
     ensures too_few { result ≡ Err fault.TooMuchWork →
         (work.old.sequences < instance.now.days * sequences_of (sets_count instance.now courses.now) instance.now.periods) ⊎

@@ -1,6 +1,6 @@
 //! The list of a day.
 
-ghost use Rattle.std.specs.Prelude.{◌≡◌, ◌⊎◌, ◌+◌, ◌<◌, ◌≤◌, length, All, Contains, IfOk, OnOk, Err};
+ghost use Rattle.std.specs.Prelude.{◌≡◌, ◌⊎◌, ◌+◌, ◌<◌, ◌≤◌, length, All, Contains, IfOk, Err};
 ghost use Rattle.tt_groups.specs.Listed.{AreCourses, IsDayList, IsReachedDay};
 ghost use Rattle.tt_groups.specs.declared.entry.DayEntry.{DayEntry};
 ghost use Rattle.tt_groups_day.specs.Choosing.{IsApart};
@@ -58,7 +58,7 @@ pub fn list_days(
     ensures tries { work.new.tries ≤ work.old.tries }
     ensures each_tried { work.old.sequences + work.new.tries ≤ work.old.tries + work.new.sequences }
     // No sequence of sets is tried twice.
-    ensures at_most { OnOk result (work.old.tries ≤ work.new.tries + sequences_of (length sets.now) instance.now.periods) }
+    ensures at_most { work.old.tries ≤ work.new.tries + sequences_of (length sets.now) instance.now.periods }
     ensures used_up { result ≡ Err fault.TooMuchWork → IsUsedUp work.new }
     ensures too_few { result ≡ Err fault.TooMuchWork → (work.old.sequences < sequences_of (length sets.now) instance.now.periods) ⊎
         (work.old.tries < sequences_of (length sets.now) instance.now.periods) }

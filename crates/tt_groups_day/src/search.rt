@@ -69,7 +69,7 @@ pub fn try_days(
     ensures tries { work.new.tries ≤ work.old.tries }
     ensures each_tried { work.old.sequences + work.new.tries ≤ work.old.tries + work.new.sequences }
     // No sequence is tried twice.
-    ensures at_most { OnOk result (work.old.tries ≤ work.new.tries + sequences_of (length sets.now) (length periods.now - period)) }
+    ensures at_most { work.old.tries ≤ work.new.tries + sequences_of (length sets.now) (length periods.now - period) }
     ensures used_up { OnErr result (IsUsedUp work.new) }
     ensures too_few { OnErr result ((work.old.sequences < sequences_of (length sets.now) (length periods.now - period)) ⊎
         (work.old.tries < sequences_of (length sets.now) (length periods.now - period))) }

@@ -1,6 +1,6 @@
 //! The table of a day, by the place of its lectures.
 
-ghost use Rattle.std.specs.Prelude.{◌≡◌, ◌⊎◌, ℕ, ◌+◌, ◌*◌, ◌<◌, ◌≤◌, [], List, length, slice_index, true, false, All, IfOk, OnOk, Err};
+ghost use Rattle.std.specs.Prelude.{◌≡◌, ◌⊎◌, ℕ, ◌+◌, ◌*◌, ◌<◌, ◌≤◌, [], List, length, slice_index, true, false, All, IfOk, Err};
 ghost use Rattle.tt_groups_day.specs.Choosing.{IsApart};
 ghost use Rattle.tt_groups_day.specs.Found.{AreDistinct, AreOpened, IsDayAt};
 ghost use Rattle.tt_groups.specs.Group as spec;
@@ -97,7 +97,7 @@ pub fn day_table(
     ensures tries { work.new.tries ≤ work.old.tries }
     ensures each_tried { work.old.sequences + work.new.tries ≤ work.old.tries + work.new.sequences }
     // No sequence of sets is tried twice.
-    ensures at_most { OnOk result (work.old.tries ≤ work.new.tries + sequences_of (length sets.now) instance.now.periods) }
+    ensures at_most { work.old.tries ≤ work.new.tries + sequences_of (length sets.now) instance.now.periods }
     ensures used_up { result ≡ Err fault.TooMuchWork → IsUsedUp work.new }
     ensures too_few { result ≡ Err fault.TooMuchWork → (work.old.sequences < sequences_of (length sets.now) instance.now.periods) ⊎
         (work.old.tries < sequences_of (length sets.now) instance.now.periods) }

@@ -91,7 +91,7 @@ pub fn extend(
         moves.now bound table.now k (slice_index next.new k)) }
     // Each move is tried at most once from each place.
     ensures fewer { relaxations.new ≤ relaxations.old }
-    ensures taken { OnOk result (relaxations.old ≤ relaxations.new + length table.now * length moves.now) }
+    ensures at_most { relaxations.old ≤ relaxations.new + length table.now * length moves.now }
     ensures used_up { OnErr result (relaxations.new ≡ 0) }
     ensures too_few { OnErr result (relaxations.old < length table.now * length moves.now) }
 {

@@ -1,6 +1,6 @@
 //! The table of the whole week.
 
-ghost use Rattle.std.specs.Prelude.{◌≡◌, ℕ, ◌<◌, ◌≤◌, ◌+◌, ◌*◌, List, length, slice_index, true, false, All, IfOk, OnOk, IsTrue, Err};
+ghost use Rattle.std.specs.Prelude.{◌≡◌, ℕ, ◌<◌, ◌≤◌, ◌+◌, ◌*◌, List, length, slice_index, true, false, All, IfOk, IsTrue, Err};
 ghost use Rattle.tt_groups.specs.Group as spec;
 ghost use Rattle.tt_groups.specs.Group.{IsGroupBound};
 ghost use Rattle.tt_groups.specs.Plans.{Week, IsPlan, base_cost, spent};
@@ -63,7 +63,7 @@ pub fn week_holds(
         (week : Week) × IsPlan p g week × (spent p g week p.days < bound)) }
     // Each move of each day is tried at most once from each place.
     ensures fewer { relaxations.new ≤ relaxations.old }
-    ensures taken { OnOk result ((n : ℕ) → AreShort n lists.now → relaxations.old ≤ relaxations.new + length of_day.now * (digits.now.count * n)) }
+    ensures at_most { (n : ℕ) → AreShort n lists.now → relaxations.old ≤ relaxations.new + length of_day.now * (digits.now.count * n) }
     ensures used_up { result ≡ Err fault.TooMuchWork → relaxations.new ≡ 0 }
     ensures too_few { result ≡ Err fault.TooMuchWork → (n : ℕ) → AreShort n lists.now → relaxations.old < length of_day.now * (digits.now.count * n) }
 {

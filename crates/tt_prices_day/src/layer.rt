@@ -64,7 +64,7 @@ pub fn next_layer(
     ensures reached { IfOk result (λ v. AreReached rules.now scale letters.now layer.now v.items) }
     ensures within { IfOk result (λ v. (n : ℕ) → All (IsNodeWithin n) layer.now → All (IsNodeWithin (n + 2 ^ 31)) v.items) }
     ensures fewer { steps.new ≤ steps.old }
-    ensures taken { OnOk result (steps.old ≤ steps.new + length layer.now * length letters.now) }
+    ensures taken { steps.old ≤ steps.new + length layer.now * length letters.now }
     ensures used_up { result ≡ Err fault.TooMuchWork → steps.new ≡ 0 }
     ensures too_few { result ≡ Err fault.TooMuchWork → steps.old < length layer.now * length letters.now }
 {
@@ -79,7 +79,7 @@ pub fn next_layer(
 /// Subtracts a step for each pair of a node and a letter.
 fn use_up(steps: &mut u64, nodes: u64, letters: u64) -> Result<(), DaysFault>
     ensures fewer { steps.new ≤ steps.old }
-    ensures taken { OnOk result (steps.old ≤ steps.new + nodes * letters) }
+    ensures taken { steps.old ≤ steps.new + nodes * letters }
     ensures used_up { result ≡ Err fault.TooMuchWork → steps.new ≡ 0 }
     ensures too_few { OnErr result (steps.old < nodes * letters) }
 {

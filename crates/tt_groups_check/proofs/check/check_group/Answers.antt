@@ -1,7 +1,7 @@
 use Rattle.tt_groups_check.specs.Faults.{fault_from_week}
 use Rattle.tt_groups_check.specs.Limits.{courses_of, states_of, sets_of}
 use Rattle.tt_groups_check.specs.declared.fault.GroupFault.TheVariants as fault
-use Rattle.std.proofs.Common.{get_or, ◌≤◌, ◌≡◌, ℕ, ◌+◌, ◌-◌, ◌*◌, ◌<◌, List, Err, length, sym, ap, ◌∙◌, subst, arith, inl, inr, Vec}
+use Rattle.std.proofs.Common.{get_or, ◌≤◌, ◌≡◌, ℕ, ◌+◌, ◌-◌, ◌*◌, ◌<◌, List, Err, length, refl, sym, ap, ◌∙◌, subst, arith, inl, inr, Vec}
 use Rattle.std.proofs.lemmas.Result.{err_from_is_err_and}
 use Rattle.std.specs.Global.{Global}
 use Rattle.std.specs.Prelude.{All}
@@ -17,6 +17,7 @@ use Rattle.tt_groups_check.specs.Lists.{AreOfDays}
 use Rattle.tt_groups_week.specs.declared.moves.Move.{Move}
 use Rattle.tt_groups_check.proofs.CoursesAndSizes.{narrow_from, courses_below, digits_between, digits_few, base_bound}
 use Rattle.tt_groups_check.proofs.Reported.{work_of_week}
+use Rattle.tt_groups_check.proofs.Taken.{sequences_same, relaxations_same}
 use Rattle.tt_groups.proofs.Built.{built, is_relaxed, built_cost}
 use Rattle.tt_groups_check.proofs.check.check_group.Goals as goal
 
@@ -163,73 +164,132 @@ returns-clause-too_cheap c = λ is.
 pub pay_tables-requires-clause-states : goal.pay_tables-requires-clause-states
 pay_tables-requires-clause-states c = c.in-Some.digits.are.limited
 
+pub returns-in_err-lists-clause-tries_taken : goal.returns-in_err-lists-clause-tries_taken
+returns-in_err-lists-clause-tries_taken c =
+    let p = c.args.instance.now in
+    let g = c.args.group.now in
+    let same = sequences_same p g c.deref-2.result.now (c.deref-2.ensures.value ∙ c.in_ok-courses.ensures.value) in
+    omega (arith, c.lists_of-lists.ensures.at_most, same)
+
+pub returns-in_err-pay_tables-clause-tries_taken : goal.returns-in_err-pay_tables-clause-tries_taken
+returns-in_err-pay_tables-clause-tries_taken c =
+    let p = c.args.instance.now in
+    let g = c.args.group.now in
+    let same = sequences_same p g c.deref-2.result.now (c.deref-2.ensures.value ∙ c.in_ok-courses.ensures.value) in
+    omega (arith, c.lists_of-lists.ensures.at_most, same)
+
+pub returns-in_err-holds-clause-tries_taken : goal.returns-in_err-holds-clause-tries_taken
+returns-in_err-holds-clause-tries_taken c =
+    let p = c.args.instance.now in
+    let g = c.args.group.now in
+    let same = sequences_same p g c.deref-2.result.now (c.deref-2.ensures.value ∙ c.in_ok-courses.ensures.value) in
+    omega (arith, c.lists_of-lists.ensures.at_most, same)
+
+pub returns-then-holds-clause-tries_taken : goal.returns-then-holds-clause-tries_taken
+returns-then-holds-clause-tries_taken c =
+    let p = c.args.instance.now in
+    let g = c.args.group.now in
+    let same = sequences_same p g c.deref-2.result.now (c.deref-2.ensures.value ∙ c.in_ok-courses.ensures.value) in
+    omega (arith, c.lists_of-lists.ensures.at_most, same)
+
+pub returns-clause-tries_taken : goal.returns-clause-tries_taken
+returns-clause-tries_taken c =
+    let p = c.args.instance.now in
+    let g = c.args.group.now in
+    let same = sequences_same p g c.deref-2.result.now (c.deref-2.ensures.value ∙ c.in_ok-courses.ensures.value) in
+    omega (arith, c.lists_of-lists.ensures.at_most, same)
+
+pub returns-in_err-pay_tables-clause-relaxations_taken : goal.returns-in_err-pay_tables-clause-relaxations_taken
+returns-in_err-pay_tables-clause-relaxations_taken c =
+    let p = c.args.instance.now in
+    let g = c.args.group.now in
+    let d = c.in-Some.digits in
+    let made = rw c.in-Some.is at c.in_ok-digits.ensures.made in
+    let sized : d.sizes.items ≡ group_sizes p g (courses_of p g) =
+    made.0 ∙ c.in_ok-sizes.ensures ∙ ap (group_sizes p g) (c.deref.ensures.value ∙ c.in_ok-courses.ensures.value) in
+    let count : d.count ≡ states_of p g = sym d.are.counted ∙ ap places sized in
+    let most = relaxations_same p.days (states_of p g) c.days.result d.count p.days c.days.ensures.value refl count in
+    omega (arith, c.in_err-pay_tables.ensures.too_few, most)
+
+pub returns-in_err-holds-clause-relaxations_taken : goal.returns-in_err-holds-clause-relaxations_taken
+returns-in_err-holds-clause-relaxations_taken c =
+    let p = c.args.instance.now in
+    let g = c.args.group.now in
+    let d = c.in-Some.digits in
+    let made = rw c.in-Some.is at c.in_ok-digits.ensures.made in
+    let sized : d.sizes.items ≡ group_sizes p g (courses_of p g) =
+    made.0 ∙ c.in_ok-sizes.ensures ∙ ap (group_sizes p g) (c.deref.ensures.value ∙ c.in_ok-courses.ensures.value) in
+    let count : d.count ≡ states_of p g = sym d.are.counted ∙ ap places sized in
+    let short = subst (λ (l : List (Vec Move Global)). AreShort d.count l) (sym c.deref-3.ensures.value) c.in_ok-lists.ensures.few in
+    let listed : length c.deref-4.result.now ≡ p.days = ap length c.deref-4.ensures.value ∙ c.in_ok-lists.ensures.all in
+    let most = relaxations_same p.days (states_of p g) c.days.result d.count (length c.deref-4.result.now) c.days.ensures.value listed count in
+    omega (arith, c.week_holds-holds.ensures.at_most d.count short, c.in_ok-pay_tables.ensures.paid, most)
+
+pub returns-then-holds-clause-relaxations_taken : goal.returns-then-holds-clause-relaxations_taken
+returns-then-holds-clause-relaxations_taken c =
+    let p = c.args.instance.now in
+    let g = c.args.group.now in
+    let d = c.in-Some.digits in
+    let made = rw c.in-Some.is at c.in_ok-digits.ensures.made in
+    let sized : d.sizes.items ≡ group_sizes p g (courses_of p g) =
+    made.0 ∙ c.in_ok-sizes.ensures ∙ ap (group_sizes p g) (c.deref.ensures.value ∙ c.in_ok-courses.ensures.value) in
+    let count : d.count ≡ states_of p g = sym d.are.counted ∙ ap places sized in
+    let short = subst (λ (l : List (Vec Move Global)). AreShort d.count l) (sym c.deref-3.ensures.value) c.in_ok-lists.ensures.few in
+    let listed : length c.deref-4.result.now ≡ p.days = ap length c.deref-4.ensures.value ∙ c.in_ok-lists.ensures.all in
+    let most = relaxations_same p.days (states_of p g) c.days.result d.count (length c.deref-4.result.now) c.days.ensures.value listed count in
+    omega (arith, c.week_holds-holds.ensures.at_most d.count short, c.in_ok-pay_tables.ensures.paid, most)
+
+pub returns-clause-relaxations_taken : goal.returns-clause-relaxations_taken
+returns-clause-relaxations_taken c =
+    let p = c.args.instance.now in
+    let g = c.args.group.now in
+    let d = c.in-Some.digits in
+    let made = rw c.in-Some.is at c.in_ok-digits.ensures.made in
+    let sized : d.sizes.items ≡ group_sizes p g (courses_of p g) =
+    made.0 ∙ c.in_ok-sizes.ensures ∙ ap (group_sizes p g) (c.deref.ensures.value ∙ c.in_ok-courses.ensures.value) in
+    let count : d.count ≡ states_of p g = sym d.are.counted ∙ ap places sized in
+    let short = subst (λ (l : List (Vec Move Global)). AreShort d.count l) (sym c.deref-3.ensures.value) c.in_ok-lists.ensures.few in
+    let listed : length c.deref-4.result.now ≡ p.days = ap length c.deref-4.ensures.value ∙ c.in_ok-lists.ensures.all in
+    let most = relaxations_same p.days (states_of p g) c.days.result d.count (length c.deref-4.result.now) c.days.ensures.value listed count in
+    omega (arith, c.week_holds-holds.ensures.at_most d.count short, c.in_ok-pay_tables.ensures.paid, most)
+
 pub returns-in_err-lists-clause-work_short : goal.returns-in_err-lists-clause-work_short
 returns-in_err-lists-clause-work_short c = λ is.
     let p = c.args.instance.now in
     let g = c.args.group.now in
+    let same = sequences_same p g c.deref-2.result.now (c.deref-2.ensures.value ∙ c.in_ok-courses.ensures.value) in
     let e = err_from_is_err_and c.from_residual-in_err-lists.result c.from_residual-in_err-lists.ensures.1 in
-    let same : c.in_err-lists.field-0.0 ≡ fault.TooMuchWork = cc (e.1, e.2, is) in
-    let most : p.days * sequences_of (sets_count p c.deref-2.result.now) p.periods ≡ p.days * sequences_of (sets_of p g) p.periods =
-    ap (λ (l : List ℕ). p.days * sequences_of (sets_count p l) p.periods) (c.deref-2.ensures.value ∙ c.in_ok-courses.ensures.value) in
-    elim (c.in_err-lists.ensures.too_few (ap Err same)) [
-      | inl few ↦ inl (omega (arith, few, most))
-      | inr few ↦ inr (inl (omega (arith, few, most)))
+    let fault_is : c.in_err-lists.field-0.0 ≡ fault.TooMuchWork = cc (e.1, e.2, is) in
+    elim (c.in_err-lists.ensures.too_few (ap Err fault_is)) [
+      | inl few ↦ inl (omega (arith, few, same))
+      | inr few ↦ inr (inl (omega (arith, few, same)))
     ]
 
 pub returns-in_err-pay_tables-clause-work_short : goal.returns-in_err-pay_tables-clause-work_short
-returns-in_err-pay_tables-clause-work_short c = λ error.
+returns-in_err-pay_tables-clause-work_short c = λ _.
     let p = c.args.instance.now in
     let g = c.args.group.now in
     let d = c.in-Some.digits in
-    let is = c.in_ok-courses.ensures.value in
     let made = rw c.in-Some.is at c.in_ok-digits.ensures.made in
     let sized : d.sizes.items ≡ group_sizes p g (courses_of p g) =
-    made.0 ∙ c.in_ok-sizes.ensures ∙ ap (group_sizes p g) (c.deref.ensures.value ∙ is) in
+    made.0 ∙ c.in_ok-sizes.ensures ∙ ap (group_sizes p g) (c.deref.ensures.value ∙ c.in_ok-courses.ensures.value) in
     let count : d.count ≡ states_of p g = sym d.are.counted ∙ ap places sized in
-    let price : 32 * (c.days.result * d.count) ≡ 32 * (p.days * d.count) = ap (λ n. 32 * (n * d.count)) c.days.ensures.value in
-    let most : p.days * (d.count * (32 + d.count)) ≡ p.days * (states_of p g * (32 + states_of p g)) =
-    ap (λ n. p.days * (n * (32 + n))) count in
-    inr (inr (omega (arith, c.in_err-pay_tables.ensures.too_few, price, most)))
+    let most = relaxations_same p.days (states_of p g) c.days.result d.count p.days c.days.ensures.value refl count in
+    inr (inr (omega (arith, c.in_err-pay_tables.ensures.too_few, most)))
 
 pub returns-in_err-holds-clause-work_short : goal.returns-in_err-holds-clause-work_short
-returns-in_err-holds-clause-work_short c = λ error.
+returns-in_err-holds-clause-work_short c = λ is.
     let p = c.args.instance.now in
     let g = c.args.group.now in
     let d = c.in-Some.digits in
-    let is = c.in_ok-courses.ensures.value in
     let made = rw c.in-Some.is at c.in_ok-digits.ensures.made in
     let sized : d.sizes.items ≡ group_sizes p g (courses_of p g) =
-    made.0 ∙ c.in_ok-sizes.ensures ∙ ap (group_sizes p g) (c.deref.ensures.value ∙ is) in
+    made.0 ∙ c.in_ok-sizes.ensures ∙ ap (group_sizes p g) (c.deref.ensures.value ∙ c.in_ok-courses.ensures.value) in
     let count : d.count ≡ states_of p g = sym d.are.counted ∙ ap places sized in
-    let price : 32 * (c.days.result * d.count) ≡ 32 * (p.days * d.count) = ap (λ n. 32 * (n * d.count)) c.days.ensures.value in
-    let most : p.days * (d.count * (32 + d.count)) ≡ p.days * (states_of p g * (32 + states_of p g)) =
-    ap (λ n. p.days * (n * (32 + n))) count in
     let short = subst (λ (l : List (Vec Move Global)). AreShort d.count l) (sym c.deref-3.ensures.value) c.in_ok-lists.ensures.few in
-    let days : length c.deref-4.result.now * (d.count * d.count) ≡ p.days * (d.count * d.count) =
-    ap (λ n. n * (d.count * d.count)) (ap length c.deref-4.ensures.value ∙ c.in_ok-lists.ensures.all) in
+    let listed : length c.deref-4.result.now ≡ p.days = ap length c.deref-4.ensures.value ∙ c.in_ok-lists.ensures.all in
+    let most = relaxations_same p.days (states_of p g) c.days.result d.count (length c.deref-4.result.now) c.days.ensures.value listed count in
     let e = err_from_is_err_and c.from_residual-in_err-holds.result c.from_residual-in_err-holds.ensures.1 in
-    let same : fault_from_week c.in_err-holds.field-0.0 ≡ fault.TooMuchWork = cc (e.1, e.2, error) in
-    let few = c.in_err-holds.ensures.too_few (ap Err (work_of_week c.in_err-holds.field-0.0 same)) d.count short in
-    inr (inr (omega (arith, few, c.in_ok-pay_tables.ensures.paid, days, price, most)))
-
-pub returns-then-holds-clause-at_most : goal.returns-then-holds-clause-at_most
-returns-then-holds-clause-at_most c =
-    let p = c.args.instance.now in
-    let g = c.args.group.now in
-    let d = c.in-Some.digits in
-    let is = c.in_ok-courses.ensures.value in
-    let made = rw c.in-Some.is at c.in_ok-digits.ensures.made in
-    let sized : d.sizes.items ≡ group_sizes p g (courses_of p g) =
-    made.0 ∙ c.in_ok-sizes.ensures ∙ ap (group_sizes p g) (c.deref.ensures.value ∙ is) in
-    let count : d.count ≡ states_of p g = sym d.are.counted ∙ ap places sized in
-    let price : 32 * (c.days.result * d.count) ≡ 32 * (p.days * d.count) = ap (λ n. 32 * (n * d.count)) c.days.ensures.value in
-    let most : p.days * (d.count * (32 + d.count)) ≡ p.days * (states_of p g * (32 + states_of p g)) =
-    ap (λ n. p.days * (n * (32 + n))) count in
-    let short = subst (λ (l : List (Vec Move Global)). AreShort d.count l) (sym c.deref-3.ensures.value) c.in_ok-lists.ensures.few in
-    let days : length c.deref-4.result.now * (d.count * d.count) ≡ p.days * (d.count * d.count) =
-    ap (λ n. n * (d.count * d.count)) (ap length c.deref-4.ensures.value ∙ c.in_ok-lists.ensures.all) in
-    let sequences : p.days * sequences_of (sets_count p c.deref-2.result.now) p.periods ≡ p.days * sequences_of (sets_of p g) p.periods =
-    ap (λ (l : List ℕ). p.days * sequences_of (sets_count p l) p.periods) (c.deref-2.ensures.value ∙ is) in (
-      omega (arith, c.in_ok-lists.ensures.at_most, sequences),
-      omega (arith, c.in_ok-holds.ensures.taken d.count short, c.in_ok-pay_tables.ensures.paid, days, price, most),
-    )
+    let fault_is : fault_from_week c.in_err-holds.field-0.0 ≡ fault.TooMuchWork = cc (e.1, e.2, is) in
+    let few = c.in_err-holds.ensures.too_few (ap Err (work_of_week c.in_err-holds.field-0.0 fault_is)) d.count short in
+    inr (inr (omega (arith, few, c.in_ok-pay_tables.ensures.paid, most)))

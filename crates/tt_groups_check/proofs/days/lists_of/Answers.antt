@@ -98,32 +98,69 @@ loop-day-preserved c =
           }
     ]
 
+-- ---- the work that is left
+
 pub returns-clause-at_most : goal.returns-clause-at_most
 returns-clause-at_most c =
     let p = c.args.instance.now in
-    let end : c.loop-day.day ≡ p.days = omega (arith, c.loop-day-test.false, c.loop-day.auto.day-end, c.days-day-end.ensures.value) in
-    let most : c.loop-day.day * sequences_of (length c.in_ok-sets.sets.items) p.periods
-    ≡ p.days * sequences_of (sets_count p c.args.courses.now) p.periods =
-    ap (λ n. n * sequences_of (length c.in_ok-sets.sets.items) p.periods) end
-    ∙ ap (λ n. p.days * sequences_of n p.periods) c.in_ok-sets.ensures.counted in
-    omega (arith, c.loop-day.invariant.at_most, most)
+    let all = sequences_of (sets_count p c.args.courses.now) p.periods in
+    let spent : c.loop-day.day * sequences_of (length c.in_ok-sets.sets.items) p.periods ≡ c.loop-day.day * all =
+    ap (λ n. c.loop-day.day * sequences_of n p.periods) c.in_ok-sets.ensures.counted in
+    let end : c.loop-day.day ≤ p.days = omega (arith, c.loop-day.auto.day-end, c.days-day-end.ensures.value) in
+    omega (arith, c.loop-day.invariant.at_most, spent, mul-le-mul_right all end)
 
--- a day is given up only if fewer sequences or fewer tries are left than all days can take
+pub returns-in_err-share-in-Some-clause-at_most : goal.returns-in_err-share-in-Some-clause-at_most
+returns-in_err-share-in-Some-clause-at_most c =
+    let p = c.args.instance.now in
+    let all = sequences_of (sets_count p c.args.courses.now) p.periods in
+    let spent : c.loop-day.day * sequences_of (length c.in_ok-sets.sets.items) p.periods ≡ c.loop-day.day * all =
+    ap (λ n. c.loop-day.day * sequences_of n p.periods) c.in_ok-sets.ensures.counted in
+    let less : c.loop-day.day + 1 ≤ p.days = omega (arith, c.loop-day-test.true, c.days-day-end.ensures.value) in
+    let most = mul-le-mul_right all less in
+    omega (arith, c.loop-day.invariant.at_most, spent, most)
+
+pub returns-in_err-entries-in-None-clause-at_most : goal.returns-in_err-entries-in-None-clause-at_most
+returns-in_err-entries-in-None-clause-at_most c =
+    let p = c.args.instance.now in
+    let all = sequences_of (sets_count p c.args.courses.now) p.periods in
+    let spent : c.loop-day.day * sequences_of (length c.in_ok-sets.sets.items) p.periods ≡ c.loop-day.day * all =
+    ap (λ n. c.loop-day.day * sequences_of n p.periods) c.in_ok-sets.ensures.counted in
+    let less : c.loop-day.day + 1 ≤ p.days = omega (arith, c.loop-day-test.true, c.days-day-end.ensures.value) in
+    let most = mul-le-mul_right all less in
+    let here : sequences_of (length c.deref-in-None-3.result.now) p.periods ≡ all =
+    ap (λ (l : List CourseSet). sequences_of (length l) p.periods) c.deref-in-None-3.ensures.value
+    ∙ ap (λ n. sequences_of n p.periods) c.in_ok-sets.ensures.counted in
+    omega (arith, c.loop-day.invariant.at_most, c.list_days-entries-in-None.ensures.at_most, spent, here, most)
+
+pub returns-in_err-add-in-None-clause-at_most : goal.returns-in_err-add-in-None-clause-at_most
+returns-in_err-add-in-None-clause-at_most c =
+    let p = c.args.instance.now in
+    let all = sequences_of (sets_count p c.args.courses.now) p.periods in
+    let spent : c.loop-day.day * sequences_of (length c.in_ok-sets.sets.items) p.periods ≡ c.loop-day.day * all =
+    ap (λ n. c.loop-day.day * sequences_of n p.periods) c.in_ok-sets.ensures.counted in
+    let less : c.loop-day.day + 1 ≤ p.days = omega (arith, c.loop-day-test.true, c.days-day-end.ensures.value) in
+    let most = mul-le-mul_right all less in
+    let here : sequences_of (length c.deref-in-None-3.result.now) p.periods ≡ all =
+    ap (λ (l : List CourseSet). sequences_of (length l) p.periods) c.deref-in-None-3.ensures.value
+    ∙ ap (λ n. sequences_of n p.periods) c.in_ok-sets.ensures.counted in
+    omega (arith, c.loop-day.invariant.at_most, c.in_ok-entries-in-None.ensures.at_most, spent, here, most)
+
 pub returns-in_err-entries-in-None-clause-too_few : goal.returns-in_err-entries-in-None-clause-too_few
 returns-in_err-entries-in-None-clause-too_few c = λ is.
     let p = c.args.instance.now in
     let all = sequences_of (sets_count p c.args.courses.now) p.periods in
+    let spent : c.loop-day.day * sequences_of (length c.in_ok-sets.sets.items) p.periods ≡ c.loop-day.day * all =
+    ap (λ n. c.loop-day.day * sequences_of n p.periods) c.in_ok-sets.ensures.counted in
+    let less : c.loop-day.day + 1 ≤ p.days = omega (arith, c.loop-day-test.true, c.days-day-end.ensures.value) in
+    let most = mul-le-mul_right all less in
+    let here : sequences_of (length c.deref-in-None-3.result.now) p.periods ≡ all =
+    ap (λ (l : List CourseSet). sequences_of (length l) p.periods) c.deref-in-None-3.ensures.value
+    ∙ ap (λ n. sequences_of n p.periods) c.in_ok-sets.ensures.counted in
+    let before = c.loop-day.invariant in
     let e = err_from_is_err_and c.from_residual-in_err-entries-in-None.result c.from_residual-in_err-entries-in-None.ensures.1 in
     let same : fault_from_days c.in_err-entries-in-None.field-0.0 ≡ fault.TooMuchWork = cc (e.1, e.2, is) in
     let few = c.in_err-entries-in-None.ensures.too_few (ap Err (work_of_day c.in_err-entries-in-None.field-0.0 same)) in
-    let counted = ap (λ n. sequences_of n p.periods) c.in_ok-sets.ensures.counted in
-    let here = ap (λ (l : List CourseSet). sequences_of (length l) p.periods) c.deref-in-None-3.ensures.value in
-    let before = c.loop-day.invariant in
-    let spent : c.loop-day.day * sequences_of (length c.in_ok-sets.sets.items) p.periods ≡ c.loop-day.day * all =
-    ap (λ n. c.loop-day.day * n) counted in
-    let less : c.loop-day.day + 1 ≤ p.days = omega (arith, c.loop-day-test.true, c.days-day-end.ensures.value) in
-    let most = mul-le-mul_right all less in
     elim few [
-      | inl sequences ↦ inl (omega (arith, sequences, before.each_tried, before.at_most, here, counted, spent, most))
-      | inr tries ↦ inr (omega (arith, tries, before.at_most, here, counted, spent, most))
+      | inl sequences ↦ inl (omega (arith, sequences, before.each_tried, before.at_most, spent, here, most))
+      | inr tries ↦ inr (omega (arith, tries, before.at_most, spent, here, most))
     ]

@@ -1,6 +1,5 @@
 use Rattle.std.proofs.Common.{◌≡◌, ℕ, ◌+◌, ◌-◌, ◌*◌, ◌<◌, ◌≤◌, inl, inr, List, length, get_or, sym, ap, ◌∙◌, subst, arith}
 use Rattle.std.specs.Prelude.{◌⊎◌, slice_index}
-use Rattle.std.proofs.Math.Nat.{mul-le-mul_right}
 use Rattle.std.proofs.lemmas.List.Elements.{Contains-get_or}
 use Rattle.std.proofs.lemmas.Result.{err_from_is_err_and}
 use Rattle.tt_groups.proofs.Lists.{made-more}
@@ -9,7 +8,7 @@ use Rattle.tt_groups_day.proofs.Finding.{found-end, found-next}
 use Rattle.tt_groups_day.specs.Sets.{Falls, IsTriedWith}
 use Rattle.tt_groups_day.specs.Work.{sequences_of}
 use Rattle.tt_groups_day.specs.declared.work.DayWork.{DayWork}
-use Rattle.tt_groups_day.proofs.Sequences.{sequences_next}
+use Rattle.tt_groups_day.proofs.Sequences.{sequences_first}
 use Rattle.tt_groups_day.proofs.Searching.{tried-end, tried-all, with-more, with-next, day_at, no_set, no_period}
 use Rattle.tt_groups_day.proofs.search.+try_days.Goals as goal
 use Rattle.tt_groups_day.proofs.search.+try_days.Goals.{in-Some+in_ok-take_sequence+in_ok-try_days, in_default}
@@ -115,42 +114,72 @@ loop-set-preserved t c =
 pub returns-clause-at_most : goal.returns-clause-at_most
 returns-clause-at_most t c =
     let k = length c.args.sets.now in
+    let n = length c.args.periods.now - c.args.period in
     let rest = length c.args.periods.now - (c.args.period + 1) in
-    let next = sequences_next k (length c.args.periods.now - c.args.period) rest (omega (arith, c.requires.inside, c.if-period-periods.false)) in
-    let end : c.loop-set.set-index ≡ k = omega (arith, c.loop-set-test.false, c.loop-set.auto.set-index-end) in
-    omega (arith, c.loop-set.invariant.at_most, next, ap (λ n. n * (1 + sequences_of k rest)) end)
+    let last : n ≡ rest + 1 = omega (arith, c.requires.inside, c.if-period-periods.false) in
+    let all = sequences_first k n c.loop-set.set-index rest last (omega (arith, c.loop-set.auto.set-index-end)) in
+    omega (arith, c.loop-set.invariant.at_most, all)
+
+pub returns-in_err-take_try-clause-at_most : goal.returns-in_err-take_try-clause-at_most
+returns-in_err-take_try-clause-at_most t c =
+    let k = length c.args.sets.now in
+    let n = length c.args.periods.now - c.args.period in
+    let rest = length c.args.periods.now - (c.args.period + 1) in
+    let last : n ≡ rest + 1 = omega (arith, c.requires.inside, c.if-period-periods.false) in
+    let all = sequences_first k n (c.loop-set.set-index + 1) rest last (omega (arith, c.loop-set-test.true)) in
+    omega (arith, c.loop-set.invariant.at_most, c.in_err-take_try.ensures.used_up.0, all)
+
+pub returns-in_err-take_sequence-clause-at_most : goal.returns-in_err-take_sequence-clause-at_most
+returns-in_err-take_sequence-clause-at_most t c =
+    let k = length c.args.sets.now in
+    let n = length c.args.periods.now - c.args.period in
+    let rest = length c.args.periods.now - (c.args.period + 1) in
+    let last : n ≡ rest + 1 = omega (arith, c.requires.inside, c.if-period-periods.false) in
+    let all = sequences_first k n (c.loop-set.set-index + 1) rest last (omega (arith, c.loop-set-test.true)) in
+    omega (arith, c.loop-set.invariant.at_most, c.in_ok-take_try.ensures.taken, c.take_sequence.ensures.tries, all)
+
+pub returns-in_err-try_days-clause-at_most : goal.returns-in_err-try_days-clause-at_most
+returns-in_err-try_days-clause-at_most t c =
+    let k = length c.args.sets.now in
+    let n = length c.args.periods.now - c.args.period in
+    let rest = length c.args.periods.now - (c.args.period + 1) in
+    let last : n ≡ rest + 1 = omega (arith, c.requires.inside, c.if-period-periods.false) in
+    let all = sequences_first k n (c.loop-set.set-index + 1) rest last (omega (arith, c.loop-set-test.true)) in
+    omega (
+      arith,
+      c.loop-set.invariant.at_most,
+      c.in_ok-take_try.ensures.taken,
+      c.in_ok-take_sequence.ensures.tries,
+      c.try_days.ensures.at_most,
+      all,
+    )
 
 pub returns-in_err-take_try-clause-too_few : goal.returns-in_err-take_try-clause-too_few
 returns-in_err-take_try-clause-too_few t c =
     let k = length c.args.sets.now in
+    let n = length c.args.periods.now - c.args.period in
     let rest = length c.args.periods.now - (c.args.period + 1) in
-    let next = sequences_next k (length c.args.periods.now - c.args.period) rest (omega (arith, c.requires.inside, c.if-period-periods.false)) in
-    let less : c.loop-set.set-index + 1 ≤ k = omega (arith, c.loop-set-test.true) in
-    let few : c.args.work.now.tries < sequences_of k (length c.args.periods.now - c.args.period) =
-    omega (
-      arith,
-      c.loop-set.invariant.at_most,
-      c.in_err-take_try.ensures.used_up.0,
-      next,
-      mul-le-mul_right (1 + sequences_of k rest) less,
-    ) in
+    let last : n ≡ rest + 1 = omega (arith, c.requires.inside, c.if-period-periods.false) in
+    let all = sequences_first k n (c.loop-set.set-index + 1) rest last (omega (arith, c.loop-set-test.true)) in
+    let few : c.args.work.now.tries < sequences_of k n =
+    omega (arith, c.loop-set.invariant.at_most, c.in_err-take_try.ensures.used_up.0, all) in
     let e = err_from_is_err_and c.from_residual.result c.from_residual.ensures.1 in rw e.1 (inr few)
 
 pub returns-in_err-take_sequence-clause-too_few : goal.returns-in_err-take_sequence-clause-too_few
 returns-in_err-take_sequence-clause-too_few t c =
     let k = length c.args.sets.now in
+    let n = length c.args.periods.now - c.args.period in
     let rest = length c.args.periods.now - (c.args.period + 1) in
-    let next = sequences_next k (length c.args.periods.now - c.args.period) rest (omega (arith, c.requires.inside, c.if-period-periods.false)) in
-    let less : c.loop-set.set-index + 1 ≤ k = omega (arith, c.loop-set-test.true) in
-    let few : c.args.work.now.sequences < sequences_of k (length c.args.periods.now - c.args.period) =
+    let last : n ≡ rest + 1 = omega (arith, c.requires.inside, c.if-period-periods.false) in
+    let all = sequences_first k n (c.loop-set.set-index + 1) rest last (omega (arith, c.loop-set-test.true)) in
+    let few : c.args.work.now.sequences < sequences_of k n =
     omega (
       arith,
       c.loop-set.invariant.at_most,
       c.loop-set.invariant.each_tried,
       c.take_try.ensures.sequences,
       c.in_err-take_sequence.ensures.used_up.0,
-      next,
-      mul-le-mul_right (1 + sequences_of k rest) less,
+      all,
     ) in
     let e = err_from_is_err_and c.from_residual-in_err-take_sequence.result c.from_residual-in_err-take_sequence.ensures.1 in
     rw e.1 (inl few)
@@ -158,12 +187,11 @@ returns-in_err-take_sequence-clause-too_few t c =
 pub returns-in_err-try_days-clause-too_few : goal.returns-in_err-try_days-clause-too_few
 returns-in_err-try_days-clause-too_few t c =
     let k = length c.args.sets.now in
+    let n = length c.args.periods.now - c.args.period in
     let rest = length c.args.periods.now - (c.args.period + 1) in
-    let next = sequences_next k (length c.args.periods.now - c.args.period) rest (omega (arith, c.requires.inside, c.if-period-periods.false)) in
-    let less : c.loop-set.set-index + 1 ≤ k = omega (arith, c.loop-set-test.true) in
-    let all = mul-le-mul_right (1 + sequences_of k rest) less in
-    let few : (c.args.work.now.sequences < sequences_of k (length c.args.periods.now - c.args.period))
-    ⊎ (c.args.work.now.tries < sequences_of k (length c.args.periods.now - c.args.period)) =
+    let last : n ≡ rest + 1 = omega (arith, c.requires.inside, c.if-period-periods.false) in
+    let all = sequences_first k n (c.loop-set.set-index + 1) rest last (omega (arith, c.loop-set-test.true)) in
+    let few : (c.args.work.now.sequences < sequences_of k n) ⊎ (c.args.work.now.tries < sequences_of k n) =
     elim c.in_err-try_days.ensures.too_few [
       | inl sequences ↦ inl
           (omega (
@@ -173,7 +201,6 @@ returns-in_err-try_days-clause-too_few t c =
             c.loop-set.invariant.each_tried,
             c.take_try.ensures.sequences,
             c.in_ok-take_sequence.ensures.taken,
-            next,
             all,
           ))
       | inr tries ↦ inr
@@ -183,7 +210,6 @@ returns-in_err-try_days-clause-too_few t c =
             c.loop-set.invariant.at_most,
             c.in_ok-take_try.ensures.taken,
             c.in_ok-take_sequence.ensures.tries,
-            next,
             all,
           ))
     ] in

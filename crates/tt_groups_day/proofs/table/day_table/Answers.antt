@@ -66,7 +66,13 @@ pub returns-clause-at_most : goal.returns-clause-at_most
 returns-clause-at_most c =
     let whole : length c.deref.result.now - 0 ≡ c.args.instance.now.periods =
     omega (arith, ap length c.deref.ensures.value, c.in_ok-periods.ensures.whole) in
-    omega (arith, c.in_ok-try_days.ensures.at_most, ap (λ (n : ℕ). sequences_of (length c.args.sets.now) n) whole)
+    omega (arith, c.try_days.ensures.at_most, ap (λ (n : ℕ). sequences_of (length c.args.sets.now) n) whole)
+
+pub returns-in_err-try_days-clause-at_most : goal.returns-in_err-try_days-clause-at_most
+returns-in_err-try_days-clause-at_most c =
+    let whole : length c.deref.result.now - 0 ≡ c.args.instance.now.periods =
+    omega (arith, ap length c.deref.ensures.value, c.in_ok-periods.ensures.whole) in
+    omega (arith, c.try_days.ensures.at_most, ap (λ (n : ℕ). sequences_of (length c.args.sets.now) n) whole)
 
 pub returns-in_err-try_days-clause-too_few : goal.returns-in_err-try_days-clause-too_few
 returns-in_err-try_days-clause-too_few c =

@@ -12,5 +12,5 @@ invariant-loop-place l = record {
   made : (k : ℕ) → (slice_index l.next k ≡ slice_index l.initial.next k)
       ⊎ IsMadeFrom l.digits.sizes.items l.digits.weights.items l.digits.courses l.moves l.bound l.table k (slice_index l.next k);
   fewer : l.relaxations ≤ l.initial.relaxations;
-  taken : l.initial.relaxations ≤ l.relaxations + l.place * length l.moves;
+  at_most : l.initial.relaxations ≤ l.relaxations + l.place * length l.moves;
 }

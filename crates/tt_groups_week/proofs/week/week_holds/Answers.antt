@@ -42,7 +42,7 @@ loop-list-init c =
           subst (λ (n : ℕ). IsReachedPlace p g cs 0 n (slice_index (set items 0 0) k)) (sym at)
           (reached_first p g cs (slice_index (set items 0 0) k));
       fewer = omega arith;
-      taken = λ n short. omega arith;
+      at_most = λ n short. omega arith;
     }
 
 pub extend-requires-clause-ready : goal.extend-requires-clause-ready
@@ -98,8 +98,8 @@ loop-list-preserved c =
             c.index-lists-list.result table c.loop-list-test.true c.index-lists-list.is r
             (c.loop-list.invariant.reached p g cs s r) k (slice_index new k) g2
       ]);
-      fewer = omega (arith, c.loop-list.invariant.fewer, c.in_ok-extend.ensures.fewer);
-      taken = λ n short.
+      fewer = omega (arith, c.loop-list.invariant.fewer, c.extend.ensures.fewer);
+      at_most = λ n short.
           let i = slice_index a.of_day.now c.loop-list.list-index in
           let inside = c.requires.inside c.loop-list.list-index 0 c.loop-list-test.true in
           let few : length c.deref.result.now ≤ n =
@@ -113,8 +113,8 @@ loop-list-preserved c =
           ap (λ m. m * length c.deref.result.now) (ap length c.deref-in-loop-list.ensures.value ∙ whole) in
           omega (
             arith,
-            c.loop-list.invariant.taken n short,
-            c.in_ok-extend.ensures.taken,
+            c.loop-list.invariant.at_most n short,
+            c.extend.ensures.at_most,
             product,
             mul-le-mul_left d.count few,
           );
@@ -138,18 +138,47 @@ returns-in_err-extend-clause-too_few c = λ is n short.
     let less : c.loop-list.list-index + 1 ≤ length a.of_day.now = omega (arith, c.loop-list-test.true) in
     omega (
       arith,
-      c.loop-list.invariant.taken n short,
+      c.loop-list.invariant.at_most n short,
       c.in_err-extend.ensures.too_few,
       product,
       mul-le-mul_left d.count few,
       mul-le-mul_right (d.count * n) less,
     )
 
-pub returns-clause-taken : goal.returns-clause-taken
-returns-clause-taken c = λ n short.
-    let d = c.args.digits.now in
-    let end : c.loop-list.list-index ≡ length c.args.of_day.now = omega (arith, c.loop-list-test.false, c.loop-list.auto.list-index-end) in
-    omega (arith, c.loop-list.invariant.taken n short, ap (λ m. m * (d.count * n)) end)
+pub returns-in_err-extend-clause-at_most : goal.returns-in_err-extend-clause-at_most
+returns-in_err-extend-clause-at_most c = λ n short.
+    let a = c.args in
+    let d = a.digits.now in
+    let i = slice_index a.of_day.now c.loop-list.list-index in
+    let inside = c.requires.inside c.loop-list.list-index 0 c.loop-list-test.true in
+    let few : length c.deref.result.now ≤ n =
+    omega (
+      arith,
+      short i c.index-lists-list.result inside,
+      ap (λ (v : Vec Move Global). length v.items) c.index-lists-list.is,
+      ap (λ (l : List Move). length l) c.deref.ensures.value,
+    ) in
+    let product : length c.deref-in-loop-list.result.now * length c.deref.result.now ≡ d.count * length c.deref.result.now =
+    ap (λ m. m * length c.deref.result.now) (ap length c.deref-in-loop-list.ensures.value ∙ c.loop-list.invariant.whole) in
+    let less : c.loop-list.list-index + 1 ≤ length a.of_day.now = omega (arith, c.loop-list-test.true) in
+    omega (
+      arith,
+      c.loop-list.invariant.at_most n short,
+      c.extend.ensures.at_most,
+      product,
+      mul-le-mul_left d.count few,
+      mul-le-mul_right (d.count * n) less,
+    )
+
+pub returns-in_err-next-clause-at_most : goal.returns-in_err-next-clause-at_most
+returns-in_err-next-clause-at_most c = λ n short.
+    let all : c.loop-list.list-index ≤ length c.args.of_day.now = omega (arith, c.loop-list.auto.list-index-end) in
+    omega (arith, c.loop-list.invariant.at_most n short, mul-le-mul_right (c.args.digits.now.count * n) all)
+
+pub returns-clause-at_most : goal.returns-clause-at_most
+returns-clause-at_most c = λ n short.
+    let all : c.loop-list.list-index ≤ length c.args.of_day.now = omega (arith, c.loop-list.auto.list-index-end) in
+    omega (arith, c.loop-list.invariant.at_most n short, mul-le-mul_right (c.args.digits.now.count * n) all)
 
 pub returns-clause-holds : goal.returns-clause-holds
 returns-clause-holds c =

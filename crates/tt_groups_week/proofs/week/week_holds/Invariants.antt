@@ -18,5 +18,5 @@ invariant-loop-list l = record {
       → (k : ℕ) → k < length l.table.items → slice_index l.table.items k < l.bound → IsReachedPlace p g cs l.list-index k
       (slice_index l.table.items k);
   fewer : l.relaxations ≤ l.initial.relaxations;
-  taken : (n : ℕ) → AreShort n l.lists → l.initial.relaxations ≤ l.relaxations + l.list-index * (l.digits.count * n);
+  at_most : (n : ℕ) → AreShort n l.lists → l.initial.relaxations ≤ l.relaxations + l.list-index * (l.digits.count * n);
 }
