@@ -50,7 +50,7 @@ pub record MakesTables (p : Problem) (g : Group) (value : ℕ) : Type 0 where
 abbrev pub most_sequences : Problem → Group → ℕ
 most_sequences p g = p.days * sequences_of (sets_of p g) p.periods
 
--- The most relaxations that the tables of the group can take: 32 for each place of the table of each day, and one for each place and each move
--- of the day, of which there are no more than places.
+-- The most relaxations that the tables of the group can take: 32 for each place of the table of each day, and one for each place and each
+-- move of the day. There are no more moves than places.
 abbrev pub most_relaxations : Problem → Group → ℕ
 most_relaxations p g = p.days * (states_of p g * (32 + states_of p g))

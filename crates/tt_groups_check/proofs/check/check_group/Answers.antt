@@ -222,7 +222,8 @@ returns-in_err-holds-clause-relaxations_taken c =
     let count : d.count ≡ states_of p g = sym d.are.counted ∙ ap places sized in
     let short = subst (λ (l : List (Vec Move Global)). AreShort d.count l) (sym c.deref-3.ensures.value) c.in_ok-lists.ensures.few in
     let listed : length c.deref-4.result.now ≡ p.days = ap length c.deref-4.ensures.value ∙ c.in_ok-lists.ensures.all in
-    let most = relaxations_same p.days (states_of p g) c.days.result d.count (length c.deref-4.result.now) c.days.ensures.value listed count in
+    let most = relaxations_same p.days (states_of p g) c.days.result d.count (length c.deref-4.result.now)
+    c.days.ensures.value listed count in
     omega (arith, c.week_holds-holds.ensures.at_most d.count short, c.in_ok-pay_tables.ensures.paid, most)
 
 pub returns-then-holds-clause-relaxations_taken : goal.returns-then-holds-clause-relaxations_taken
@@ -236,7 +237,8 @@ returns-then-holds-clause-relaxations_taken c =
     let count : d.count ≡ states_of p g = sym d.are.counted ∙ ap places sized in
     let short = subst (λ (l : List (Vec Move Global)). AreShort d.count l) (sym c.deref-3.ensures.value) c.in_ok-lists.ensures.few in
     let listed : length c.deref-4.result.now ≡ p.days = ap length c.deref-4.ensures.value ∙ c.in_ok-lists.ensures.all in
-    let most = relaxations_same p.days (states_of p g) c.days.result d.count (length c.deref-4.result.now) c.days.ensures.value listed count in
+    let most = relaxations_same p.days (states_of p g) c.days.result d.count (length c.deref-4.result.now)
+    c.days.ensures.value listed count in
     omega (arith, c.week_holds-holds.ensures.at_most d.count short, c.in_ok-pay_tables.ensures.paid, most)
 
 pub returns-clause-relaxations_taken : goal.returns-clause-relaxations_taken
@@ -250,7 +252,8 @@ returns-clause-relaxations_taken c =
     let count : d.count ≡ states_of p g = sym d.are.counted ∙ ap places sized in
     let short = subst (λ (l : List (Vec Move Global)). AreShort d.count l) (sym c.deref-3.ensures.value) c.in_ok-lists.ensures.few in
     let listed : length c.deref-4.result.now ≡ p.days = ap length c.deref-4.ensures.value ∙ c.in_ok-lists.ensures.all in
-    let most = relaxations_same p.days (states_of p g) c.days.result d.count (length c.deref-4.result.now) c.days.ensures.value listed count in
+    let most = relaxations_same p.days (states_of p g) c.days.result d.count (length c.deref-4.result.now)
+    c.days.ensures.value listed count in
     omega (arith, c.week_holds-holds.ensures.at_most d.count short, c.in_ok-pay_tables.ensures.paid, most)
 
 pub returns-in_err-lists-clause-work_short : goal.returns-in_err-lists-clause-work_short
@@ -288,7 +291,8 @@ returns-in_err-holds-clause-work_short c = λ is.
     let count : d.count ≡ states_of p g = sym d.are.counted ∙ ap places sized in
     let short = subst (λ (l : List (Vec Move Global)). AreShort d.count l) (sym c.deref-3.ensures.value) c.in_ok-lists.ensures.few in
     let listed : length c.deref-4.result.now ≡ p.days = ap length c.deref-4.ensures.value ∙ c.in_ok-lists.ensures.all in
-    let most = relaxations_same p.days (states_of p g) c.days.result d.count (length c.deref-4.result.now) c.days.ensures.value listed count in
+    let most = relaxations_same p.days (states_of p g) c.days.result d.count (length c.deref-4.result.now)
+    c.days.ensures.value listed count in
     let e = err_from_is_err_and c.from_residual-in_err-holds.result c.from_residual-in_err-holds.ensures.1 in
     let fault_is : fault_from_week c.in_err-holds.field-0.0 ≡ fault.TooMuchWork = cc (e.1, e.2, is) in
     let few = c.in_err-holds.ensures.too_few (ap Err (work_of_week c.in_err-holds.field-0.0 fault_is)) d.count short in

@@ -56,7 +56,12 @@ loop-day-preserved c =
             few = subst (λ (x : Lists). AreShort d.count x.moves.items) (sym w.lists-is) (clauses.few d.count before.few);
             sequences = omega (arith, before.sequences, ap (λ (x : DayWork). x.sequences) w.work-is);
             tries = omega (arith, before.tries, ap (λ (x : DayWork). x.tries) w.work-is);
-            each_tried = omega (arith, before.each_tried, ap (λ (x : DayWork). x.sequences) w.work-is, ap (λ (x : DayWork). x.tries) w.work-is);
+            each_tried = omega (
+              arith,
+              before.each_tried,
+              ap (λ (x : DayWork). x.sequences) w.work-is,
+              ap (λ (x : DayWork). x.tries) w.work-is,
+            );
             at_most = omega (arith, before.at_most, ap (λ (x : DayWork). x.tries) w.work-is);
           }
       | in-None+in_ok-entries-in-None+in_ok-add-in-None w ↦
@@ -77,9 +82,16 @@ loop-day-preserved c =
                 (clauses.of_days p g cs b here before.of_days);
             reached = subst (λ (x : Lists). AreReached p g cs x.moves.items x.of_day.items) (sym w.lists-is)
                 (clauses.reached p g cs there before.reached);
-            few = subst (λ (x : Lists). AreShort d.count x.moves.items) (sym w.lists-is)
-                (clauses.few d.count (omega (arith, w.in_ok-entries-in-None.ensures.few, ap length w.deref-in-None-4.ensures.value)) before.few);
-            sequences = omega (arith, before.sequences, w.in_ok-entries-in-None.ensures.sequences, ap (λ (x : DayWork). x.sequences) w.work-is);
+            few =
+                let entries : length w.deref-in-None-4.result.now ≤ d.count =
+                omega (arith, w.in_ok-entries-in-None.ensures.few, ap length w.deref-in-None-4.ensures.value) in
+                subst (λ (x : Lists). AreShort d.count x.moves.items) (sym w.lists-is) (clauses.few d.count entries before.few);
+            sequences = omega (
+              arith,
+              before.sequences,
+              w.in_ok-entries-in-None.ensures.sequences,
+              ap (λ (x : DayWork). x.sequences) w.work-is,
+            );
             tries = omega (arith, before.tries, w.in_ok-entries-in-None.ensures.tries, ap (λ (x : DayWork). x.tries) w.work-is);
             each_tried = omega (
               arith,

@@ -1,4 +1,5 @@
-use Rattle.std.proofs.Common.{◌≡◌, ℕ, ◌+◌, ◌*◌, ◌<◌, ◌≤◌, inl, inr, List, length, drop, set, get_or-set_same, sym, ap, subst, ◌∙◌, arith, Vec}
+use Rattle.std.proofs.Common.{◌≡◌, ℕ, ◌+◌, ◌*◌, ◌<◌, ◌≤◌, inl, inr, List, length, drop, set, sym, ap, subst, ◌∙◌, arith, Vec}
+use Rattle.std.proofs.Common.{get_or-set_same}
 use Rattle.std.specs.Global.{Global}
 use Rattle.std.specs.Prelude.{All, slice_index}
 use Rattle.std.proofs.Math.ListN.{length-set}
