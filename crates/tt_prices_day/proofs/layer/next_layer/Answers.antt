@@ -1,4 +1,4 @@
-use Rattle.std.proofs.Common.{◌≡◌, ◌+◌, ◌*◌, ◌^◌, ◌<◌, ◌≤◌, List, length, get_or, ap, ◌∙◌, sym, subst, arith, inl, inr}
+use Rattle.std.proofs.Common.{◌+◌, ◌^◌, List, get_or, sym, subst, inl, inr}
 use Rattle.std.specs.Prelude.{◌⊎◌, All, Contains, pos}
 use Rattle.std.proofs.lemmas.List.Elements.{Contains-get_or}
 use Rattle.tt_groups_day.proofs.Searching.{no_set}
@@ -48,31 +48,3 @@ returns-clause-reached c = λ z m. c.loop-letter.invariant.reached z (subst (λ 
 
 pub returns-clause-within : goal.returns-clause-within
 returns-clause-within c = λ n all. subst (All (IsNodeWithin (n + 2 ^ 31))) (sym c.into_nodes.ensures) (c.loop-letter.invariant.within n all)
-
-pub returns-clause-taken : goal.returns-clause-taken
-returns-clause-taken c =
-    let layer = length c.args.layer.now in
-    let pairs : c.len.result * c.len-2.result ≡ layer * length c.args.letters.now =
-    ap (λ n. n * c.len-2.result) c.len.ensures ∙ ap (λ n. layer * n) c.len-2.ensures in
-    omega (arith, c.use_up.ensures.taken, pairs)
-
-pub returns-in_err-use_up-clause-taken : goal.returns-in_err-use_up-clause-taken
-returns-in_err-use_up-clause-taken c =
-    let layer = length c.args.layer.now in
-    let pairs : c.len.result * c.len-2.result ≡ layer * length c.args.letters.now =
-    ap (λ n. n * c.len-2.result) c.len.ensures ∙ ap (λ n. layer * n) c.len-2.ensures in
-    omega (arith, c.use_up.ensures.taken, pairs)
-
-pub returns-in_err-follow-clause-taken : goal.returns-in_err-follow-clause-taken
-returns-in_err-follow-clause-taken c =
-    let layer = length c.args.layer.now in
-    let pairs : c.len.result * c.len-2.result ≡ layer * length c.args.letters.now =
-    ap (λ n. n * c.len-2.result) c.len.ensures ∙ ap (λ n. layer * n) c.len-2.ensures in
-    omega (arith, c.use_up.ensures.taken, pairs)
-
-pub returns-in_err-use_up-clause-too_few : goal.returns-in_err-use_up-clause-too_few
-returns-in_err-use_up-clause-too_few c = λ _.
-    let layer = length c.args.layer.now in
-    let pairs : c.len.result * c.len-2.result ≡ layer * length c.args.letters.now =
-    ap (λ n. n * c.len-2.result) c.len.ensures ∙ ap (λ n. layer * n) c.len-2.ensures in
-    omega (arith, c.in_err-use_up.ensures.too_few, pairs)
