@@ -169,35 +169,35 @@ returns-in_err-lists-clause-tries_taken c =
     let p = c.args.instance.now in
     let g = c.args.group.now in
     let same = sequences_same p g c.deref-2.result.now (c.deref-2.ensures.value ∙ c.in_ok-courses.ensures.value) in
-    omega (arith, c.lists_of-lists.ensures.at_most, same)
+    omega (arith, c.in_err-lists.ensures.at_most, same)
 
 pub returns-in_err-pay_tables-clause-tries_taken : goal.returns-in_err-pay_tables-clause-tries_taken
 returns-in_err-pay_tables-clause-tries_taken c =
     let p = c.args.instance.now in
     let g = c.args.group.now in
     let same = sequences_same p g c.deref-2.result.now (c.deref-2.ensures.value ∙ c.in_ok-courses.ensures.value) in
-    omega (arith, c.lists_of-lists.ensures.at_most, same)
+    omega (arith, c.in_ok-lists.ensures.at_most, same)
 
 pub returns-in_err-holds-clause-tries_taken : goal.returns-in_err-holds-clause-tries_taken
 returns-in_err-holds-clause-tries_taken c =
     let p = c.args.instance.now in
     let g = c.args.group.now in
     let same = sequences_same p g c.deref-2.result.now (c.deref-2.ensures.value ∙ c.in_ok-courses.ensures.value) in
-    omega (arith, c.lists_of-lists.ensures.at_most, same)
+    omega (arith, c.in_ok-lists.ensures.at_most, same)
 
 pub returns-then-holds-clause-tries_taken : goal.returns-then-holds-clause-tries_taken
 returns-then-holds-clause-tries_taken c =
     let p = c.args.instance.now in
     let g = c.args.group.now in
     let same = sequences_same p g c.deref-2.result.now (c.deref-2.ensures.value ∙ c.in_ok-courses.ensures.value) in
-    omega (arith, c.lists_of-lists.ensures.at_most, same)
+    omega (arith, c.in_ok-lists.ensures.at_most, same)
 
 pub returns-clause-tries_taken : goal.returns-clause-tries_taken
 returns-clause-tries_taken c =
     let p = c.args.instance.now in
     let g = c.args.group.now in
     let same = sequences_same p g c.deref-2.result.now (c.deref-2.ensures.value ∙ c.in_ok-courses.ensures.value) in
-    omega (arith, c.lists_of-lists.ensures.at_most, same)
+    omega (arith, c.in_ok-lists.ensures.at_most, same)
 
 pub returns-in_err-pay_tables-clause-relaxations_taken : goal.returns-in_err-pay_tables-clause-relaxations_taken
 returns-in_err-pay_tables-clause-relaxations_taken c =
@@ -224,7 +224,7 @@ returns-in_err-holds-clause-relaxations_taken c =
     let listed : length c.deref-4.result.now ≡ p.days = ap length c.deref-4.ensures.value ∙ c.in_ok-lists.ensures.all in
     let most = relaxations_same p.days (states_of p g) c.days.result d.count (length c.deref-4.result.now)
     c.days.ensures.value listed count in
-    omega (arith, c.week_holds-holds.ensures.at_most d.count short, c.in_ok-pay_tables.ensures.paid, most)
+    omega (arith, c.in_err-holds.ensures.at_most d.count short, c.in_ok-pay_tables.ensures.paid, most)
 
 pub returns-then-holds-clause-relaxations_taken : goal.returns-then-holds-clause-relaxations_taken
 returns-then-holds-clause-relaxations_taken c =
@@ -239,7 +239,7 @@ returns-then-holds-clause-relaxations_taken c =
     let listed : length c.deref-4.result.now ≡ p.days = ap length c.deref-4.ensures.value ∙ c.in_ok-lists.ensures.all in
     let most = relaxations_same p.days (states_of p g) c.days.result d.count (length c.deref-4.result.now)
     c.days.ensures.value listed count in
-    omega (arith, c.week_holds-holds.ensures.at_most d.count short, c.in_ok-pay_tables.ensures.paid, most)
+    omega (arith, c.in_ok-holds.ensures.at_most d.count short, c.in_ok-pay_tables.ensures.paid, most)
 
 pub returns-clause-relaxations_taken : goal.returns-clause-relaxations_taken
 returns-clause-relaxations_taken c =
@@ -254,7 +254,7 @@ returns-clause-relaxations_taken c =
     let listed : length c.deref-4.result.now ≡ p.days = ap length c.deref-4.ensures.value ∙ c.in_ok-lists.ensures.all in
     let most = relaxations_same p.days (states_of p g) c.days.result d.count (length c.deref-4.result.now)
     c.days.ensures.value listed count in
-    omega (arith, c.week_holds-holds.ensures.at_most d.count short, c.in_ok-pay_tables.ensures.paid, most)
+    omega (arith, c.in_ok-holds.ensures.at_most d.count short, c.in_ok-pay_tables.ensures.paid, most)
 
 pub returns-in_err-lists-clause-work_short : goal.returns-in_err-lists-clause-work_short
 returns-in_err-lists-clause-work_short c = λ is.

@@ -142,7 +142,7 @@ returns-in_err-entries-in-None-clause-at_most c =
     let here : sequences_of (length c.deref-in-None-3.result.now) p.periods ≡ all =
     ap (λ (l : List CourseSet). sequences_of (length l) p.periods) c.deref-in-None-3.ensures.value
     ∙ ap (λ n. sequences_of n p.periods) c.in_ok-sets.ensures.counted in
-    omega (arith, c.loop-day.invariant.at_most, c.list_days-entries-in-None.ensures.at_most, spent, here, most)
+    omega (arith, c.loop-day.invariant.at_most, c.in_err-entries-in-None.ensures.at_most, spent, here, most)
 
 pub returns-in_err-add-in-None-clause-at_most : goal.returns-in_err-add-in-None-clause-at_most
 returns-in_err-add-in-None-clause-at_most c =
