@@ -61,6 +61,11 @@ loop-place-preserved c =
 
 -- ---- the relaxations that are left
 
+pub returns-clause-at_most : goal.returns-clause-at_most
+returns-clause-at_most c =
+    let all : c.loop-place.place ≤ length c.args.table.now = omega (arith, c.loop-place.auto.place-end) in
+    omega (arith, c.loop-place.invariant.at_most, mul-le-mul_right (length c.args.moves.now) all)
+
 pub returns-in_err-use_up-clause-at_most : goal.returns-in_err-use_up-clause-at_most
 returns-in_err-use_up-clause-at_most c =
     let less : c.loop-place.place + 1 ≤ length c.args.table.now = omega (arith, c.loop-place-test.true) in
