@@ -1,13 +1,11 @@
 use Rattle.tt_groups_check.specs.Faults.{fault_from_week}
-use Rattle.tt_groups_check.specs.Limits.{courses_of, states_of, sets_of}
+use Rattle.tt_groups_check.specs.Limits.{courses_of, states_of}
 use Rattle.tt_groups_check.specs.declared.fault.GroupFault.TheVariants as fault
-use Rattle.std.proofs.Common.{get_or, ◌≤◌, ◌≡◌, ℕ, ◌+◌, ◌-◌, ◌*◌, ◌<◌, List, Err, length, refl, sym, ap, ◌∙◌, subst, arith, inl, inr, Vec}
+use Rattle.std.proofs.Common.{get_or, ◌≤◌, ◌≡◌, ℕ, ◌-◌, ◌<◌, List, Err, length, refl, sym, ap, ◌∙◌, subst, arith, inl, inr, Vec}
 use Rattle.std.proofs.lemmas.Result.{err_from_is_err_and}
 use Rattle.std.specs.Global.{Global}
 use Rattle.std.specs.Prelude.{All}
 use Rattle.tt_groups.specs.Places.{group_sizes, places}
-use Rattle.tt_groups_day.specs.Counting.{sets_count}
-use Rattle.tt_groups_day.specs.Work.{sequences_of}
 use Rattle.tt_groups_week.specs.Fold.{AreReady}
 use Rattle.tt_groups_week.specs.WeekLists.{Suits, AreReached, AreShort}
 use Rattle.std.proofs.lemmas.List.Elements.{Contains-get_or}

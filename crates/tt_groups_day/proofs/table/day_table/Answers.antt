@@ -1,6 +1,6 @@
-use Rattle.std.proofs.Common.{◌≡◌, ℕ, ◌-◌, ◌<◌, inl, inr, List, [], drop, length, refl, sym, ap, ◌∙◌, subst, arith}
+use Rattle.std.proofs.Common.{◌≡◌, ℕ, ◌-◌, inl, inr, List, [], drop, length, refl, sym, ap, ◌∙◌, subst, arith}
 use Rattle.std.proofs.lemmas.List.{length-replicate, get_or-replicate}
-use Rattle.std.specs.Prelude.{◌⊎◌, replicate, slice_index}
+use Rattle.std.specs.Prelude.{replicate, slice_index}
 use Rattle.tt_groups_day.specs.Found.{AreOpened}
 use Rattle.tt_groups_day.proofs.Finding.{open_first}
 use Rattle.tt_groups_day.specs.Sets.{ArePeriodsOf}
