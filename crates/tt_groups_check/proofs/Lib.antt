@@ -1,3 +1,5 @@
 pub mod Adding
 pub mod CoursesAndSizes
 pub mod Places
+pub mod Reported
+pub mod Taken

@@ -1,5 +1,5 @@
 -- Conditions on a group for its check: its numbers are those of the instance, and its tables have enough room for it.
-use Rattle.std.specs.Prelude.{◌≡◌, ℕ, ◌+◌, ◌<◌, ◌≤◌, nat_lt, Bool, false, ◌&&◌, ◌||◌, List, length, filter, count_by, All}
+use Rattle.std.specs.Prelude.{◌≡◌, ℕ, ◌+◌, ◌*◌, ◌<◌, ◌≤◌, nat_lt, Bool, false, ◌&&◌, ◌||◌, List, length, filter, count_by, All}
 use Rattle.std.specs.List.{list_any}
 use Rattle.tt_instance.specs.Problem.{Problem}
 use Rattle.tt_instance.specs.Cells.{all_courses}
@@ -8,6 +8,7 @@ use Rattle.tt_groups.specs.Group.{Group, concerns}
 use Rattle.tt_groups.specs.Places.{places, group_sizes}
 use Rattle.tt_groups.specs.Plans.{base_cost}
 use Rattle.tt_groups_day.specs.Counting.{sets_count}
+use Rattle.tt_groups_day.specs.Work.{sequences_of}
 use Rattle.tt_groups_week.specs.declared.digits.TheConstants.{MAX_PLACES}
 use Rattle.tt_groups_check.specs.declared.width.TheConstants.{GROUP_CURRICULA, GROUP_COURSES, GROUP_LECTURES, GROUP_VALUE}
 
@@ -44,3 +45,12 @@ pub record MakesTables (p : Problem) (g : Group) (value : ℕ) : Type 0 where
   pub narrow : is_too_wide p g value ≡ false
   pub states : states_of p g ≤ MAX_PLACES
   pub above : base_cost p g < value
+
+-- The most sequences of sets that the days of the group can have.
+abbrev pub most_sequences : Problem → Group → ℕ
+most_sequences p g = p.days * sequences_of (sets_of p g) p.periods
+
+-- The most relaxations that the tables of the group can take: 32 for each place of the table of each day, and one for each place and each
+-- move of the day. There are no more moves than places.
+abbrev pub most_relaxations : Problem → Group → ℕ
+most_relaxations p g = p.days * (states_of p g * (32 + states_of p g))

@@ -1,10 +1,10 @@
 //! The check of one group's claim.
 
-ghost use Rattle.std.specs.Prelude.{◌≡◌, ◌<◌, ◌≤◌, ◌⊎◌, ◌↔◌, List, false, true, Err, IfErr, IsErrAnd, OnOk};
+ghost use Rattle.std.specs.Prelude.{◌≡◌, ◌+◌, ◌*◌, ◌<◌, ◌≤◌, ◌⊎◌, ◌↔◌, List, false, true, Err, IfErr, IsErrAnd, OnOk, OnErr};
 ghost use Rattle.tt_groups_day.specs.Work.{IsUsedUp};
 ghost use Rattle.tt_groups.specs.Group.{group_cost, IsRelaxedTimetable, IsGroupBound};
 ghost use Rattle.tt_instance.specs.declared.cell.Cell.{Cell};
-ghost use Rattle.tt_groups_check.specs.Limits.{IsGroupOf, is_too_wide, states_of, sets_of, MakesTables};
+ghost use Rattle.tt_groups_check.specs.Limits.{IsGroupOf, is_too_wide, states_of, sets_of, MakesTables, most_sequences, most_relaxations};
 ghost use Rattle.tt_groups_check.specs.declared.fault.GroupFault.TheVariants as fault;
 
 use crate::courses::{courses_of, sizes_of};
@@ -15,7 +15,7 @@ use std::alloc::Global;
 use tt_groups::Group;
 use tt_groups_day::{DayWork, MAX_SETS};
 use tt_groups_week::{Digits, MAX_PLACES, week_holds};
-use tt_instance::Instance;
+use tt_instance::{Instance, MAX_DAYS};
 
 /// The maximum number of sequences of sets that the days of one group may try.
 pub const MAX_SEQUENCES: u64 = 16_777_216;
@@ -55,13 +55,26 @@ impl Work {
     }
 }
 
-/// Subtracts the price of the tables from the relaxations that are left: each day has a table with a place for each state. If fewer are left,
-/// all are used up.
-fn pay_tables(days: u32, states: u32, relaxations: &mut u64) -> Result<(), GroupFault>
-    ensures used_up { IfErr result (λ e. (e ≡ fault.TooMuchWork) × (relaxations.new ≡ 0)) }
+/// Returns the number of places of the tables: each day has a table with a place for each state.
+fn places_of(days: u32, states: u32) -> u64
+    requires days { days ≤ MAX_DAYS }
+    requires states { states ≤ MAX_PLACES }
+    ensures value { result ≡ days * states }
+    ensures small { result ≤ MAX_DAYS * MAX_PLACES }
 {
-    let places = u64::from(days) * u64::from(states);
-    match relaxations.checked_sub(places.saturating_mul(PLACE_PRICE)) {
+    u64::from(days) * u64::from(states)
+}
+
+/// Subtracts the price of the tables from the relaxations that are left. If fewer are left, all are used up.
+fn pay_tables(days: u32, states: u32, relaxations: &mut u64) -> Result<(), GroupFault>
+    requires days { days ≤ MAX_DAYS }
+    requires states { states ≤ MAX_PLACES }
+    ensures paid { OnOk result (relaxations.new + PLACE_PRICE * (days * states) ≡ relaxations.old) }
+    ensures used_up { IfErr result (λ e. (e ≡ fault.TooMuchWork) × (relaxations.new ≡ 0)) }
+    ensures too_few { OnErr result (relaxations.old < PLACE_PRICE * (days * states)) }
+{
+    let places = places_of(days, states);
+    match relaxations.checked_sub(places * PLACE_PRICE) {
         Some(left) => {
             *relaxations = left;
             Ok(())
@@ -97,6 +110,15 @@ pub fn check_group(
     // It is too much work only if all sequences of the group, all tries of the file or all its relaxations are used up.
     ensures work_only { result ≡ Err fault.TooMuchWork → MakesTables instance.now group.now value × (sets_of instance.now group.now ≤ MAX_SETS) ×
         (IsUsedUp work.new.days ⊎ (work.new.relaxations ≡ 0)) }
+    // It is too much work only if less is left than the days or the tables can take.
+    ensures work_short { result ≡ Err fault.TooMuchWork → (MAX_SEQUENCES < most_sequences instance.now group.now) ⊎
+        ((work.old.days.tries < most_sequences instance.now group.now) ⊎ (work.old.relaxations < most_relaxations instance.now group.now)) }
+    // The work that is left never rises, and falls by no more than the days and the tables can take.
+    ensures sequences { work.old.days.sequences ≤ MAX_SEQUENCES → work.new.days.sequences ≤ MAX_SEQUENCES }
+    ensures tries { work.new.days.tries ≤ work.old.days.tries }
+    ensures relaxations { work.new.relaxations ≤ work.old.relaxations }
+    ensures tries_taken { work.old.days.tries ≤ work.new.days.tries + most_sequences instance.now group.now }
+    ensures relaxations_taken { work.old.relaxations ≤ work.new.relaxations + most_relaxations instance.now group.now }
 {
     if is_too_wide(instance, group, value) {
         return Err(GroupFault::TooWide);

@@ -1,13 +1,13 @@
 //! The moves of all days of a group.
 
-ghost use Rattle.std.specs.Prelude.{◌≡◌, ℕ, ◌<◌, ◌≤◌, length, All, Err, IfErr, IfOk, OnOk, IsTrue, slice_index};
+ghost use Rattle.std.specs.Prelude.{◌≡◌, ◌⊎◌, ℕ, ◌+◌, ◌*◌, ◌<◌, ◌≤◌, length, All, Err, IfErr, IfOk, OnOk, IsTrue, slice_index};
 ghost use Rattle.tt_groups_day.specs.Counting.{sets_count};
-ghost use Rattle.tt_groups_day.specs.Work.{IsUsedUp};
+ghost use Rattle.tt_groups_day.specs.Work.{IsUsedUp, sequences_of};
 ghost use Rattle.tt_groups_check.specs.Faults.{is_unfinished};
 ghost use Rattle.tt_groups_check.specs.Lists.{AreListed, AreOfDays};
 ghost use Rattle.tt_groups_check.specs.CoursesAndSizes.{AreCoursesAndSizes};
 ghost use Rattle.tt_groups_check.specs.declared.fault.GroupFault.TheVariants as fault;
-ghost use Rattle.tt_groups_week.specs.WeekLists.{AreReached};
+ghost use Rattle.tt_groups_week.specs.WeekLists.{AreReached, AreShort};
 
 use crate::availability::same_day;
 use crate::fault::GroupFault;
@@ -34,10 +34,19 @@ pub fn lists_of(
     ensures of_days { IfOk result (λ l. AreOfDays instance.now group.now courses.now
         digits.now.sizes.items digits.now.weights.items digits.now.courses bound l.moves.items l.of_day.items) }
     ensures reached { IfOk result (λ l. AreReached instance.now group.now courses.now l.moves.items l.of_day.items) }
+    ensures few { IfOk result (λ l. AreShort digits.now.count l.moves.items) }
     ensures unfinished { IfErr result (λ e. IsTrue (is_unfinished e)) }
     ensures too_many { result ≡ Err fault.TooManySets → MAX_SETS < sets_count instance.now courses.now }
     ensures within_limit { OnOk result (sets_count instance.now courses.now ≤ MAX_SETS) }
+    // Each set that is added to a sequence was tried, and no sequence of sets is tried twice for a day.
+    ensures sequences { work.new.sequences ≤ work.old.sequences }
+    ensures tries { work.new.tries ≤ work.old.tries }
+    ensures each_tried { work.old.sequences + work.new.tries ≤ work.old.tries + work.new.sequences }
+    ensures at_most { work.old.tries ≤ work.new.tries + instance.now.days * sequences_of (sets_count instance.now courses.now) instance.now.periods }
     ensures used_up { result ≡ Err fault.TooMuchWork → (sets_count instance.now courses.now ≤ MAX_SETS) × IsUsedUp work.new }
+    ensures too_few { result ≡ Err fault.TooMuchWork →
+        (work.old.sequences < instance.now.days * sequences_of (sets_count instance.now courses.now) instance.now.periods) ⊎
+        (work.old.tries < instance.now.days * sequences_of (sets_count instance.now courses.now) instance.now.periods) }
 {
     let sets = list_sets(alloc, instance, group, courses, &digits.weights)?;
     let places = digits.count as usize;

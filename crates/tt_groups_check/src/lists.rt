@@ -5,7 +5,7 @@ ghost use Rattle.tt_instance.specs.Problem.{Problem};
 ghost use Rattle.tt_groups.specs.Group as spec;
 ghost use Rattle.tt_groups.specs.Listed.{AreCourses, IsDayList, IsReachedDay};
 ghost use Rattle.tt_groups.specs.declared.entry.DayEntry.{DayEntry};
-ghost use Rattle.tt_groups_week.specs.WeekLists.{AreReached};
+ghost use Rattle.tt_groups_week.specs.WeekLists.{AreReached, AreShort};
 ghost use Rattle.tt_groups_check.specs.Availability.{IsSameAvailability};
 ghost use Rattle.tt_groups_check.specs.Lists.{AreListed, AreOfDays};
 
@@ -49,6 +49,7 @@ impl Lists {
         ensures reached { OnOk result ((p : Problem) (g : spec.Group) (cs : List ℕ) →
             ((x : DayEntry) → Contains entries.now x → IsReachedDay p g cs (length self.old.of_day.items) x) →
             AreReached p g cs self.old.moves.items self.old.of_day.items → AreReached p g cs self.new.moves.items self.new.of_day.items) }
+        ensures few { OnOk result ((n : ℕ) → length entries.now ≤ n → AreShort n self.old.moves.items → AreShort n self.new.moves.items) }
     {
         let list = moves_of(alloc, digits, entries)?;
         self.of_day.push(self.moves.len())?;
@@ -69,6 +70,7 @@ impl Lists {
         ensures reached { OnOk result ((p : Problem) (g : spec.Group) (cs : List ℕ) → AreCourses p g cs →
             IsSameAvailability p cs earlier (length self.old.of_day.items) →
             AreReached p g cs self.old.moves.items self.old.of_day.items → AreReached p g cs self.new.moves.items self.new.of_day.items) }
+        ensures few { OnOk result ((n : ℕ) → AreShort n self.old.moves.items → AreShort n self.new.moves.items) }
     {
         self.of_day.push(self.of_day[earlier])?;
         Ok(())

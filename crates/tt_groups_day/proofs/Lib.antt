@@ -6,3 +6,4 @@ pub mod Reading
 pub mod Running
 pub mod Searching
 pub mod Starting
+pub mod Sequences

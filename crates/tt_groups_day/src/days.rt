@@ -1,13 +1,13 @@
 //! The list of a day.
 
-ghost use Rattle.std.specs.Prelude.{◌≡◌, ◌<◌, ◌≤◌, length, All, Contains, IfOk, Err};
+ghost use Rattle.std.specs.Prelude.{◌≡◌, ◌⊎◌, ◌+◌, ◌<◌, ◌≤◌, length, All, Contains, IfOk, Err};
 ghost use Rattle.tt_groups.specs.Listed.{AreCourses, IsDayList, IsReachedDay};
 ghost use Rattle.tt_groups.specs.declared.entry.DayEntry.{DayEntry};
 ghost use Rattle.tt_groups_day.specs.Choosing.{IsApart};
 ghost use Rattle.tt_groups_day.specs.Found.{AreDistinct};
 ghost use Rattle.tt_groups_day.specs.Entries.{AreLectureDigits};
 ghost use Rattle.tt_groups_day.specs.Sets.{IsComplete, IsCourseSet};
-ghost use Rattle.tt_groups_day.specs.Work.{IsUsedUp};
+ghost use Rattle.tt_groups_day.specs.Work.{IsUsedUp, sequences_of};
 ghost use Rattle.tt_groups_day.specs.declared.fault.DaysFault.TheVariants as fault;
 ghost use Rattle.tt_instance.specs.Courses.{lectures};
 ghost use Rattle.tt_groups_day.specs.declared.morning.TheConstants.{LECTURES, MAX_INDEX, PLACES};
@@ -52,7 +52,16 @@ pub fn list_days(
     // Each entry is that of a possible day.
     ensures found { IfOk result (λ entries. AreDistinct courses.now → All (IsApart instance.now courses.now) sets.now →
         (x : DayEntry) → Contains entries.items x → IsReachedDay instance.now group.now courses.now day x) }
+    ensures few { IfOk result (λ entries. length entries.items ≤ places) }
+    // Each set that is added to a sequence was tried.
+    ensures sequences { work.new.sequences ≤ work.old.sequences }
+    ensures tries { work.new.tries ≤ work.old.tries }
+    ensures each_tried { work.old.sequences + work.new.tries ≤ work.old.tries + work.new.sequences }
+    // No sequence of sets is tried twice.
+    ensures at_most { work.old.tries ≤ work.new.tries + sequences_of (length sets.now) instance.now.periods }
     ensures used_up { result ≡ Err fault.TooMuchWork → IsUsedUp work.new }
+    ensures too_few { result ≡ Err fault.TooMuchWork → (work.old.sequences < sequences_of (length sets.now) instance.now.periods) ⊎
+        (work.old.tries < sequences_of (length sets.now) instance.now.periods) }
 {
     let table = day_table(alloc, instance, courses, sets, bound, day, places, work)?;
     let entries = list_entries(alloc, group, courses, sizes, weights, bound, &table)?;

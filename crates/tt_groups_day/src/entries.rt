@@ -94,6 +94,7 @@ pub fn list_entries(
     ensures found { IfOk result (λ entries. (p : Problem) (d : ℕ) → AreCourses p group.now courses.now → AreLectureDigits p courses.now sizes.now weights.now (length table.now) →
         ((k : ℕ) → k < length table.now → slice_index table.now k < bound → IsDayAt p group.now courses.now d weights.now k (slice_index table.now k)) →
         (x : DayEntry) → Contains entries.items x → IsReachedDay p group.now courses.now d x) }
+    ensures few { IfOk result (λ entries. length entries.items ≤ length table.now) }
 {
     let mut entries = Vec::new(alloc);
     for (place, cost) in table.iter().enumerate() {

@@ -1,9 +1,9 @@
 //! All days that begin like a morning, set by set.
 
-ghost use Rattle.std.specs.Prelude.{◌≡◌, ◌⊎◌, ℕ, ◌+◌, ◌*◌, ◌<◌, ◌≤◌, length, slice_index, All, OnOk, OnErr, count_ones};
+ghost use Rattle.std.specs.Prelude.{◌≡◌, ◌⊎◌, ℕ, ◌+◌, ◌-◌, ◌*◌, ◌<◌, ◌≤◌, length, slice_index, All, OnOk, OnErr, count_ones};
 ghost use Rattle.tt_groups_day.specs.Found.{IsFound};
 ghost use Rattle.tt_groups_day.specs.Sets.{Falls, IsTried};
-ghost use Rattle.tt_groups_day.specs.Work.{IsUsedUp};
+ghost use Rattle.tt_groups_day.specs.Work.{IsUsedUp, sequences_of};
 ghost use Rattle.tt_groups_day.specs.declared.morning.TheConstants.{COST_LIMIT, MAX_INDEX};
 ghost use Rattle.tt_instance.specs.declared.limit.TheConstants.{MAX_PERIODS};
 
@@ -64,16 +64,24 @@ pub fn try_days(
     ensures tried { OnOk result (IsTried most.now periods.now sets.now bound period morning.now table.new) }
     ensures found { OnOk result ((k : ℕ) → (slice_index table.new k ≡ slice_index table.old k) ⊎
         IsFound most.now periods.now sets.now period morning.now k (slice_index table.new k)) }
+    // Each set that is added to a sequence was tried.
+    ensures sequences { work.new.sequences ≤ work.old.sequences }
+    ensures tries { work.new.tries ≤ work.old.tries }
+    ensures each_tried { work.old.sequences + work.new.tries ≤ work.old.tries + work.new.sequences }
+    // No sequence is tried twice.
+    ensures at_most { work.old.tries ≤ work.new.tries + sequences_of (length sets.now) (length periods.now - period) }
     ensures used_up { OnErr result (IsUsedUp work.new) }
+    ensures too_few { OnErr result ((work.old.sequences < sequences_of (length sets.now) (length periods.now - period)) ⊎
+        (work.old.tries < sequences_of (length sets.now) (length periods.now - period))) }
 {
     if period == periods.len() {
         end(bound, morning, table);
         return Ok(());
     }
     for set in sets {
-        work.tries = work.tries.checked_sub(1).ok_or(DaysFault::TooMuchWork)?;
+        work.take_try()?;
         if let Some(next) = more(bound, most, &periods[period].available, morning, set) {
-            work.sequences = work.sequences.checked_sub(1).ok_or(DaysFault::TooMuchWork)?;
+            work.take_sequence()?;
             try_days(most, periods, sets, bound, period + 1, &next, table, work)?;
         }
     }

@@ -140,6 +140,7 @@ pub fn list_sets(
     // The list is refused exactly if there are too many sets, unless memory runs out.
     ensures too_many { result ≡ Err fault.TooManySets → MAX_SETS < sets_count instance.now courses.now }
     ensures within_limit { OnOk result (sets_count instance.now courses.now ≤ MAX_SETS) }
+    ensures counted { IfOk result (λ sets. length sets.items ≡ sets_count instance.now courses.now) }
 {
     let mut sets = Vec::new(alloc);
     let none = CourseSet {

@@ -1,12 +1,12 @@
 //! The table of a day, by the place of its lectures.
 
-ghost use Rattle.std.specs.Prelude.{◌≡◌, ℕ, ◌+◌, ◌*◌, ◌<◌, ◌≤◌, [], List, length, slice_index, true, false, All, IfOk, Err};
+ghost use Rattle.std.specs.Prelude.{◌≡◌, ◌⊎◌, ℕ, ◌+◌, ◌*◌, ◌<◌, ◌≤◌, [], List, length, slice_index, true, false, All, IfOk, Err};
 ghost use Rattle.tt_groups_day.specs.Choosing.{IsApart};
 ghost use Rattle.tt_groups_day.specs.Found.{AreDistinct, AreOpened, IsDayAt};
 ghost use Rattle.tt_groups.specs.Group as spec;
 ghost use Rattle.tt_groups.specs.Listed.{AreCourses};
 ghost use Rattle.tt_groups_day.specs.Sets.{Covers, IsComplete, IsCourseSet, AreAvailable};
-ghost use Rattle.tt_groups_day.specs.Work.{IsUsedUp};
+ghost use Rattle.tt_groups_day.specs.Work.{IsUsedUp, sequences_of};
 ghost use Rattle.tt_groups_day.specs.declared.fault.DaysFault.TheVariants as fault;
 ghost use Rattle.tt_instance.specs.Courses.{lectures, unavailable};
 ghost use Rattle.tt_groups_day.specs.declared.morning.TheConstants.{LECTURES, MAX_INDEX};
@@ -92,7 +92,15 @@ pub fn day_table(
     ensures found { IfOk result (λ v. (g : spec.Group) (weights : List ℕ) → AreCourses instance.now g courses.now → length g.curricula ≤ CURRICULA → AreDistinct courses.now →
         All (IsCourseSet instance.now g courses.now weights) sets.now → All (IsApart instance.now courses.now) sets.now →
         (k : ℕ) → k < places → slice_index v.items k < bound → IsDayAt instance.now g courses.now day weights k (slice_index v.items k)) }
+    // Each set that is added to a sequence was tried.
+    ensures sequences { work.new.sequences ≤ work.old.sequences }
+    ensures tries { work.new.tries ≤ work.old.tries }
+    ensures each_tried { work.old.sequences + work.new.tries ≤ work.old.tries + work.new.sequences }
+    // No sequence of sets is tried twice.
+    ensures at_most { work.old.tries ≤ work.new.tries + sequences_of (length sets.now) instance.now.periods }
     ensures used_up { result ≡ Err fault.TooMuchWork → IsUsedUp work.new }
+    ensures too_few { result ≡ Err fault.TooMuchWork → (work.old.sequences < sequences_of (length sets.now) instance.now.periods) ⊎
+        (work.old.tries < sequences_of (length sets.now) instance.now.periods) }
 {
     let most = lectures_of(instance, courses);
     let periods = periods_of(alloc, instance, courses, day)?;

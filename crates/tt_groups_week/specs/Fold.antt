@@ -26,11 +26,12 @@ pub record AreReady (sizes weights : List ℕ) (courses : ℕ) (moves : List Mov
   pub floored : All (λ m. m.floor ≡ floor_of sizes m.entry.amounts) moves
   pub sorted : IsNonDecreasingBy (λ m. m.entry.cost + m.floor) moves
 
--- Whether the moves are ready, each entry of the day has a move, and each move is that of an entry.
+-- Whether the moves are ready, each entry of the day has a move, each move is that of an entry, and there are as many of both.
 pub record AreMovesOf (sizes weights : List ℕ) (courses : ℕ) (days : List DayEntry) (moves : List Move) : Type 0 where
   pub ready : AreReady sizes weights courses moves
   pub all : (x : DayEntry) → Contains days x → (m : Move) × Contains moves m × (m.entry ≡ x)
   pub own : (m : Move) → Contains moves m → Contains days m.entry
+  pub many : length moves ≡ length days
 
 -- Whether the amount at j is at most what is left at j.
 abbrev pub is_under : List ℕ → List ℕ → ℕ → Bool

@@ -1,5 +1,5 @@
 -- The tables of a group's week as lists; cs are the courses that the group concerns.
-use Rattle.std.specs.Prelude.{◌≡◌, ℕ, ◌-◌, ◌<◌, ◌≤◌, ◌==◌, Bool, List, length, Contains, true, slice_index, slice_index_or, Vec}
+use Rattle.std.specs.Prelude.{◌≡◌, ℕ, ◌-◌, ◌<◌, ◌≤◌, ◌==◌, Bool, List, length, All, Contains, true, slice_index, slice_index_or, Vec}
 use Rattle.std.specs.Global.{Global}
 use Rattle.std.specs.List.{list_all}
 use Rattle.tt_list_laws.specs.Words.{range_below}
@@ -46,3 +46,7 @@ pub record Suits (p : Problem) (g : Group) (cs sizes weights : List ℕ) (course
 abbrev pub AreReached : Problem → Group → List ℕ → List (Vec Move Global) → List ℕ → Type 0
 AreReached p g cs lists of_day =
     (d : ℕ) (v : Vec Move Global) (m : Move) → d < length of_day → Contains (slice_index_or lists (slice_index of_day d) v).items m → IsReachedDay p g cs d m.entry
+
+-- Whether no list has more than n moves.
+abbrev pub AreShort : ℕ → List (Vec Move Global) → Type 0
+AreShort n lists = All (λ v. length v.items ≤ n) lists

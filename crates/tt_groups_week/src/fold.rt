@@ -1,6 +1,6 @@
 //! The fold of a day's moves into the table of the days before it.
 
-ghost use Rattle.std.specs.Prelude.{◌≡◌, ◌⊎◌, ℕ, ◌+◌, ◌<◌, ◌≤◌, length, slice_index, All, OnOk, OnErr};
+ghost use Rattle.std.specs.Prelude.{◌≡◌, ◌⊎◌, ℕ, ◌+◌, ◌*◌, ◌<◌, ◌≤◌, length, slice_index, All, OnOk, OnErr};
 ghost use Rattle.tt_groups_week.specs.Fold.{AreReady, IsState};
 ghost use Rattle.tt_groups_week.specs.Steps.{Falls, IsRelaxed, IsMade, IsMadeFrom};
 ghost use Rattle.tt_groups_week.specs.declared.digits.TheConstants.{MAX_PLACES};
@@ -37,6 +37,7 @@ pub fn relax(
         bound state.now.place paid table.new m.entry) moves.now }
     ensures made { (k : ℕ) → (slice_index table.new k ≡ slice_index table.old k) ⊎ IsMade digits.now.sizes.items digits.now.weights.items digits.now.courses
         moves.now state.now.place paid k (slice_index table.new k) }
+    ensures at_most { result ≤ length moves.now }
 {
     for (tried, by) in moves.iter().enumerate() {
         let cost = u32::from(paid) + u32::from(by.entry.cost);
@@ -88,7 +89,11 @@ pub fn extend(
         bound place (slice_index table.now place) next.new m.entry) moves.now) }
     ensures made { OnOk result ((k : ℕ) → (slice_index next.new k ≡ slice_index next.old k) ⊎ IsMadeFrom digits.now.sizes.items digits.now.weights.items digits.now.courses
         moves.now bound table.now k (slice_index next.new k)) }
+    // Each move is tried at most once from each place.
+    ensures fewer { relaxations.new ≤ relaxations.old }
+    ensures at_most { relaxations.old ≤ relaxations.new + length table.now * length moves.now }
     ensures used_up { OnErr result (relaxations.new ≡ 0) }
+    ensures too_few { OnErr result (relaxations.old < length table.now * length moves.now) }
 {
     for (place, paid) in table.iter().enumerate() {
         if *paid < bound {

@@ -1,12 +1,12 @@
 //! The table of the whole week.
 
-ghost use Rattle.std.specs.Prelude.{◌≡◌, ℕ, ◌<◌, ◌≤◌, ◌+◌, List, length, slice_index, true, false, All, IfOk, IsTrue, Err};
+ghost use Rattle.std.specs.Prelude.{◌≡◌, ℕ, ◌<◌, ◌≤◌, ◌+◌, ◌*◌, List, length, slice_index, true, false, All, IfOk, IsTrue, Err};
 ghost use Rattle.tt_groups.specs.Group as spec;
 ghost use Rattle.tt_groups.specs.Group.{IsGroupBound};
 ghost use Rattle.tt_groups.specs.Plans.{Week, IsPlan, base_cost, spent};
 ghost use Rattle.tt_groups_week.specs.Fold.{AreReady};
 ghost use Rattle.tt_groups_week.specs.declared.fault.WeekFault.TheVariants as fault;
-ghost use Rattle.tt_groups_week.specs.WeekLists.{is_full, IsHighList, Suits, AreReached};
+ghost use Rattle.tt_groups_week.specs.WeekLists.{is_full, AreShort, IsHighList, Suits, AreReached};
 ghost use Rattle.tt_instance.specs.Problem.{Problem};
 ghost use Rattle.tt_groups_week.specs.declared.digits.TheConstants.{MAX_PLACES};
 
@@ -61,7 +61,11 @@ pub fn week_holds(
     ensures fails { IfOk result (λ holds. holds ≡ false → (p : Problem) (g : spec.Group) (cs : List ℕ) →
         Suits p g cs digits.now.sizes.items digits.now.weights.items digits.now.courses bound lists.now of_day.now → AreReached p g cs lists.now of_day.now →
         (week : Week) × IsPlan p g week × (spent p g week p.days < bound)) }
+    // Each move of each day is tried at most once from each place.
+    ensures fewer { relaxations.new ≤ relaxations.old }
+    ensures at_most { (n : ℕ) → AreShort n lists.now → relaxations.old ≤ relaxations.new + length of_day.now * (digits.now.count * n) }
     ensures used_up { result ≡ Err fault.TooMuchWork → relaxations.new ≡ 0 }
+    ensures too_few { result ≡ Err fault.TooMuchWork → (n : ℕ) → AreShort n lists.now → relaxations.old < length of_day.now * (digits.now.count * n) }
 {
     let places = digits.count as usize;
     let mut table = vec![in alloc; u8::MAX; places]?;

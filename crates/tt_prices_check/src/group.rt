@@ -60,7 +60,7 @@ pub fn least_of_group(
 
     // The group takes its work from what is left for the file, at most so many steps.
     ensures steps { (work.new.steps ≤ work.old.steps) × (work.old.steps ≤ work.new.steps + MAX_GROUP_STEPS) }
-    ensures relaxations { OnOk result (work.new.relaxations ≤ work.old.relaxations) }
+    ensures relaxations { work.new.relaxations ≤ work.old.relaxations }
     // It is too much work only if all steps of the group or all relaxations of the file are used up.
     ensures used_up { result ≡ Err (Stop.Fault fault.TooMuchWork) →
         (work.new.steps + min work.old.steps MAX_GROUP_STEPS ≡ work.old.steps) ⊎ (work.new.relaxations ≡ 0) }

@@ -1,6 +1,6 @@
 //! The layers of a day: for each key of the first periods, what they pay at least.
 
-ghost use Rattle.std.specs.Prelude.{◌≡◌, ◌⊎◌, ℕ, ◌+◌, ◌*◌, ◌^◌, ◌<◌, ◌≤◌, ◌≤ℤ◌, length, slice_index, Contains, All, OnOk, IfOk, Err};
+ghost use Rattle.std.specs.Prelude.{◌≡◌, ◌⊎◌, ℕ, ◌+◌, ◌*◌, ◌^◌, ◌<◌, ◌≤◌, ◌≤ℤ◌, length, slice_index, Contains, All, OnOk, OnErr, IfOk, Err};
 ghost use Rattle.tt_groups_day.specs.declared.fault.DaysFault.TheVariants as fault;
 ghost use Rattle.tt_prices_day.specs.Inner.Layers.{IsNext, IsOver, IsNodeWithin, IsLetterWithin, HasCheaper, AreFollowed, AreReached, IsEndOf, AreEnded, AreEndsOf};
 ghost use Rattle.tt_prices.specs.Limits.{IsWithin};
@@ -64,7 +64,9 @@ pub fn next_layer(
     ensures reached { IfOk result (λ v. AreReached rules.now scale letters.now layer.now v.items) }
     ensures within { IfOk result (λ v. (n : ℕ) → All (IsNodeWithin n) layer.now → All (IsNodeWithin (n + 2 ^ 31)) v.items) }
     ensures fewer { steps.new ≤ steps.old }
+    ensures taken { steps.old ≤ steps.new + length layer.now * length letters.now }
     ensures used_up { result ≡ Err fault.TooMuchWork → steps.new ≡ 0 }
+    ensures too_few { result ≡ Err fault.TooMuchWork → steps.old < length layer.now * length letters.now }
 {
     use_up(steps, layer.len() as u64, letters.len() as u64)?;
     let mut next = Cheapest::new(alloc);
@@ -77,7 +79,9 @@ pub fn next_layer(
 /// Subtracts a step for each pair of a node and a letter.
 fn use_up(steps: &mut u64, nodes: u64, letters: u64) -> Result<(), DaysFault>
     ensures fewer { steps.new ≤ steps.old }
+    ensures taken { steps.old ≤ steps.new + nodes * letters }
     ensures used_up { result ≡ Err fault.TooMuchWork → steps.new ≡ 0 }
+    ensures too_few { OnErr result (steps.old < nodes * letters) }
 {
     match steps.checked_sub(nodes.saturating_mul(letters)) {
         Some(left) => {

@@ -1,6 +1,6 @@
 //! What a group of a file pays at least.
 
-ghost use Rattle.std.specs.Prelude.{◌≡◌, ◌≤◌, ◌^◌, true, false, Some, None, IfOk, OnOk};
+ghost use Rattle.std.specs.Prelude.{◌≡◌, ◌+◌, ◌<◌, ◌≤◌, ◌^◌, true, false, Some, None, IfOk, OnOk};
 ghost use Rattle.tt_stop.specs.Stops.{IfFault, is_read_failed};
 ghost use Rattle.tt_prices.specs.Limits.{IsWithin};
 ghost use Rattle.tt_prices.specs.Rows.{group_of};
@@ -30,7 +30,12 @@ fn stop_from_group(number: u32, stop: Stop<PricedFault>) -> Stop<PricesFault>
 }
 
 /// Subtracts the steps that each group takes, and returns whether they were left.
-fn pay_group(work: &mut PricedWork) -> bool {
+fn pay_group(work: &mut PricedWork) -> bool
+    ensures paid { result ≡ true → work.new.steps + GROUP_STEPS ≡ work.old.steps }
+    ensures too_few { result ≡ false → work.old.steps < GROUP_STEPS }
+    ensures fewer { work.new.steps ≤ work.old.steps }
+    ensures relaxations { work.new.relaxations ≡ work.old.relaxations }
+{
     match work.steps.checked_sub(GROUP_STEPS) {
         Some(left) => {
             work.steps = left;
@@ -56,6 +61,9 @@ pub fn find_least(
     ensures within { OnOk result (IsWithinLimits instance.now (group_of group.now)) }
     ensures fault { IfFault result (IsGroupFault instance.now scale (group_of group.now) number) }
     ensures unread { is_read_failed result ≡ false }
+    // The work that is left never rises.
+    ensures steps { work.new.steps ≤ work.old.steps }
+    ensures relaxations { work.new.relaxations ≤ work.old.relaxations }
 {
     match least_of_group(alloc, instance, group, scale, work) {
         Ok(Some(least)) => {

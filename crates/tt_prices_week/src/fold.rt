@@ -90,6 +90,7 @@ pub fn extend(
         All (IsRelaxed digits.now.sizes.items digits.now.weights.items digits.now.courses scale place (slice_index table.now place) next.new) moves.now) }
     ensures made { OnOk result ((k : ℕ) → (slice_index next.new k ≡ slice_index next.old k) ⊎ IsMadeFrom digits.now.sizes.items digits.now.weights.items digits.now.courses
         scale moves.now table.now k (slice_index next.new k)) }
+    ensures fewer { relaxations.new ≤ relaxations.old }
     ensures taken { OnOk result ((relaxations.new ≤ relaxations.old) × (relaxations.old ≤ relaxations.new + length table.now * length moves.now)) }
     ensures used_up { OnErr result ((relaxations.new ≡ 0) × (relaxations.old < length table.now * length moves.now)) }
 {

@@ -61,6 +61,7 @@ pub fn least_week(
     ensures least { IfOk result (λ least. (p : Problem) (g : PricedGroup) →
         Suits p scale g digits.now.sizes.items digits.now.courses lists.now → IsLeastPlan p scale g least) }
     ensures small { IfOk result (λ least. IfSome least (IsWithin (2 ^ 57))) }
+    ensures fewer { relaxations.new ≤ relaxations.old }
     ensures taken { OnOk result ((relaxations.new ≤ relaxations.old) × (relaxations.old ≤ relaxations.new + digits.now.count * all_moves lists.now)) }
     ensures used_up { result ≡ Err fault.TooMuchWork → (relaxations.new ≡ 0) × (relaxations.old < digits.now.count * all_moves lists.now) }
 {

@@ -1,16 +1,21 @@
-use Rattle.tt_groups_check.specs.Limits.{courses_of}
-use Rattle.std.proofs.Common.{get_or, ◌≤◌, ◌≡◌, ℕ, ◌-◌, ◌<◌, List, length, sym, ap, ◌∙◌, subst, arith, Vec}
+use Rattle.tt_groups_check.specs.Faults.{fault_from_week}
+use Rattle.tt_groups_check.specs.Limits.{courses_of, states_of}
+use Rattle.tt_groups_check.specs.declared.fault.GroupFault.TheVariants as fault
+use Rattle.std.proofs.Common.{get_or, ◌≤◌, ◌≡◌, ℕ, ◌-◌, ◌<◌, List, Err, length, refl, sym, ap, ◌∙◌, subst, arith, inl, inr, Vec}
+use Rattle.std.proofs.lemmas.Result.{err_from_is_err_and}
 use Rattle.std.specs.Global.{Global}
 use Rattle.std.specs.Prelude.{All}
-use Rattle.tt_groups.specs.Places.{group_sizes}
+use Rattle.tt_groups.specs.Places.{group_sizes, places}
 use Rattle.tt_groups_week.specs.Fold.{AreReady}
-use Rattle.tt_groups_week.specs.WeekLists.{Suits, AreReached}
+use Rattle.tt_groups_week.specs.WeekLists.{Suits, AreReached, AreShort}
 use Rattle.std.proofs.lemmas.List.Elements.{Contains-get_or}
 use Rattle.tt_instance.specs.Courses.{lectures}
 use Rattle.tt_groups_check.specs.CoursesAndSizes.{AreCoursesAndSizes}
 use Rattle.tt_groups_check.specs.Lists.{AreOfDays}
 use Rattle.tt_groups_week.specs.declared.moves.Move.{Move}
 use Rattle.tt_groups_check.proofs.CoursesAndSizes.{narrow_from, courses_below, digits_between, digits_few, base_bound}
+use Rattle.tt_groups_check.proofs.Reported.{work_of_week}
+use Rattle.tt_groups_check.proofs.Taken.{sequences_same, relaxations_same}
 use Rattle.tt_groups.proofs.Built.{built, is_relaxed, built_cost}
 use Rattle.tt_groups_check.proofs.check.check_group.Goals as goal
 
@@ -151,3 +156,142 @@ returns-clause-too_cheap c = λ is.
       is_relaxed p g w.0 w.1 there,
       omega (arith, built_cost p g w.0 w.1 there, w.2, c.base_cost-base.ensures.value, c.if-value-base.false),
     )
+
+-- ---- the work that is left
+
+pub pay_tables-requires-clause-states : goal.pay_tables-requires-clause-states
+pay_tables-requires-clause-states c = c.in-Some.digits.are.limited
+
+pub returns-in_err-lists-clause-tries_taken : goal.returns-in_err-lists-clause-tries_taken
+returns-in_err-lists-clause-tries_taken c =
+    let p = c.args.instance.now in
+    let g = c.args.group.now in
+    let same = sequences_same p g c.deref-2.result.now (c.deref-2.ensures.value ∙ c.in_ok-courses.ensures.value) in
+    omega (arith, c.in_err-lists.ensures.at_most, same)
+
+pub returns-in_err-pay_tables-clause-tries_taken : goal.returns-in_err-pay_tables-clause-tries_taken
+returns-in_err-pay_tables-clause-tries_taken c =
+    let p = c.args.instance.now in
+    let g = c.args.group.now in
+    let same = sequences_same p g c.deref-2.result.now (c.deref-2.ensures.value ∙ c.in_ok-courses.ensures.value) in
+    omega (arith, c.in_ok-lists.ensures.at_most, same)
+
+pub returns-in_err-holds-clause-tries_taken : goal.returns-in_err-holds-clause-tries_taken
+returns-in_err-holds-clause-tries_taken c =
+    let p = c.args.instance.now in
+    let g = c.args.group.now in
+    let same = sequences_same p g c.deref-2.result.now (c.deref-2.ensures.value ∙ c.in_ok-courses.ensures.value) in
+    omega (arith, c.in_ok-lists.ensures.at_most, same)
+
+pub returns-then-holds-clause-tries_taken : goal.returns-then-holds-clause-tries_taken
+returns-then-holds-clause-tries_taken c =
+    let p = c.args.instance.now in
+    let g = c.args.group.now in
+    let same = sequences_same p g c.deref-2.result.now (c.deref-2.ensures.value ∙ c.in_ok-courses.ensures.value) in
+    omega (arith, c.in_ok-lists.ensures.at_most, same)
+
+pub returns-clause-tries_taken : goal.returns-clause-tries_taken
+returns-clause-tries_taken c =
+    let p = c.args.instance.now in
+    let g = c.args.group.now in
+    let same = sequences_same p g c.deref-2.result.now (c.deref-2.ensures.value ∙ c.in_ok-courses.ensures.value) in
+    omega (arith, c.in_ok-lists.ensures.at_most, same)
+
+pub returns-in_err-pay_tables-clause-relaxations_taken : goal.returns-in_err-pay_tables-clause-relaxations_taken
+returns-in_err-pay_tables-clause-relaxations_taken c =
+    let p = c.args.instance.now in
+    let g = c.args.group.now in
+    let d = c.in-Some.digits in
+    let made = rw c.in-Some.is at c.in_ok-digits.ensures.made in
+    let sized : d.sizes.items ≡ group_sizes p g (courses_of p g) =
+    made.0 ∙ c.in_ok-sizes.ensures ∙ ap (group_sizes p g) (c.deref.ensures.value ∙ c.in_ok-courses.ensures.value) in
+    let count : d.count ≡ states_of p g = sym d.are.counted ∙ ap places sized in
+    let most = relaxations_same p.days (states_of p g) c.days.result d.count p.days c.days.ensures.value refl count in
+    omega (arith, c.in_err-pay_tables.ensures.too_few, most)
+
+pub returns-in_err-holds-clause-relaxations_taken : goal.returns-in_err-holds-clause-relaxations_taken
+returns-in_err-holds-clause-relaxations_taken c =
+    let p = c.args.instance.now in
+    let g = c.args.group.now in
+    let d = c.in-Some.digits in
+    let made = rw c.in-Some.is at c.in_ok-digits.ensures.made in
+    let sized : d.sizes.items ≡ group_sizes p g (courses_of p g) =
+    made.0 ∙ c.in_ok-sizes.ensures ∙ ap (group_sizes p g) (c.deref.ensures.value ∙ c.in_ok-courses.ensures.value) in
+    let count : d.count ≡ states_of p g = sym d.are.counted ∙ ap places sized in
+    let short = subst (λ (l : List (Vec Move Global)). AreShort d.count l) (sym c.deref-3.ensures.value) c.in_ok-lists.ensures.few in
+    let listed : length c.deref-4.result.now ≡ p.days = ap length c.deref-4.ensures.value ∙ c.in_ok-lists.ensures.all in
+    let most = relaxations_same p.days (states_of p g) c.days.result d.count (length c.deref-4.result.now)
+    c.days.ensures.value listed count in
+    omega (arith, c.in_err-holds.ensures.at_most d.count short, c.in_ok-pay_tables.ensures.paid, most)
+
+pub returns-then-holds-clause-relaxations_taken : goal.returns-then-holds-clause-relaxations_taken
+returns-then-holds-clause-relaxations_taken c =
+    let p = c.args.instance.now in
+    let g = c.args.group.now in
+    let d = c.in-Some.digits in
+    let made = rw c.in-Some.is at c.in_ok-digits.ensures.made in
+    let sized : d.sizes.items ≡ group_sizes p g (courses_of p g) =
+    made.0 ∙ c.in_ok-sizes.ensures ∙ ap (group_sizes p g) (c.deref.ensures.value ∙ c.in_ok-courses.ensures.value) in
+    let count : d.count ≡ states_of p g = sym d.are.counted ∙ ap places sized in
+    let short = subst (λ (l : List (Vec Move Global)). AreShort d.count l) (sym c.deref-3.ensures.value) c.in_ok-lists.ensures.few in
+    let listed : length c.deref-4.result.now ≡ p.days = ap length c.deref-4.ensures.value ∙ c.in_ok-lists.ensures.all in
+    let most = relaxations_same p.days (states_of p g) c.days.result d.count (length c.deref-4.result.now)
+    c.days.ensures.value listed count in
+    omega (arith, c.in_ok-holds.ensures.at_most d.count short, c.in_ok-pay_tables.ensures.paid, most)
+
+pub returns-clause-relaxations_taken : goal.returns-clause-relaxations_taken
+returns-clause-relaxations_taken c =
+    let p = c.args.instance.now in
+    let g = c.args.group.now in
+    let d = c.in-Some.digits in
+    let made = rw c.in-Some.is at c.in_ok-digits.ensures.made in
+    let sized : d.sizes.items ≡ group_sizes p g (courses_of p g) =
+    made.0 ∙ c.in_ok-sizes.ensures ∙ ap (group_sizes p g) (c.deref.ensures.value ∙ c.in_ok-courses.ensures.value) in
+    let count : d.count ≡ states_of p g = sym d.are.counted ∙ ap places sized in
+    let short = subst (λ (l : List (Vec Move Global)). AreShort d.count l) (sym c.deref-3.ensures.value) c.in_ok-lists.ensures.few in
+    let listed : length c.deref-4.result.now ≡ p.days = ap length c.deref-4.ensures.value ∙ c.in_ok-lists.ensures.all in
+    let most = relaxations_same p.days (states_of p g) c.days.result d.count (length c.deref-4.result.now)
+    c.days.ensures.value listed count in
+    omega (arith, c.in_ok-holds.ensures.at_most d.count short, c.in_ok-pay_tables.ensures.paid, most)
+
+pub returns-in_err-lists-clause-work_short : goal.returns-in_err-lists-clause-work_short
+returns-in_err-lists-clause-work_short c = λ is.
+    let p = c.args.instance.now in
+    let g = c.args.group.now in
+    let same = sequences_same p g c.deref-2.result.now (c.deref-2.ensures.value ∙ c.in_ok-courses.ensures.value) in
+    let e = err_from_is_err_and c.from_residual-in_err-lists.result c.from_residual-in_err-lists.ensures.1 in
+    let fault_is : c.in_err-lists.field-0.0 ≡ fault.TooMuchWork = cc (e.1, e.2, is) in
+    elim (c.in_err-lists.ensures.too_few (ap Err fault_is)) [
+      | inl few ↦ inl (omega (arith, few, same))
+      | inr few ↦ inr (inl (omega (arith, few, same)))
+    ]
+
+pub returns-in_err-pay_tables-clause-work_short : goal.returns-in_err-pay_tables-clause-work_short
+returns-in_err-pay_tables-clause-work_short c = λ _.
+    let p = c.args.instance.now in
+    let g = c.args.group.now in
+    let d = c.in-Some.digits in
+    let made = rw c.in-Some.is at c.in_ok-digits.ensures.made in
+    let sized : d.sizes.items ≡ group_sizes p g (courses_of p g) =
+    made.0 ∙ c.in_ok-sizes.ensures ∙ ap (group_sizes p g) (c.deref.ensures.value ∙ c.in_ok-courses.ensures.value) in
+    let count : d.count ≡ states_of p g = sym d.are.counted ∙ ap places sized in
+    let most = relaxations_same p.days (states_of p g) c.days.result d.count p.days c.days.ensures.value refl count in
+    inr (inr (omega (arith, c.in_err-pay_tables.ensures.too_few, most)))
+
+pub returns-in_err-holds-clause-work_short : goal.returns-in_err-holds-clause-work_short
+returns-in_err-holds-clause-work_short c = λ is.
+    let p = c.args.instance.now in
+    let g = c.args.group.now in
+    let d = c.in-Some.digits in
+    let made = rw c.in-Some.is at c.in_ok-digits.ensures.made in
+    let sized : d.sizes.items ≡ group_sizes p g (courses_of p g) =
+    made.0 ∙ c.in_ok-sizes.ensures ∙ ap (group_sizes p g) (c.deref.ensures.value ∙ c.in_ok-courses.ensures.value) in
+    let count : d.count ≡ states_of p g = sym d.are.counted ∙ ap places sized in
+    let short = subst (λ (l : List (Vec Move Global)). AreShort d.count l) (sym c.deref-3.ensures.value) c.in_ok-lists.ensures.few in
+    let listed : length c.deref-4.result.now ≡ p.days = ap length c.deref-4.ensures.value ∙ c.in_ok-lists.ensures.all in
+    let most = relaxations_same p.days (states_of p g) c.days.result d.count (length c.deref-4.result.now)
+    c.days.ensures.value listed count in
+    let e = err_from_is_err_and c.from_residual-in_err-holds.result c.from_residual-in_err-holds.ensures.1 in
+    let fault_is : fault_from_week c.in_err-holds.field-0.0 ≡ fault.TooMuchWork = cc (e.1, e.2, is) in
+    let few = c.in_err-holds.ensures.too_few (ap Err (work_of_week c.in_err-holds.field-0.0 fault_is)) d.count short in
+    inr (inr (omega (arith, few, c.in_ok-pay_tables.ensures.paid, most)))

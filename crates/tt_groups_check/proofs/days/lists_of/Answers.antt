@@ -1,14 +1,23 @@
-use Rattle.std.proofs.Common.{◌+◌, ℕ, List, length, sym, ap, ◌∙◌, subst}
+use Rattle.std.proofs.Common.{◌≡◌, ◌+◌, ◌*◌, ◌≤◌, ℕ, List, Err, length, sym, ap, ◌∙◌, subst, arith, inl, inr}
+use Rattle.std.proofs.Math.Nat.{mul-le-mul_right}
+use Rattle.std.proofs.lemmas.Result.{err_from_is_err_and}
 use Rattle.tt_groups.specs.Listed.{IsDayList, IsReachedDay}
 use Rattle.tt_groups.specs.declared.entry.DayEntry.{DayEntry}
 use Rattle.tt_groups_day.specs.Entries.{AreLectureDigits}
 use Rattle.std.specs.Prelude.{All, Contains}
 use Rattle.tt_groups_day.specs.Choosing.{IsApart}
+use Rattle.tt_groups_day.specs.Counting.{sets_count}
+use Rattle.tt_groups_day.specs.Work.{sequences_of}
+use Rattle.tt_groups_day.specs.declared.fault.DaysFault.TheVariants as day_fault
+use Rattle.tt_groups_day.specs.declared.work.DayWork.{DayWork}
 use Rattle.tt_groups_day.specs.declared.morning.CourseSet.{CourseSet}
-use Rattle.tt_groups_week.specs.WeekLists.{AreReached}
+use Rattle.tt_groups_week.specs.WeekLists.{AreReached, AreShort}
 use Rattle.tt_groups_check.specs.Availability.{IsSameAvailability}
 use Rattle.tt_groups_check.specs.Lists.{AreListed, AreOfDays}
 use Rattle.tt_groups_check.specs.declared.lists.Lists.{Lists}
+use Rattle.tt_groups_check.specs.Faults.{fault_from_days}
+use Rattle.tt_groups_check.specs.declared.fault.GroupFault.TheVariants as fault
+use Rattle.tt_groups_check.proofs.Reported.{work_of_day}
 use Rattle.tt_groups_check.proofs.Places.{lecture_digits}
 use Rattle.tt_groups_check.proofs.days.lists_of.Goals as goal
 use Rattle.tt_groups_check.proofs.days.lists_of.Goals.{in-Some+in_ok-share-in-Some, in-None+in_ok-entries-in-None+in_ok-add-in-None}
@@ -44,6 +53,16 @@ loop-day-preserved c =
                 (clauses.of_days p g cs b c.requires.group same before.of_days);
             reached = subst (λ (x : Lists). AreReached p g cs x.moves.items x.of_day.items) (sym w.lists-is)
                 (clauses.reached p g cs c.requires.group same before.reached);
+            few = subst (λ (x : Lists). AreShort d.count x.moves.items) (sym w.lists-is) (clauses.few d.count before.few);
+            sequences = omega (arith, before.sequences, ap (λ (x : DayWork). x.sequences) w.work-is);
+            tries = omega (arith, before.tries, ap (λ (x : DayWork). x.tries) w.work-is);
+            each_tried = omega (
+              arith,
+              before.each_tried,
+              ap (λ (x : DayWork). x.sequences) w.work-is,
+              ap (λ (x : DayWork). x.tries) w.work-is,
+            );
+            at_most = omega (arith, before.at_most, ap (λ (x : DayWork). x.tries) w.work-is);
           }
       | in-None+in_ok-entries-in-None+in_ok-add-in-None w ↦
           let clauses = w.in_ok-add-in-None.ensures in
@@ -63,5 +82,97 @@ loop-day-preserved c =
                 (clauses.of_days p g cs b here before.of_days);
             reached = subst (λ (x : Lists). AreReached p g cs x.moves.items x.of_day.items) (sym w.lists-is)
                 (clauses.reached p g cs there before.reached);
+            few =
+                let entries : length w.deref-in-None-4.result.now ≤ d.count =
+                omega (arith, w.in_ok-entries-in-None.ensures.few, ap length w.deref-in-None-4.ensures.value) in
+                subst (λ (x : Lists). AreShort d.count x.moves.items) (sym w.lists-is) (clauses.few d.count entries before.few);
+            sequences = omega (
+              arith,
+              before.sequences,
+              w.in_ok-entries-in-None.ensures.sequences,
+              ap (λ (x : DayWork). x.sequences) w.work-is,
+            );
+            tries = omega (arith, before.tries, w.in_ok-entries-in-None.ensures.tries, ap (λ (x : DayWork). x.tries) w.work-is);
+            each_tried = omega (
+              arith,
+              before.each_tried,
+              w.in_ok-entries-in-None.ensures.each_tried,
+              ap (λ (x : DayWork). x.sequences) w.work-is,
+              ap (λ (x : DayWork). x.tries) w.work-is,
+            );
+            at_most = omega (
+              arith,
+              before.at_most,
+              w.in_ok-entries-in-None.ensures.at_most,
+              ap (λ (l : List CourseSet). sequences_of (length l) p.periods) w.deref-in-None-3.ensures.value,
+              ap (λ (x : DayWork). x.tries) w.work-is,
+            );
           }
+    ]
+
+-- ---- the work that is left
+
+pub returns-clause-at_most : goal.returns-clause-at_most
+returns-clause-at_most c =
+    let p = c.args.instance.now in
+    let all = sequences_of (sets_count p c.args.courses.now) p.periods in
+    let spent : c.loop-day.day * sequences_of (length c.in_ok-sets.sets.items) p.periods ≡ c.loop-day.day * all =
+    ap (λ n. c.loop-day.day * sequences_of n p.periods) c.in_ok-sets.ensures.counted in
+    let end : c.loop-day.day ≤ p.days = omega (arith, c.loop-day.auto.day-end, c.days-day-end.ensures.value) in
+    omega (arith, c.loop-day.invariant.at_most, spent, mul-le-mul_right all end)
+
+pub returns-in_err-share-in-Some-clause-at_most : goal.returns-in_err-share-in-Some-clause-at_most
+returns-in_err-share-in-Some-clause-at_most c =
+    let p = c.args.instance.now in
+    let all = sequences_of (sets_count p c.args.courses.now) p.periods in
+    let spent : c.loop-day.day * sequences_of (length c.in_ok-sets.sets.items) p.periods ≡ c.loop-day.day * all =
+    ap (λ n. c.loop-day.day * sequences_of n p.periods) c.in_ok-sets.ensures.counted in
+    let less : c.loop-day.day + 1 ≤ p.days = omega (arith, c.loop-day-test.true, c.days-day-end.ensures.value) in
+    let most = mul-le-mul_right all less in
+    omega (arith, c.loop-day.invariant.at_most, spent, most)
+
+pub returns-in_err-entries-in-None-clause-at_most : goal.returns-in_err-entries-in-None-clause-at_most
+returns-in_err-entries-in-None-clause-at_most c =
+    let p = c.args.instance.now in
+    let all = sequences_of (sets_count p c.args.courses.now) p.periods in
+    let spent : c.loop-day.day * sequences_of (length c.in_ok-sets.sets.items) p.periods ≡ c.loop-day.day * all =
+    ap (λ n. c.loop-day.day * sequences_of n p.periods) c.in_ok-sets.ensures.counted in
+    let less : c.loop-day.day + 1 ≤ p.days = omega (arith, c.loop-day-test.true, c.days-day-end.ensures.value) in
+    let most = mul-le-mul_right all less in
+    let here : sequences_of (length c.deref-in-None-3.result.now) p.periods ≡ all =
+    ap (λ (l : List CourseSet). sequences_of (length l) p.periods) c.deref-in-None-3.ensures.value
+    ∙ ap (λ n. sequences_of n p.periods) c.in_ok-sets.ensures.counted in
+    omega (arith, c.loop-day.invariant.at_most, c.in_err-entries-in-None.ensures.at_most, spent, here, most)
+
+pub returns-in_err-add-in-None-clause-at_most : goal.returns-in_err-add-in-None-clause-at_most
+returns-in_err-add-in-None-clause-at_most c =
+    let p = c.args.instance.now in
+    let all = sequences_of (sets_count p c.args.courses.now) p.periods in
+    let spent : c.loop-day.day * sequences_of (length c.in_ok-sets.sets.items) p.periods ≡ c.loop-day.day * all =
+    ap (λ n. c.loop-day.day * sequences_of n p.periods) c.in_ok-sets.ensures.counted in
+    let less : c.loop-day.day + 1 ≤ p.days = omega (arith, c.loop-day-test.true, c.days-day-end.ensures.value) in
+    let most = mul-le-mul_right all less in
+    let here : sequences_of (length c.deref-in-None-3.result.now) p.periods ≡ all =
+    ap (λ (l : List CourseSet). sequences_of (length l) p.periods) c.deref-in-None-3.ensures.value
+    ∙ ap (λ n. sequences_of n p.periods) c.in_ok-sets.ensures.counted in
+    omega (arith, c.loop-day.invariant.at_most, c.in_ok-entries-in-None.ensures.at_most, spent, here, most)
+
+pub returns-in_err-entries-in-None-clause-too_few : goal.returns-in_err-entries-in-None-clause-too_few
+returns-in_err-entries-in-None-clause-too_few c = λ is.
+    let p = c.args.instance.now in
+    let all = sequences_of (sets_count p c.args.courses.now) p.periods in
+    let spent : c.loop-day.day * sequences_of (length c.in_ok-sets.sets.items) p.periods ≡ c.loop-day.day * all =
+    ap (λ n. c.loop-day.day * sequences_of n p.periods) c.in_ok-sets.ensures.counted in
+    let less : c.loop-day.day + 1 ≤ p.days = omega (arith, c.loop-day-test.true, c.days-day-end.ensures.value) in
+    let most = mul-le-mul_right all less in
+    let here : sequences_of (length c.deref-in-None-3.result.now) p.periods ≡ all =
+    ap (λ (l : List CourseSet). sequences_of (length l) p.periods) c.deref-in-None-3.ensures.value
+    ∙ ap (λ n. sequences_of n p.periods) c.in_ok-sets.ensures.counted in
+    let before = c.loop-day.invariant in
+    let e = err_from_is_err_and c.from_residual-in_err-entries-in-None.result c.from_residual-in_err-entries-in-None.ensures.1 in
+    let same : fault_from_days c.in_err-entries-in-None.field-0.0 ≡ fault.TooMuchWork = cc (e.1, e.2, is) in
+    let few = c.in_err-entries-in-None.ensures.too_few (ap Err (work_of_day c.in_err-entries-in-None.field-0.0 same)) in
+    elim few [
+      | inl sequences ↦ inl (omega (arith, sequences, before.each_tried, before.at_most, spent, here, most))
+      | inr tries ↦ inr (omega (arith, tries, before.at_most, spent, here, most))
     ]

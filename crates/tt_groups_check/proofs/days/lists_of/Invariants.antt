@@ -1,6 +1,7 @@
-use Rattle.std.proofs.Common.{◌≡◌, length}
+use Rattle.std.proofs.Common.{◌≡◌, ◌+◌, ◌*◌, ◌≤◌, length}
 use Rattle.tt_groups_check.specs.Lists.{AreListed, AreOfDays}
-use Rattle.tt_groups_week.specs.WeekLists.{AreReached}
+use Rattle.tt_groups_day.specs.Work.{sequences_of}
+use Rattle.tt_groups_week.specs.WeekLists.{AreReached, AreShort}
 use Rattle.tt_groups_check.proofs.days.lists_of.Given as goal
 
 abbrev pub invariant-loop-day : goal.invariant-loop-day
@@ -10,4 +11,9 @@ invariant-loop-day l = record {
   of_days : AreOfDays l.instance l.group l.courses l.digits.sizes.items l.digits.weights.items l.digits.courses l.bound
       l.lists.moves.items l.lists.of_day.items;
   reached : AreReached l.instance l.group l.courses l.lists.moves.items l.lists.of_day.items;
+  few : AreShort l.digits.count l.lists.moves.items;
+  sequences : l.work.sequences ≤ l.initial.work.sequences;
+  tries : l.work.tries ≤ l.initial.work.tries;
+  each_tried : l.initial.work.sequences + l.work.tries ≤ l.initial.work.tries + l.work.sequences;
+  at_most : l.initial.work.tries ≤ l.work.tries + l.day * sequences_of (length l.sets.items) l.instance.periods;
 }

@@ -1,4 +1,4 @@
-use Rattle.std.proofs.Common.{◌≡◌, ◌+◌, List, length, sym, ap, ◌∙◌, subst, arith}
+use Rattle.std.proofs.Common.{◌≡◌, ◌+◌, List, [], ◌∷◌, length, length-append, sym, ap, ◌∙◌, subst, arith}
 use Rattle.std.specs.Prelude.{Vec}
 use Rattle.std.specs.Global.{Global}
 use Rattle.tt_groups.specs.declared.entry.DayEntry.{DayEntry}
@@ -28,6 +28,7 @@ loop-place-preserved c =
                 (own_more a.group.now a.courses.now a.sizes.now a.weights.now a.bound a.table.now n c.loop-place.entries.items
                 before.own w.entry_at-entry.result
                 w.if-cost-bound.true w.entry_at-entry.ensures.amounts w.entry_at-entry.ensures.cost);
+            few = omega (arith, before.few, ap length e, length-append c.loop-place.entries.items (w.entry_at-entry.result ∷ []));
           }
       | else-cost-bound w ↦
           let e = ap (λ (v : Vec DayEntry Global). v.items) w.entries-is in
@@ -37,6 +38,7 @@ loop-place-preserved c =
                 before.has w.if-cost-bound.false);
             own = subst own (sym e)
                 (own_skip a.group.now a.courses.now a.sizes.now a.weights.now a.bound a.table.now n c.loop-place.entries.items before.own);
+            few = omega (arith, before.few, ap length e);
           }
     ]
 

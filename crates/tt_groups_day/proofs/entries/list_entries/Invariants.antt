@@ -1,3 +1,4 @@
+use Rattle.std.proofs.Common.{◌≤◌, length}
 use Rattle.tt_groups_day.specs.Entries.{HasEntries, AreEntriesOf}
 use Rattle.tt_groups_day.proofs.entries.list_entries.Given as goal
 
@@ -5,4 +6,5 @@ abbrev pub invariant-loop-place : goal.invariant-loop-place
 invariant-loop-place l = record {
   has : HasEntries l.group l.courses l.sizes l.weights l.bound l.table l.place l.entries.items;
   own : AreEntriesOf l.group l.courses l.sizes l.weights l.bound l.table l.place l.entries.items;
+  few : length l.entries.items ≤ l.place;
 }

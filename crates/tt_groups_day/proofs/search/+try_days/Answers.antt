@@ -1,13 +1,17 @@
-use Rattle.std.proofs.Common.{◌≡◌, ℕ, inl, inr, List, get_or, sym, ap, subst, arith}
+use Rattle.std.proofs.Common.{◌≡◌, ℕ, ◌+◌, ◌-◌, ◌<◌, inl, inr, List, length, get_or, sym, ap, subst, arith}
 use Rattle.std.specs.Prelude.{◌⊎◌, slice_index}
 use Rattle.std.proofs.lemmas.List.Elements.{Contains-get_or}
+use Rattle.std.proofs.lemmas.Result.{err_from_is_err_and}
 use Rattle.tt_groups.proofs.Lists.{made-more}
 use Rattle.tt_groups_day.specs.Found.{IsFound}
 use Rattle.tt_groups_day.proofs.Finding.{found-end, found-next}
 use Rattle.tt_groups_day.specs.Sets.{Falls, IsTriedWith}
+use Rattle.tt_groups_day.specs.Work.{sequences_of}
+use Rattle.tt_groups_day.specs.declared.work.DayWork.{DayWork}
+use Rattle.tt_groups_day.proofs.Sequences.{sequences_first}
 use Rattle.tt_groups_day.proofs.Searching.{tried-end, tried-all, with-more, with-next, day_at, no_set, no_period}
 use Rattle.tt_groups_day.proofs.search.+try_days.Goals as goal
-use Rattle.tt_groups_day.proofs.search.+try_days.Goals.{in-Some+in_ok-work-2+in_ok-try_days, in_default}
+use Rattle.tt_groups_day.proofs.search.+try_days.Goals.{in-Some+in_ok-take_sequence+in_ok-try_days, in_default}
 
 pub loop-set-preserved : goal.loop-set-preserved
 loop-set-preserved t c =
@@ -22,7 +26,7 @@ loop-set-preserved t c =
     let before = c.loop-set.invariant in
     let Found : ℕ → ℕ → Type 0 = λ k v. IsFound most periods sets a.period m k v in
     elim c.match-more.branch [
-      | in-Some+in_ok-work-2+in_ok-try_days w ↦
+      | in-Some+in_ok-take_sequence+in_ok-try_days w ↦
           let falls : Falls c.loop-set.table now =
           λ k. omega (arith, w.in_ok-try_days.ensures.falls k, ap (λ (l : List ℕ). slice_index l k) w.table-is) in
           let tried = with-next most periods sets a.bound a.period m w.in-Some.next set w.try_days.new.table w.in-Some.ensures.leads
@@ -42,6 +46,41 @@ loop-set-preserved t c =
                       w.in-Some.ensures.fitting
                       k (slice_index w.try_days.new.table k) f)
                 ]));
+            sequences = omega (
+              arith,
+              before.sequences,
+              ap (λ (x : DayWork). x.sequences) w.work-is,
+              c.take_try.ensures.sequences,
+              w.in_ok-take_sequence.ensures.taken,
+              w.in_ok-try_days.ensures.sequences,
+            );
+            tries = omega (
+              arith,
+              before.tries,
+              ap (λ (x : DayWork). x.tries) w.work-is,
+              c.in_ok-take_try.ensures.taken,
+              w.in_ok-take_sequence.ensures.tries,
+              w.in_ok-try_days.ensures.tries,
+            );
+            each_tried = omega (
+              arith,
+              before.each_tried,
+              ap (λ (x : DayWork). x.sequences) w.work-is,
+              ap (λ (x : DayWork). x.tries) w.work-is,
+              c.in_ok-take_try.ensures.taken,
+              c.take_try.ensures.sequences,
+              w.in_ok-take_sequence.ensures.taken,
+              w.in_ok-take_sequence.ensures.tries,
+              w.in_ok-try_days.ensures.each_tried,
+            );
+            at_most = omega (
+              arith,
+              before.at_most,
+              ap (λ (x : DayWork). x.tries) w.work-is,
+              c.in_ok-take_try.ensures.taken,
+              w.in_ok-take_sequence.ensures.tries,
+              w.in_ok-try_days.ensures.at_most,
+            );
           }
       | in_default w ↦
           let falls : Falls c.loop-set.table now = λ k. omega (arith, ap (λ (l : List ℕ). slice_index l k) w.table-is) in
@@ -56,8 +95,126 @@ loop-set-preserved t c =
                 tried;
             found = made-more Found a.table.now c.loop-set.table now before.found
                 (λ k. inl (ap (λ (l : List ℕ). slice_index l k) w.table-is));
+            sequences = omega (arith, before.sequences, ap (λ (x : DayWork). x.sequences) w.work-is, c.take_try.ensures.sequences);
+            tries = omega (arith, before.tries, ap (λ (x : DayWork). x.tries) w.work-is, c.in_ok-take_try.ensures.taken);
+            each_tried = omega (
+              arith,
+              before.each_tried,
+              ap (λ (x : DayWork). x.sequences) w.work-is,
+              ap (λ (x : DayWork). x.tries) w.work-is,
+              c.in_ok-take_try.ensures.taken,
+              c.take_try.ensures.sequences,
+            );
+            at_most = omega (arith, before.at_most, ap (λ (x : DayWork). x.tries) w.work-is, c.in_ok-take_try.ensures.taken);
           }
     ]
+
+-- ---- the work that is left
+
+pub returns-clause-at_most : goal.returns-clause-at_most
+returns-clause-at_most t c =
+    let k = length c.args.sets.now in
+    let n = length c.args.periods.now - c.args.period in
+    let rest = length c.args.periods.now - (c.args.period + 1) in
+    let last : n ≡ rest + 1 = omega (arith, c.requires.inside, c.if-period-periods.false) in
+    let all = sequences_first k n c.loop-set.set-index rest last (omega (arith, c.loop-set.auto.set-index-end)) in
+    omega (arith, c.loop-set.invariant.at_most, all)
+
+pub returns-in_err-take_try-clause-at_most : goal.returns-in_err-take_try-clause-at_most
+returns-in_err-take_try-clause-at_most t c =
+    let k = length c.args.sets.now in
+    let n = length c.args.periods.now - c.args.period in
+    let rest = length c.args.periods.now - (c.args.period + 1) in
+    let last : n ≡ rest + 1 = omega (arith, c.requires.inside, c.if-period-periods.false) in
+    let all = sequences_first k n (c.loop-set.set-index + 1) rest last (omega (arith, c.loop-set-test.true)) in
+    omega (arith, c.loop-set.invariant.at_most, c.in_err-take_try.ensures.used_up.0, all)
+
+pub returns-in_err-take_sequence-clause-at_most : goal.returns-in_err-take_sequence-clause-at_most
+returns-in_err-take_sequence-clause-at_most t c =
+    let k = length c.args.sets.now in
+    let n = length c.args.periods.now - c.args.period in
+    let rest = length c.args.periods.now - (c.args.period + 1) in
+    let last : n ≡ rest + 1 = omega (arith, c.requires.inside, c.if-period-periods.false) in
+    let all = sequences_first k n (c.loop-set.set-index + 1) rest last (omega (arith, c.loop-set-test.true)) in
+    omega (arith, c.loop-set.invariant.at_most, c.in_ok-take_try.ensures.taken, c.take_sequence.ensures.tries, all)
+
+pub returns-in_err-try_days-clause-at_most : goal.returns-in_err-try_days-clause-at_most
+returns-in_err-try_days-clause-at_most t c =
+    let k = length c.args.sets.now in
+    let n = length c.args.periods.now - c.args.period in
+    let rest = length c.args.periods.now - (c.args.period + 1) in
+    let last : n ≡ rest + 1 = omega (arith, c.requires.inside, c.if-period-periods.false) in
+    let all = sequences_first k n (c.loop-set.set-index + 1) rest last (omega (arith, c.loop-set-test.true)) in
+    omega (
+      arith,
+      c.loop-set.invariant.at_most,
+      c.in_ok-take_try.ensures.taken,
+      c.in_ok-take_sequence.ensures.tries,
+      c.try_days.ensures.at_most,
+      all,
+    )
+
+pub returns-in_err-take_try-clause-too_few : goal.returns-in_err-take_try-clause-too_few
+returns-in_err-take_try-clause-too_few t c =
+    let k = length c.args.sets.now in
+    let n = length c.args.periods.now - c.args.period in
+    let rest = length c.args.periods.now - (c.args.period + 1) in
+    let last : n ≡ rest + 1 = omega (arith, c.requires.inside, c.if-period-periods.false) in
+    let all = sequences_first k n (c.loop-set.set-index + 1) rest last (omega (arith, c.loop-set-test.true)) in
+    let few : c.args.work.now.tries < sequences_of k n =
+    omega (arith, c.loop-set.invariant.at_most, c.in_err-take_try.ensures.used_up.0, all) in
+    let e = err_from_is_err_and c.from_residual.result c.from_residual.ensures.1 in rw e.1 (inr few)
+
+pub returns-in_err-take_sequence-clause-too_few : goal.returns-in_err-take_sequence-clause-too_few
+returns-in_err-take_sequence-clause-too_few t c =
+    let k = length c.args.sets.now in
+    let n = length c.args.periods.now - c.args.period in
+    let rest = length c.args.periods.now - (c.args.period + 1) in
+    let last : n ≡ rest + 1 = omega (arith, c.requires.inside, c.if-period-periods.false) in
+    let all = sequences_first k n (c.loop-set.set-index + 1) rest last (omega (arith, c.loop-set-test.true)) in
+    let few : c.args.work.now.sequences < sequences_of k n =
+    omega (
+      arith,
+      c.loop-set.invariant.at_most,
+      c.loop-set.invariant.each_tried,
+      c.take_try.ensures.sequences,
+      c.in_err-take_sequence.ensures.used_up.0,
+      all,
+    ) in
+    let e = err_from_is_err_and c.from_residual-in_err-take_sequence.result c.from_residual-in_err-take_sequence.ensures.1 in
+    rw e.1 (inl few)
+
+pub returns-in_err-try_days-clause-too_few : goal.returns-in_err-try_days-clause-too_few
+returns-in_err-try_days-clause-too_few t c =
+    let k = length c.args.sets.now in
+    let n = length c.args.periods.now - c.args.period in
+    let rest = length c.args.periods.now - (c.args.period + 1) in
+    let last : n ≡ rest + 1 = omega (arith, c.requires.inside, c.if-period-periods.false) in
+    let all = sequences_first k n (c.loop-set.set-index + 1) rest last (omega (arith, c.loop-set-test.true)) in
+    let few : (c.args.work.now.sequences < sequences_of k n) ⊎ (c.args.work.now.tries < sequences_of k n) =
+    elim c.in_err-try_days.ensures.too_few [
+      | inl sequences ↦ inl
+          (omega (
+            arith,
+            sequences,
+            c.loop-set.invariant.at_most,
+            c.loop-set.invariant.each_tried,
+            c.take_try.ensures.sequences,
+            c.in_ok-take_sequence.ensures.taken,
+            all,
+          ))
+      | inr tries ↦ inr
+          (omega (
+            arith,
+            tries,
+            c.loop-set.invariant.at_most,
+            c.in_ok-take_try.ensures.taken,
+            c.in_ok-take_sequence.ensures.tries,
+            all,
+          ))
+    ] in
+    let e = err_from_is_err_and c.from_residual-in_err-try_days.result c.from_residual-in_err-try_days.ensures.1 in
+    rw e.1 few
 
 pub returns-then-period-periods-clause-tried : goal.returns-then-period-periods-clause-tried
 returns-then-period-periods-clause-tried t c =

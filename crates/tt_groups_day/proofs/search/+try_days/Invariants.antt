@@ -1,7 +1,8 @@
-use Rattle.std.proofs.Common.{◌≡◌, ℕ, ◌-◌, length, take}
+use Rattle.std.proofs.Common.{◌≡◌, ℕ, ◌+◌, ◌-◌, ◌*◌, ◌≤◌, length, take}
 use Rattle.std.specs.Prelude.{◌⊎◌, All, slice_index}
 use Rattle.tt_groups_day.specs.Found.{IsFound}
 use Rattle.tt_groups_day.specs.Sets.{Falls, IsTriedWith}
+use Rattle.tt_groups_day.specs.Work.{sequences_of}
 use Rattle.tt_groups_day.proofs.search.+try_days.Given as goal
 
 abbrev pub decreases-try_days : goal.decreases-try_days
@@ -13,4 +14,8 @@ invariant-loop-set l = record {
   tried : All (IsTriedWith l.most l.periods l.sets l.bound l.period l.morning l.table) (take l.set-index l.sets);
   found : (k : ℕ) → (slice_index l.table k ≡ slice_index l.initial.table k) ⊎ IsFound l.most l.periods l.sets l.period l.morning k
       (slice_index l.table k);
+  sequences : l.work.sequences ≤ l.initial.work.sequences;
+  tries : l.work.tries ≤ l.initial.work.tries;
+  each_tried : l.initial.work.sequences + l.work.tries ≤ l.initial.work.tries + l.work.sequences;
+  at_most : l.initial.work.tries ≤ l.work.tries + l.set-index * (1 + sequences_of (length l.sets) (length l.periods - (l.period + 1)));
 }

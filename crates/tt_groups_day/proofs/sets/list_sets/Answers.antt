@@ -104,3 +104,10 @@ returns-in_err-add_course-clause-too_many c = λ is.
       c.in_err-add_course.ensures.too_many (ap Err same),
       length_first p cs (i + 1) (with_next p cs i (slice_index ws i) met sets) count,
     )
+
+pub returns-clause-counted : goal.returns-clause-counted
+returns-clause-counted c =
+    let cs = c.args.courses.now in
+    let e : c.loop-i.i ≡ length cs = omega arith in
+    length_all c.args.instance.now cs c.loop-i.sets.items
+    (subst (λ n. HasCount c.args.instance.now cs n c.loop-i.sets.items) e c.loop-i.invariant.count)

@@ -1,9 +1,10 @@
-use Rattle.std.proofs.Common.{◌≡◌, ℕ, inl, inr, List, [], drop, length, refl, sym, ap, ◌∙◌, subst, arith}
+use Rattle.std.proofs.Common.{◌≡◌, ℕ, ◌-◌, inl, inr, List, [], drop, length, refl, sym, ap, ◌∙◌, subst, arith}
 use Rattle.std.proofs.lemmas.List.{length-replicate, get_or-replicate}
 use Rattle.std.specs.Prelude.{replicate, slice_index}
 use Rattle.tt_groups_day.specs.Found.{AreOpened}
 use Rattle.tt_groups_day.proofs.Finding.{open_first}
 use Rattle.tt_groups_day.specs.Sets.{ArePeriodsOf}
+use Rattle.tt_groups_day.specs.Work.{sequences_of}
 use Rattle.tt_groups_day.specs.declared.search.Period.{Period}
 use Rattle.tt_groups_day.proofs.Starting.{zeros, morning-start}
 use Rattle.tt_groups_day.proofs.table.day_table.Goals as goal
@@ -60,3 +61,25 @@ returns-clause-found c = λ g weights are at_most distinct sets aparts.
       | inr f ↦ f p g cs weights c.args.day [] c.requires.at_most distinct days opened refl sets aparts
           (morning-start p g cs weights _ (zeros 16) refl refl refl refl) (open_first p cs c.args.day) (λ i l. omega (arith, none i))
     ])
+
+pub returns-clause-at_most : goal.returns-clause-at_most
+returns-clause-at_most c =
+    let whole : length c.deref.result.now - 0 ≡ c.args.instance.now.periods =
+    omega (arith, ap length c.deref.ensures.value, c.in_ok-periods.ensures.whole) in
+    omega (arith, c.try_days.ensures.at_most, ap (λ (n : ℕ). sequences_of (length c.args.sets.now) n) whole)
+
+pub returns-in_err-try_days-clause-at_most : goal.returns-in_err-try_days-clause-at_most
+returns-in_err-try_days-clause-at_most c =
+    let whole : length c.deref.result.now - 0 ≡ c.args.instance.now.periods =
+    omega (arith, ap length c.deref.ensures.value, c.in_ok-periods.ensures.whole) in
+    omega (arith, c.try_days.ensures.at_most, ap (λ (n : ℕ). sequences_of (length c.args.sets.now) n) whole)
+
+pub returns-in_err-try_days-clause-too_few : goal.returns-in_err-try_days-clause-too_few
+returns-in_err-try_days-clause-too_few c =
+    let whole : length c.deref.result.now - 0 ≡ c.args.instance.now.periods =
+    omega (arith, ap length c.deref.ensures.value, c.in_ok-periods.ensures.whole) in
+    let most = ap (λ (n : ℕ). sequences_of (length c.args.sets.now) n) whole in
+    λ is. elim c.in_err-try_days.ensures.too_few [
+      | inl few ↦ inl (omega (arith, few, most))
+      | inr few ↦ inr (omega (arith, few, most))
+    ]

@@ -1,4 +1,4 @@
-use Rattle.std.proofs.Common.{◌≡◌, ℕ, ◌<◌}
+use Rattle.std.proofs.Common.{◌≡◌, ℕ, ◌+◌, ◌*◌, ◌<◌, ◌≤◌, length}
 use Rattle.std.specs.Prelude.{◌⊎◌, All, slice_index}
 use Rattle.tt_groups_week.specs.Steps.{Falls, IsMadeFrom}
 use Rattle.tt_groups_week.proofs.Relaxing.{Relaxed}
@@ -11,4 +11,6 @@ invariant-loop-place l = record {
       → All (Relaxed l.digits.sizes.items l.digits.weights.items l.digits.courses l.bound s (slice_index l.table s) l.next) l.moves;
   made : (k : ℕ) → (slice_index l.next k ≡ slice_index l.initial.next k)
       ⊎ IsMadeFrom l.digits.sizes.items l.digits.weights.items l.digits.courses l.moves l.bound l.table k (slice_index l.next k);
+  fewer : l.relaxations ≤ l.initial.relaxations;
+  at_most : l.initial.relaxations ≤ l.relaxations + l.place * length l.moves;
 }

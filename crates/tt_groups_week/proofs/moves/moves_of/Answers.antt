@@ -1,5 +1,6 @@
-use Rattle.std.proofs.Common.{◌+◌, ◌≡◌, rules}
-use Rattle.std.proofs.lemmas.List.Sorted.{IsNonDecreasingBy-from_sort_by_key, All-permutation}
+use Rattle.std.proofs.Common.{◌+◌, ◌≡◌, length, take_all, sym, ap, ◌∙◌, rules}
+use Rattle.std.proofs.lemmas.List.{length-map}
+use Rattle.std.proofs.lemmas.List.Sorted.{IsNonDecreasingBy-from_sort_by_key, All-permutation, length_permutation}
 use Rattle.tt_groups_week.specs.Fold.{index_of, floor_of}
 use Rattle.tt_groups_week.proofs.Relaxing.{move_of, entry_of}
 use Rattle.tt_groups_week.specs.declared.moves.Move.{Move}
@@ -21,4 +22,7 @@ returns c =
           c.loop-entry.invariant.entries c.sort_unstable_by_key.ensures.permutation;
       own = entry_of c.args.days.now c.loop-entry.entry-index c.loop-entry.moves.items _ c.loop-entry-test.false
           c.loop-entry.invariant.entries c.sort_unstable_by_key.ensures.permutation;
+      many = length_permutation c.loop-entry.moves.items _ c.sort_unstable_by_key.ensures.permutation
+          ∙ sym (length-map c.loop-entry.moves.items (λ (m : Move). m.entry)) ∙ ap length c.loop-entry.invariant.entries
+          ∙ ap length (take_all c.loop-entry.entry-index c.args.days.now c.loop-entry-test.false);
     }

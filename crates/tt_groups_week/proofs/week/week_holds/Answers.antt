@@ -1,7 +1,9 @@
-use Rattle.std.proofs.Common.{◌≡◌, ℕ, ◌<◌, inl, inr, List, length, drop, set, get_or-set_same, sym, ap, subst, ◌∙◌, arith, Vec}
+use Rattle.std.proofs.Common.{◌≡◌, ℕ, ◌+◌, ◌*◌, ◌<◌, ◌≤◌, inl, inr, List, length, drop, set, sym, ap, subst, ◌∙◌, arith, Vec}
+use Rattle.std.proofs.Common.{get_or-set_same}
 use Rattle.std.specs.Global.{Global}
 use Rattle.std.specs.Prelude.{All, slice_index}
 use Rattle.std.proofs.Math.ListN.{length-set}
+use Rattle.std.proofs.Math.Nat.{mul-le-mul_left, mul-le-mul_right}
 use Rattle.std.proofs.lemmas.List.{length-replicate, get_or-replicate}
 use Rattle.tt_groups_week.specs.Steps.{IsMadeFrom}
 use Rattle.tt_groups_week.specs.Fold.{AreReady}
@@ -40,6 +42,8 @@ loop-list-init c =
           (subst (λ (l : List ℕ). slice_index (set l 0 0) k < c.args.bound) table low) in
           subst (λ (n : ℕ). IsReachedPlace p g cs 0 n (slice_index (set items 0 0) k)) (sym at)
           (reached_first p g cs (slice_index (set items 0 0) k));
+      fewer = omega arith;
+      at_most = λ n short. omega arith;
     }
 
 pub extend-requires-clause-ready : goal.extend-requires-clause-ready
@@ -95,7 +99,87 @@ loop-list-preserved c =
             c.index-lists-list.result table c.loop-list-test.true c.index-lists-list.is r
             (c.loop-list.invariant.reached p g cs s r) k (slice_index new k) g2
       ]);
+      fewer = omega (arith, c.loop-list.invariant.fewer, c.extend.ensures.fewer);
+      at_most = λ n short.
+          let i = slice_index a.of_day.now c.loop-list.list-index in
+          let inside = c.requires.inside c.loop-list.list-index 0 c.loop-list-test.true in
+          let few : length c.deref.result.now ≤ n =
+          omega (
+            arith,
+            short i c.index-lists-list.result inside,
+            ap (λ (v : Vec Move Global). length v.items) c.index-lists-list.is,
+            ap (λ (l : List Move). length l) c.deref.ensures.value,
+          ) in
+          let product : length c.deref-in-loop-list.result.now * length c.deref.result.now ≡ d.count * length c.deref.result.now =
+          ap (λ m. m * length c.deref.result.now) (ap length c.deref-in-loop-list.ensures.value ∙ whole) in
+          omega (
+            arith,
+            c.loop-list.invariant.at_most n short,
+            c.extend.ensures.at_most,
+            product,
+            mul-le-mul_left d.count few,
+          );
     }
+
+pub returns-in_err-extend-clause-too_few : goal.returns-in_err-extend-clause-too_few
+returns-in_err-extend-clause-too_few c = λ is n short.
+    let a = c.args in
+    let d = a.digits.now in
+    let i = slice_index a.of_day.now c.loop-list.list-index in
+    let inside = c.requires.inside c.loop-list.list-index 0 c.loop-list-test.true in
+    let few : length c.deref.result.now ≤ n =
+    omega (
+      arith,
+      short i c.index-lists-list.result inside,
+      ap (λ (v : Vec Move Global). length v.items) c.index-lists-list.is,
+      ap (λ (l : List Move). length l) c.deref.ensures.value,
+    ) in
+    let product : length c.deref-in-loop-list.result.now * length c.deref.result.now ≡ d.count * length c.deref.result.now =
+    ap (λ m. m * length c.deref.result.now) (ap length c.deref-in-loop-list.ensures.value ∙ c.loop-list.invariant.whole) in
+    let less : c.loop-list.list-index + 1 ≤ length a.of_day.now = omega (arith, c.loop-list-test.true) in
+    omega (
+      arith,
+      c.loop-list.invariant.at_most n short,
+      c.in_err-extend.ensures.too_few,
+      product,
+      mul-le-mul_left d.count few,
+      mul-le-mul_right (d.count * n) less,
+    )
+
+pub returns-in_err-extend-clause-at_most : goal.returns-in_err-extend-clause-at_most
+returns-in_err-extend-clause-at_most c = λ n short.
+    let a = c.args in
+    let d = a.digits.now in
+    let i = slice_index a.of_day.now c.loop-list.list-index in
+    let inside = c.requires.inside c.loop-list.list-index 0 c.loop-list-test.true in
+    let few : length c.deref.result.now ≤ n =
+    omega (
+      arith,
+      short i c.index-lists-list.result inside,
+      ap (λ (v : Vec Move Global). length v.items) c.index-lists-list.is,
+      ap (λ (l : List Move). length l) c.deref.ensures.value,
+    ) in
+    let product : length c.deref-in-loop-list.result.now * length c.deref.result.now ≡ d.count * length c.deref.result.now =
+    ap (λ m. m * length c.deref.result.now) (ap length c.deref-in-loop-list.ensures.value ∙ c.loop-list.invariant.whole) in
+    let less : c.loop-list.list-index + 1 ≤ length a.of_day.now = omega (arith, c.loop-list-test.true) in
+    omega (
+      arith,
+      c.loop-list.invariant.at_most n short,
+      c.extend.ensures.at_most,
+      product,
+      mul-le-mul_left d.count few,
+      mul-le-mul_right (d.count * n) less,
+    )
+
+pub returns-in_err-next-clause-at_most : goal.returns-in_err-next-clause-at_most
+returns-in_err-next-clause-at_most c = λ n short.
+    let all : c.loop-list.list-index ≤ length c.args.of_day.now = omega (arith, c.loop-list.auto.list-index-end) in
+    omega (arith, c.loop-list.invariant.at_most n short, mul-le-mul_right (c.args.digits.now.count * n) all)
+
+pub returns-clause-at_most : goal.returns-clause-at_most
+returns-clause-at_most c = λ n short.
+    let all : c.loop-list.list-index ≤ length c.args.of_day.now = omega (arith, c.loop-list.auto.list-index-end) in
+    omega (arith, c.loop-list.invariant.at_most n short, mul-le-mul_right (c.args.digits.now.count * n) all)
 
 pub returns-clause-holds : goal.returns-clause-holds
 returns-clause-holds c =

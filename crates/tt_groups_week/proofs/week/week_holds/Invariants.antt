@@ -1,8 +1,8 @@
-use Rattle.std.proofs.Common.{◌≡◌, ℕ, ◌<◌, List, length}
+use Rattle.std.proofs.Common.{◌≡◌, ℕ, ◌+◌, ◌*◌, ◌<◌, ◌≤◌, List, length}
 use Rattle.std.specs.Prelude.{slice_index}
 use Rattle.tt_instance.specs.Problem.{Problem}
 use Rattle.tt_groups.specs.Group.{Group}
-use Rattle.tt_groups_week.specs.WeekLists.{IsWeekList, Suits, AreReached}
+use Rattle.tt_groups_week.specs.WeekLists.{AreShort, IsWeekList, Suits, AreReached}
 use Rattle.tt_groups_week.proofs.Reaching.{IsReachedPlace}
 use Rattle.tt_groups_week.proofs.week.week_holds.Given as goal
 
@@ -17,4 +17,6 @@ invariant-loop-list l = record {
       → AreReached p g cs l.lists l.of_day
       → (k : ℕ) → k < length l.table.items → slice_index l.table.items k < l.bound → IsReachedPlace p g cs l.list-index k
       (slice_index l.table.items k);
+  fewer : l.relaxations ≤ l.initial.relaxations;
+  at_most : (n : ℕ) → AreShort n l.lists → l.initial.relaxations ≤ l.relaxations + l.list-index * (l.digits.count * n);
 }

@@ -1,8 +1,9 @@
-use Rattle.std.proofs.Common.{◌≡◌, ℕ, List, [], ◌∷◌, ◌++◌, length, sym, ap, ◌∙◌, subst, arith, Vec}
+use Rattle.std.proofs.Common.{◌≡◌, ℕ, ◌≤◌, List, [], ◌∷◌, ◌++◌, length, sym, ap, ◌∙◌, subst, arith, Vec}
 use Rattle.std.specs.Global.{Global}
+use Rattle.std.proofs.lemmas.List.Elements.{All-push}
 use Rattle.tt_groups_week.specs.declared.moves.Move.{Move}
 use Rattle.tt_groups_check.specs.Lists.{AreListed, AreOfDays}
-use Rattle.tt_groups_week.specs.WeekLists.{AreReached}
+use Rattle.tt_groups_week.specs.WeekLists.{AreReached, AreShort}
 use Rattle.tt_groups_check.proofs.Adding.{added, listed_more, reached_added}
 use Rattle.tt_groups_check.proofs.lists.Lists.add.Goals as goal
 
@@ -44,3 +45,8 @@ returns-clause-reached c = λ p g cs entries before.
     ∙ ap (λ n. old.of_day.items ++ n ∷ []) many in
     subst (λ (l : List (Vec Move Global)). AreReached p g cs l c.push.new.self.items) (sym c.in_ok-push-2.ensures.items)
     (subst (λ (l : List ℕ). AreReached p g cs (old.moves.items ++ c.in_ok-list.list ∷ []) l) (sym days) more)
+
+pub returns-clause-few : goal.returns-clause-few
+returns-clause-few c = λ n few short. subst (AreShort n) (sym c.in_ok-push-2.ensures.items)
+    (All-push (λ (v : Vec Move Global). length v.items ≤ n) c.args.self.now.moves.items c.in_ok-list.list short
+    (omega (arith, few, c.in_ok-list.ensures.many)))
