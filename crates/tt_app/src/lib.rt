@@ -9,5 +9,5 @@ pub use tt_call_searches::{
     BestAnswer, BestSearch, Effort, ImproveSearch, PartsAnswer, TreeEffort, WatchBest, best,
     improve, parts, solve,
 };
-pub use tt_call_texts::{PageWish, WeekTimes, calendar, inspect, page, proved_page, report, table};
+pub use tt_call_texts::{PageForm, WeekTimes, calendar, inspect, page, proved_page, report, table};
 pub use tt_call_wishes::{ValidateFault, validate_wishes};

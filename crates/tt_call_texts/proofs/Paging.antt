@@ -33,8 +33,8 @@ use Rattle.tt_call_answers.specs.FaultMaps.{fault_from_labels, fault_from_page, 
 use Rattle.tt_call_answers.specs.Refusals.{IsUnwritten}
 use Rattle.tt_call_names.specs.Names.{labels_for}
 use Rattle.tt_call_names.specs.declared.names.PageNames.{PageNames}
-use Rattle.tt_call_texts.specs.Paged.{IsNotPut, IsPageRefusal, IsProvedPageRefusal, has_weeks, wished_text}
-use Rattle.tt_call_texts.specs.declared.calls.page.PageWish.{PageWish}
+use Rattle.tt_call_texts.specs.Paged.{IsNotPut, IsPageRefusal, IsProvedPageRefusal, has_weeks, unproved_text}
+use Rattle.tt_call_texts.specs.declared.calls.page.PageForm.{PageForm}
 use Rattle.tt_call_answers.specs.declared.fault.AppFault.{AppFault}
 use Rattle.tt_call_answers.specs.declared.fault.AppFault.TheVariants as fault
 use Rattle.tt_instance_read.proofs.Laws.{spelled_once}
@@ -112,10 +112,10 @@ module _ (i s : List ℕ) (p : Problem) (t : List Cell) (names : PageNames) (spe
   }
   page_tells style l b shown gives before after page.OutOfMemory named sum holds by part size = tt
 
-module _ (i s : List ℕ) (p : Problem) (t : List Cell) (wish : PageWish) (spelled : Spells i p) (solved : SpellsTable p s t) where
+module _ (i s : List ℕ) (p : Problem) (t : List Cell) (form : PageForm) (spelled : Spells i p) (solved : SpellsTable p s t) where
   -- an error of the names of a page that shows no bound is reported
   pub names_tell : (style : List ℕ) (before after : Option (List ℕ)) (f : LabelsFault)
-      → FailsUnless is_environmental f (labels_for p wish.names) → IsPageRefusal i s wish style before after (fault_from_labels f)
+      → FailsUnless is_environmental f (labels_for p form.names) → IsPageRefusal i s form style before after (fault_from_labels f)
   names_tell style before after labels.Days h =
       record { problem = p; table = t; both = record { spelled = spelled; solved = solved }; fails = h }
   names_tell style before after labels.Periods h =
@@ -124,9 +124,9 @@ module _ (i s : List ℕ) (p : Problem) (t : List Cell) (wish : PageWish) (spell
 
   -- an error of its output is reported
   pub plain_page_tells : (style : List ℕ) (l : Labelled) (before after : Option (List ℕ)) (f : PageFault) (text : List ℕ)
-      → labels_for p wish.names ≡ Ok l → text ≡ wished_text wish.sheet style p t l
+      → labels_for p form.names ≡ Ok l → text ≡ unproved_text form.sheet style p t l
       → (f ≡ page.Write → TakesPart before after text) → ExplainsSize f text
-      → IsPageRefusal i s wish style before after (fault_from_page f)
+      → IsPageRefusal i s form style before after (fault_from_page f)
   plain_page_tells style l before after page.Write text named is part size = record {
     problem = p;
     table = t;

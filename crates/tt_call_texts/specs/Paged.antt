@@ -30,7 +30,7 @@ use Rattle.tt_table.specs.Spelling.{SpellsBoth}
 use Rattle.tt_call_answers.specs.Refusals.{IsSilentRefusal}
 use Rattle.tt_call_names.specs.Names.{labels_for}
 use Rattle.tt_call_names.specs.declared.names.PageNames.{PageNames}
-use Rattle.tt_call_texts.specs.declared.calls.page.PageWish.{PageWish}
+use Rattle.tt_call_texts.specs.declared.calls.page.PageForm.{PageForm}
 use Rattle.tt_call_answers.specs.declared.fault.AppFault.{AppFault}
 use Rattle.tt_call_answers.specs.declared.fault.AppFault.TheVariants as fault
 
@@ -84,9 +84,9 @@ pub record IsTooLargeWith (text : Problem → List Cell → Labelled → List �
   pub large : IsTooLarge (text problem table labels)
 
 -- the text of the whole page, which shows no bound, or of a sheet
-abbrev pub wished_text : Option Sheet → List ℕ → Problem → List Cell → Labelled → List ℕ
-wished_text None style p t labels = page_text p t labels Unproved style
-wished_text (Some sheet) style p t labels = sheet_text p t labels sheet style
+abbrev pub unproved_text : Option Sheet → List ℕ → Problem → List Cell → Labelled → List ℕ
+unproved_text None style p t labels = page_text p t labels Unproved style
+unproved_text (Some sheet) style p t labels = sheet_text p t labels sheet style
 
 -- whether there are weeks to show: if a name is given, a room, a teacher or a curriculum has it
 abbrev pub has_weeks : Problem → Option Sheet → Bool
@@ -94,31 +94,31 @@ has_weeks p (Some (Named name)) = has_week p name.now
 has_weeks p _ = true
 
 -- the page or the sheet was written
-pub record IsPaged (instance solution : List ℕ) (wish : PageWish) (style : List ℕ) (before after : Option (List ℕ)) (status : ℕ) : Type 0 where
-  pub put : IsPutWith (wished_text wish.sheet style) instance solution wish.names before after status
-  pub there : IsTrue (has_weeks put.problem wish.sheet)
+pub record IsPaged (instance solution : List ℕ) (form : PageForm) (style : List ℕ) (before after : Option (List ℕ)) (status : ℕ) : Type 0 where
+  pub put : IsPutWith (unproved_text form.sheet style) instance solution form.names before after status
+  pub there : IsTrue (has_weeks put.problem form.sheet)
 
 -- the files are spelled and the names fit, but there are no weeks to show
-pub record HasNoWeeks (instance solution : List ℕ) (wish : PageWish) : Type 0 where
+pub record HasNoWeeks (instance solution : List ℕ) (form : PageForm) : Type 0 where
   pub problem : Problem
   pub table : List Cell
   pub labels : Labelled
   pub both : SpellsBoth instance solution problem table
-  pub named : labels_for problem wish.names ≡ Ok labels
-  pub none : has_weeks problem wish.sheet ≡ false
+  pub named : labels_for problem form.names ≡ Ok labels
+  pub none : has_weeks problem form.sheet ≡ false
 
 -- a refusal reports the first error: the instance's, then the solution's, then the names', then that no week has the name, then that the page is
 -- too large, then that of a write
-abbrev pub IsPageRefusal : List ℕ → List ℕ → PageWish → List ℕ → Option (List ℕ) → Option (List ℕ) → AppFault → Type 0
-IsPageRefusal instance solution wish style before after (fault.Instance f) = instance_of instance ≡ Err f
-IsPageRefusal instance solution wish style before after (fault.Solution f) = FailsSolution instance solution f
-IsPageRefusal instance solution wish style before after fault.DayNames = FailsNames instance solution wish.names labels.Days
-IsPageRefusal instance solution wish style before after fault.PeriodNames = FailsNames instance solution wish.names labels.Periods
-IsPageRefusal instance solution wish style before after fault.UnknownName = HasNoWeeks instance solution wish
-IsPageRefusal instance solution wish style before after fault.OutOfMemory = ⊤
-IsPageRefusal instance solution wish style before after fault.PageTooLarge = IsTooLargeWith (wished_text wish.sheet style) instance solution wish.names
-IsPageRefusal instance solution wish style before after fault.CannotWrite = IsPutPartlyWith (wished_text wish.sheet style) instance solution wish.names before after
-IsPageRefusal instance solution wish style before after _ = ⊥
+abbrev pub IsPageRefusal : List ℕ → List ℕ → PageForm → List ℕ → Option (List ℕ) → Option (List ℕ) → AppFault → Type 0
+IsPageRefusal instance solution form style before after (fault.Instance f) = instance_of instance ≡ Err f
+IsPageRefusal instance solution form style before after (fault.Solution f) = FailsSolution instance solution f
+IsPageRefusal instance solution form style before after fault.DayNames = FailsNames instance solution form.names labels.Days
+IsPageRefusal instance solution form style before after fault.PeriodNames = FailsNames instance solution form.names labels.Periods
+IsPageRefusal instance solution form style before after fault.UnknownName = HasNoWeeks instance solution form
+IsPageRefusal instance solution form style before after fault.OutOfMemory = ⊤
+IsPageRefusal instance solution form style before after fault.PageTooLarge = IsTooLargeWith (unproved_text form.sheet style) instance solution form.names
+IsPageRefusal instance solution form style before after fault.CannotWrite = IsPutPartlyWith (unproved_text form.sheet style) instance solution form.names before after
+IsPageRefusal instance solution form style before after _ = ⊥
 
 -- ---- the page with a bound
 

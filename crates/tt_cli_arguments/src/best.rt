@@ -3,7 +3,7 @@
 use crate::arguments::Request;
 use crate::description::{Argument, Description, Form, Range};
 use crate::files::INSTANCE;
-use crate::pages::{DAYS, NamesWish, PERIODS, names_of};
+use crate::pages::{DAYS, GivenNames, PERIODS, names_of};
 use crate::searches::{SEED, TIME};
 use crate::showing::{PROGRESS, QUIET, Showing, showing_of};
 use clap::ArgMatches;
@@ -31,7 +31,7 @@ pub struct BestRequest<'a> {
     pub start: Option<&'a str>,
     pub search: BestSearch,
     /// The names on the page.
-    pub names: NamesWish<'a>,
+    pub names: GivenNames<'a>,
     pub showing: Showing,
 }
 

@@ -11,14 +11,14 @@ use tt_report::By;
 
 /// The names of the days and of the periods of a page, as they are given; days or periods without names show their numbers.
 #[derive(Clone, Copy, Debug)]
-pub struct NamesWish<'a> {
+pub struct GivenNames<'a> {
     pub days: Option<&'a str>,
     pub periods: Option<&'a str>,
 }
 
 /// The weeks of a page that shows no more than them.
 #[derive(Clone, Copy, Debug)]
-pub enum WeeksWish<'a> {
+pub enum GivenWeeks<'a> {
     /// The weeks of all rooms, of all teachers or of all curricula.
     Section(By),
     Days,
@@ -32,9 +32,9 @@ pub struct PageRequest<'a> {
     pub instance: &'a str,
     pub solution: &'a str,
     pub out: &'a str,
-    pub names: NamesWish<'a>,
+    pub names: GivenNames<'a>,
     /// The weeks that are shown; if none are given, everything is.
-    pub weeks: Option<WeeksWish<'a>>,
+    pub weeks: Option<GivenWeeks<'a>>,
     pub proofs: Vec<&'a str>,
     pub showing: Showing,
 }
@@ -93,32 +93,32 @@ pub const PAGE: Description<'static> = Description {
 };
 
 /// Returns the names given for a page.
-pub fn names_of<'a>(found: &ArgMatches<'a>) -> NamesWish<'a> {
-    NamesWish {
+pub fn names_of<'a>(found: &ArgMatches<'a>) -> GivenNames<'a> {
+    GivenNames {
         days: found.get_str("days"),
         periods: found.get_str("periods"),
     }
 }
 
 /// Returns the part of a page that a word names.
-fn part_of(word: &str) -> Option<WeeksWish<'static>> {
+fn part_of(word: &str) -> Option<GivenWeeks<'static>> {
     if word == "rooms" {
-        Some(WeeksWish::Section(By::Room))
+        Some(GivenWeeks::Section(By::Room))
     } else if word == "teachers" {
-        Some(WeeksWish::Section(By::Teacher))
+        Some(GivenWeeks::Section(By::Teacher))
     } else if word == "curricula" {
-        Some(WeeksWish::Section(By::Curriculum))
+        Some(GivenWeeks::Section(By::Curriculum))
     } else if word == "days" {
-        Some(WeeksWish::Days)
+        Some(GivenWeeks::Days)
     } else {
         None
     }
 }
 
 /// Returns the weeks given for a page.
-fn weeks_of<'a>(found: &ArgMatches<'a>) -> Option<WeeksWish<'a>> {
+fn weeks_of<'a>(found: &ArgMatches<'a>) -> Option<GivenWeeks<'a>> {
     if let Some(name) = found.get_str("week") {
-        return Some(WeeksWish::Named(name));
+        return Some(GivenWeeks::Named(name));
     }
     part_of(found.get_str("only")?)
 }

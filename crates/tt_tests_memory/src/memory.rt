@@ -4,7 +4,7 @@
 use std::alloc::{AllocError, Global};
 use std::test::Fail;
 use tt_app::{
-    Answer, BestSearch, ImproveSearch, PageNames, PageWish, TreeEffort, UNNAMED, best, check,
+    Answer, BestSearch, ImproveSearch, PageForm, PageNames, TreeEffort, UNNAMED, best, check,
     improve, page, report, solve, upgrade, validate,
 };
 use tt_instance::Instance;
@@ -359,7 +359,7 @@ fn the_command_page(rt: HostRuntime) -> Result<(), Fail> {
         rt.alloc(),
         MINI.as_bytes(),
         MINI_SOLUTION.as_bytes(),
-        PageWish { names, sheet: None },
+        PageForm { names, sheet: None },
         "",
         &mut Writing::new(&mut text),
     );

@@ -3,7 +3,7 @@
 use crate::writers::StoppingOnce;
 use std::alloc::Global;
 use std::test::Fail;
-use tt_app::{AppFault, PageWish, UNNAMED, page};
+use tt_app::{AppFault, PageForm, UNNAMED, page};
 use tt_page::{MAX_PAGE_BYTES, PageText, put_shown};
 use tt_testing_files::{MemoryFiles, Refusal};
 use tt_testing_runs::{Outcome, run_on};
@@ -11,7 +11,7 @@ use tt_testing_samples::{GAP, GAP_PROOF, MINI, MINI_SOLUTION, edited};
 use tt_text::{Sink, Writing};
 
 /// The whole page, without names.
-const WHOLE: PageWish<'static> = PageWish {
+const WHOLE: PageForm<'static> = PageForm {
     names: UNNAMED,
     sheet: None,
 };

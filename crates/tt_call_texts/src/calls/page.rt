@@ -19,7 +19,7 @@ ghost use Rattle.tt_proof_sum.specs.Sums.{IsSum};
 ghost use Rattle.tt_table.specs.Spelling.{SpellsBoth};
 ghost use Rattle.tt_call_answers.specs.FaultMaps.{HoldsNoStop};
 ghost use Rattle.tt_call_names.specs.Names.{labels_for};
-ghost use Rattle.tt_call_texts.specs.Paged.{IsBeforeProofs, IsNotPut, IsPaged, IsPageRefusal, IsProvedPaged, IsProvedPageRefusal, IsSilentOrNotPut, has_weeks, wished_text};
+ghost use Rattle.tt_call_texts.specs.Paged.{IsBeforeProofs, IsNotPut, IsPaged, IsPageRefusal, IsProvedPaged, IsProvedPageRefusal, IsSilentOrNotPut, has_weeks, unproved_text};
 ghost use Rattle.tt_call_answers.specs.Refusals.{IsUnwritten, is_failed_write};
 ghost use Rattle.tt_call_answers.specs.Sums.{IsSpelledAndFileCheckedUpToFailedRead};
 ghost use Rattle.tt_call_answers.specs.Refusals.{is_failed_read_at};
@@ -39,7 +39,7 @@ use tt_text_peek::Peek;
 
 /// What a page shows that shows no bound.
 #[derive(Clone, Copy, Debug)]
-pub struct PageWish<'a> {
+pub struct PageForm<'a> {
     pub names: PageNames<'a>,
     /// The weeks of a sheet; if none are given, the page shows everything.
     pub sheet: Option<Sheet<'a>>,
@@ -58,7 +58,7 @@ fn has_weeks(instance: &Instance<'_>, sheet: Option<Sheet<'_>>) -> bool
 /// Returns what is shown, if nothing is proved.
 fn shown_for<'a>(sheet: Option<Sheet<'a>>, unproved: &'a Proved) -> Shown<'a>
     requires { unproved.now ≡ Unproved }
-    ensures text { (style : List ℕ) (p : Problem) (t : List Cell) (labels : Labelled) → shown_text p t labels result style ≡ wished_text sheet.entry style p t labels }
+    ensures text { (style : List ℕ) (p : Problem) (t : List Cell) (labels : Labelled) → shown_text p t labels result style ≡ unproved_text sheet.entry style p t labels }
     ensures courses { (p : Problem) → IsShownOf p result }
 {
     match sheet {
@@ -72,19 +72,19 @@ pub fn page<W: Sink>(
     alloc: Global,
     instance: &[u8],
     solution: &[u8],
-    wish: PageWish<'_>,
+    form: PageForm<'_>,
     style: &str,
     sink: &mut W,
 ) -> Result<u8, AppFault>
     // The bytes written are the page or the sheet.
-    ensures written { IfOk result (IsPaged instance.now solution.now wish.entry style.now (W.contents sink.old) (W.contents sink.new)) }
+    ensures written { IfOk result (IsPaged instance.now solution.now form.entry style.now (W.contents sink.old) (W.contents sink.new)) }
     // A refusal reports the first error.
-    ensures fault { IfErr result (IsPageRefusal instance.now solution.now wish.entry style.now (W.contents sink.old) (W.contents sink.new)) }
+    ensures fault { IfErr result (IsPageRefusal instance.now solution.now form.entry style.now (W.contents sink.old) (W.contents sink.new)) }
     // If both files are spelled, the names fit and there are weeks to show, the page is written if it isn't too large, and only then, unless memory
     // runs out or a write fails.
     ensures only { (p : Problem) (t : List Cell) (labels : Labelled) → SpellsBoth instance.now solution.now p t →
-        labels_for p wish.entry.names ≡ Ok labels → IsTrue (has_weeks p wish.entry.sheet) →
-        let text = wished_text wish.entry.sheet style.now p t labels in MatchResult result (λ _. IsWithinLimit text) (λ f. IsNotPut f text) }
+        labels_for p form.entry.names ≡ Ok labels → IsTrue (has_weeks p form.entry.sheet) →
+        let text = unproved_text form.entry.sheet style.now p t labels in MatchResult result (λ _. IsWithinLimit text) (λ f. IsNotPut f text) }
     // If any other error is reported, nothing is written.
     ensures unwritten { IfErr result (λ f. IsUnwritten f → sink.new ≡ sink.old) }
     // A failed write is reported exactly if a write failed.
@@ -92,12 +92,12 @@ pub fn page<W: Sink>(
 {
     let instance = read_instance(alloc, instance)?;
     let table = read_solution(alloc, &instance, solution)?;
-    let labels = labels_for(alloc, &instance, wish.names)?;
-    if !has_weeks(&instance, wish.sheet) {
+    let labels = labels_for(alloc, &instance, form.names)?;
+    if !has_weeks(&instance, form.sheet) {
         return Err(AppFault::UnknownName);
     }
     let unproved = Proved::Unproved;
-    let shown = shown_for(wish.sheet, &unproved);
+    let shown = shown_for(form.sheet, &unproved);
     let look = Look {
         labels: &labels,
         style,

@@ -6,8 +6,8 @@ use std::cell::{Cell, RefCell};
 use std::io::{Error, ErrorKind, Write};
 use tt_call_answers::AppFault;
 use tt_call_names::PageNames;
-use tt_call_texts::{PageWish, page, proved_page};
-use tt_cli_arguments::{PageRequest, WeeksWish};
+use tt_call_texts::{PageForm, page, proved_page};
+use tt_cli_arguments::{GivenWeeks, PageRequest};
 use tt_cli_files::{Batch, Draft, Label, OutputFault, Place, Ready, Role, StandardStream, finish};
 use tt_cli_saving::{
     CommandFault, Input, Inputs, LastUnread, Prepared, Reply, Shown, Target, World, Written, clear,
@@ -22,7 +22,7 @@ use tt_text_peek::Peek;
 struct PageTexts<'a> {
     instance: &'a [u8],
     solution: &'a [u8],
-    wish: PageWish<'a>,
+    form: PageForm<'a>,
 }
 
 /// Writes a page to a sink, with the bound of the proofs if there are any.
@@ -35,12 +35,12 @@ fn fill_page<P: Peek, W: Sink>(
     let PageTexts {
         instance,
         solution,
-        wish,
+        form,
     } = texts;
     if proofs.is_empty() {
-        page(alloc, instance, solution, wish, STYLE, sink)
+        page(alloc, instance, solution, form, STYLE, sink)
     } else {
-        proved_page(alloc, instance, solution, wish.names, proofs, STYLE, sink)
+        proved_page(alloc, instance, solution, form.names, proofs, STYLE, sink)
     }
 }
 
@@ -190,17 +190,17 @@ fn put_page<R: World, O: Write, E: Write>(
 }
 
 /// Returns the weeks of a sheet.
-fn sheet_of<'a>(weeks: WeeksWish<'a>) -> Sheet<'a> {
+fn sheet_of<'a>(weeks: GivenWeeks<'a>) -> Sheet<'a> {
     match weeks {
-        WeeksWish::Section(by) => Sheet::Section(by),
-        WeeksWish::Days => Sheet::Days,
-        WeeksWish::Named(name) => Sheet::Named(name.as_bytes()),
+        GivenWeeks::Section(by) => Sheet::Section(by),
+        GivenWeeks::Days => Sheet::Days,
+        GivenWeeks::Named(name) => Sheet::Named(name.as_bytes()),
     }
 }
 
 /// Returns what a request wants a page to show.
-fn wish_of<'a>(request: &PageRequest<'a>) -> PageWish<'a> {
-    PageWish {
+fn form_of<'a>(request: &PageRequest<'a>) -> PageForm<'a> {
+    PageForm {
         names: PageNames {
             days: request.names.days,
             periods: request.names.periods,
@@ -213,9 +213,9 @@ fn wish_of<'a>(request: &PageRequest<'a>) -> PageWish<'a> {
 }
 
 /// Returns the fault that no week has a name, with the name.
-fn with_week(alloc: Global, fault: CommandFault, weeks: Option<WeeksWish<'_>>) -> CommandFault {
+fn with_week(alloc: Global, fault: CommandFault, weeks: Option<GivenWeeks<'_>>) -> CommandFault {
     match (fault, weeks) {
-        (CommandFault::Call(AppFault::UnknownName), Some(WeeksWish::Named(name))) => {
+        (CommandFault::Call(AppFault::UnknownName), Some(GivenWeeks::Named(name))) => {
             match String::from_str(alloc, name) {
                 Ok(name) => CommandFault::UnknownWeek { name },
                 Err(_) => CommandFault::OutOfMemory,
@@ -257,7 +257,7 @@ pub fn answer_page<R: World, O: Write, E: Write>(
     let texts = PageTexts {
         instance: &texts.instance,
         solution: &texts.solution,
-        wish: wish_of(request),
+        form: form_of(request),
     };
     let shown = RefCell::new(ticker_of(rt, err, "page", request.showing));
     let reply = put_page(rt, output, texts, &request.proofs, out, &shown);

@@ -3,7 +3,7 @@ use Rattle.std.specs.Io.KnownBytes.{Appends}
 use Rattle.tt_page.specs.Limits.{IsWithinLimit}
 use Rattle.std.proofs.lemmas.Result.{err_from_is_err_and}
 use Rattle.tt_call_answers.specs.FaultMaps.{fault_from_instance, fault_from_solution, fault_from_labels, fault_from_page}
-use Rattle.tt_call_texts.specs.Paged.{IsNotPut, wished_text}
+use Rattle.tt_call_texts.specs.Paged.{IsNotPut, unproved_text}
 use Rattle.tt_call_answers.specs.Refusals.{is_failed_write}
 use Rattle.tt_call_answers.proofs.FailedReads.{passed, calm, instance_write, solution_write, labels_write, page_write}
 use Rattle.tt_call_answers.proofs.Files.{tells_instance, tells_solution, only_memory}
@@ -32,7 +32,7 @@ pub returns-in_err-labels-clause-fault : goal.returns-in_err-labels-clause-fault
 returns-in_err-labels-clause-fault g c =
     let e = err_from_is_err_and c.from_residual-in_err-labels.result c.from_residual-in_err-labels.ensures.1 in
     rw (e.1, e.2)
-    (names_tell c.args.instance.now c.args.solution.now c.in_ok-instance.instance c.in_ok-table.table c.args.wish
+    (names_tell c.args.instance.now c.args.solution.now c.in_ok-instance.instance c.in_ok-table.table c.args.form
     c.in_ok-instance.ensures.found c.in_ok-table.ensures.found c.args.style.now _ _ c.in_err-labels.field-0.0
     c.in_err-labels.ensures)
 
@@ -41,7 +41,7 @@ returns-in_err-labels-clause-only g c =
     let e = err_from_is_err_and c.from_residual-in_err-labels.result c.from_residual-in_err-labels.ensures.1 in
     λ p t l both named there. rw (e.1, e.2)
     (memory_not_put _ _
-    (names_memory c.args.instance.now p c.in_ok-instance.instance c.args.wish.names l c.in_err-labels.field-0.0 both.spelled
+    (names_memory c.args.instance.now p c.in_ok-instance.instance c.args.form.names l c.in_err-labels.field-0.0 both.spelled
     c.in_ok-instance.ensures.found named c.in_err-labels.ensures))
 
 pub returns-then-not-has_weeks-clause-fault : goal.returns-then-not-has_weeks-clause-fault
@@ -57,7 +57,7 @@ returns-then-not-has_weeks-clause-fault g c = record {
 pub returns-then-not-has_weeks-clause-only : goal.returns-then-not-has_weeks-clause-only
 returns-then-not-has_weeks-clause-only g c =
     λ p t l both named there. absurd
-    (weeks_there c.args.instance.now p c.in_ok-instance.instance c.args.wish.sheet both.spelled c.in_ok-instance.ensures.found there
+    (weeks_there c.args.instance.now p c.in_ok-instance.instance c.args.form.sheet both.spelled c.in_ok-instance.ensures.found there
     (sym c.has_weeks.ensures ∙ c.if-not-has_weeks.true))
 
 pub returns-in_err-page-clause-only : goal.returns-in_err-page-clause-only
@@ -66,8 +66,8 @@ returns-in_err-page-clause-only g c =
     let f = c.in_err-page.field-0.0 in
     λ p t l both named there.
     let same = c.shown_for-shown.ensures.text c.args.style.now c.in_ok-instance.instance c.in_ok-table.table c.in_ok-labels.labels
-    ∙ page_same c.args.instance.now c.args.solution.now p c.in_ok-instance.instance t c.in_ok-table.table c.args.wish.names l
-    c.in_ok-labels.labels (wished_text c.args.wish.sheet c.args.style.now) both c.in_ok-instance.ensures.found
+    ∙ page_same c.args.instance.now c.args.solution.now p c.in_ok-instance.instance t c.in_ok-table.table c.args.form.names l
+    c.in_ok-labels.labels (unproved_text c.args.form.sheet c.args.style.now) both c.in_ok-instance.ensures.found
     c.in_ok-table.ensures.found named c.in_ok-labels.ensures in
     rw (e.1, e.2) (subst (IsNotPut (fault_from_page f)) same (output_tells f _ c.in_err-page.ensures.size))
 
@@ -75,7 +75,7 @@ pub returns-in_err-page-clause-fault : goal.returns-in_err-page-clause-fault
 returns-in_err-page-clause-fault g c =
     let e = err_from_is_err_and c.from_residual-in_err-page.result c.from_residual-in_err-page.ensures.1 in
     rw (e.1, e.2)
-    (plain_page_tells c.args.instance.now c.args.solution.now c.in_ok-instance.instance c.in_ok-table.table c.args.wish
+    (plain_page_tells c.args.instance.now c.args.solution.now c.in_ok-instance.instance c.in_ok-table.table c.args.form
     c.in_ok-instance.ensures.found c.in_ok-table.ensures.found c.args.style.now _ _ _ c.in_err-page.field-0.0 _
     c.in_ok-labels.ensures
     (c.shown_for-shown.ensures.text c.args.style.now c.in_ok-instance.instance c.in_ok-table.table c.in_ok-labels.labels)
@@ -104,8 +104,8 @@ returns-clause-only g c =
     λ p t l both named there.
     subst IsWithinLimit
     (c.shown_for-shown.ensures.text c.args.style.now c.in_ok-instance.instance c.in_ok-table.table c.in_ok-labels.labels
-    ∙ page_same c.args.instance.now c.args.solution.now p c.in_ok-instance.instance t c.in_ok-table.table c.args.wish.names l
-    c.in_ok-labels.labels (wished_text c.args.wish.sheet c.args.style.now) both c.in_ok-instance.ensures.found
+    ∙ page_same c.args.instance.now c.args.solution.now p c.in_ok-instance.instance t c.in_ok-table.table c.args.form.names l
+    c.in_ok-labels.labels (unproved_text c.args.form.sheet c.args.style.now) both c.in_ok-instance.ensures.found
     c.in_ok-table.ensures.found named c.in_ok-labels.ensures) c.in_ok-page.ensures.size
 
 pub returns-in_err-instance-clause-failed : goal.returns-in_err-instance-clause-failed
