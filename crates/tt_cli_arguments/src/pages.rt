@@ -62,7 +62,7 @@ const PART_WORDS: [&'static str; 4] = ["rooms", "teachers", "curricula", "days"]
 const ONLY: Argument<'static> = Argument {
     id: "only",
     form: Form::Choice("PART", &PART_WORDS),
-    help: "Shows these weeks and no more, without counts and links",
+    help: "Shows these weeks and no more, without counts, as sheets to hand out",
     condition: Some(Condition::ConflictsWith(&["week", "proof"])),
 };
 
@@ -70,7 +70,7 @@ const ONLY: Argument<'static> = Argument {
 const WEEK: Argument<'static> = Argument {
     id: "week",
     form: Form::Value("NAME"),
-    help: "Shows the week of the room, teacher or curriculum of this name and no more, as a sheet to hand out",
+    help: "Shows the weeks of the room, the teacher and the curriculum of this name and no more, as a sheet to hand out",
     condition: Some(Condition::ConflictsWith(&["only", "proof"])),
 };
 
