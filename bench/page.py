@@ -4,7 +4,7 @@
     python3 bench/page.py [FOLDER]
 
 writes the page of some timetables (good, broken, with names that are markup or no text, two weeks long, with names of days and
-periods) and says of each whether it is, byte for byte, what this second program derives from the two files; its tags are
+periods, some weeks alone) and says of each whether it is, byte for byte, what this second program derives from the two files; its tags are
 balanced, its ids are unique, each link lands, nothing comes from outside, the marks and the items of the lists add up to the
 counts, the colours of bars are no paler than WCAG asks, and it is below 2 MB where the instance is of realistic size. The last
 line counts what passed and failed. Where Chromium is there, pictures at three widths and on paper are put into FOLDER, beside the
@@ -30,6 +30,11 @@ CASES = [
     ("names", INPUT + "/names.ctt", INPUT + "/names.sol"),
     ("long", INPUT + "/long.ctt", INPUT + "/long.sol"),
     ("mini.named", EXAMPLES + "/mini.ctt", INPUT + "/mini.broken.sol", ["Mon"], ["8:00", "9:00", "10:00"]),
+    ("mini.teacher", EXAMPLES + "/mini.ctt", INPUT + "/mini.broken.sol", ["Mon"], ["8:00", "9:00", "10:00"], ("--week", "t1")),
+    ("names.room", INPUT + "/names.ctt", INPUT + "/names.sol", [], [], ("--only", "rooms")),
+    ("like02.teachers", EXAMPLES + "/like02.ctt", INPUT + "/like02.broken.sol", [], [], ("--only", "teachers")),
+    ("like02.curricula", EXAMPLES + "/like02.ctt", EXAMPLES + "/like02.sol", [], [], ("--only", "curricula")),
+    ("like02.days", EXAMPLES + "/like02.ctt", EXAMPLES + "/like02.sol", [], [], ("--only", "days")),
 ]
 MOST_BYTES = 2_000_000
 HUES = 12
@@ -97,10 +102,11 @@ def shown(name):
 
 
 class Page:
-    """The page of a timetable, as text, with names of days and periods, or none, and what was proved of its cost, or None."""
+    """The page of a timetable, as text, with names of days and periods, or none, and what was proved of its cost, or None; or a sheet of it, by an
+    option and its value."""
 
-    def __init__(self, instance, table, style, days=(), periods=(), proved=None):
-        self.instance, self.table, self.style = instance, table, style
+    def __init__(self, instance, table, style, days=(), periods=(), proved=None, sheet=None):
+        self.instance, self.table, self.style, self.sheet = instance, table, style, sheet
         self.day_names, self.period_names, self.proved = days, periods, proved
         self.names = {
             "course": [shown(it[0]) for it in instance.courses],
@@ -127,6 +133,10 @@ class Page:
 
     def link(self, kind, number):
         return f'<a href="#{kind}{number}">{self.names[kind][number]}</a>'
+
+    def week(self, kind, number):
+        """The name of a room, a teacher or a curriculum; sheets have no links."""
+        return f"<bdi>{self.names[kind][number]}</bdi>" if self.sheet else self.link(kind, number)
 
     def cell_link(self, kind, number, entry):
         return f'<a href="#{kind}{number}-{entry[2]}-{entry[3]}">{self.names["course"][entry[0]]}</a>'
@@ -204,13 +214,13 @@ class Page:
         return "" if curriculum is None else f" hue{curriculum % HUES}"
 
     def lecture(self, kind, number, entry):
-        room, teacher = self.link("room", entry[1]), self.teacher_link(entry[0])
+        room, teacher = self.week("room", entry[1]), self.week("teacher", self.instance.teacher_of[entry[0]])
         beside = {"room": teacher, "teacher": room, "curriculum": room + " " + teacher}[kind]
         name = self.names["course"][entry[0]]
+        course = f'<bdi class="course">{name}</bdi>' if self.sheet else f'<a class="course" href="#course{entry[0]}">{name}</a>'
         return (
             f'<div class="lecture{self.hue(self.curriculum_of.get(entry[0]))}"><span class="when">{self.when(*entry[2:])}</span> '
-            f'<a class="course" href="#course{entry[0]}">{name}</a> '
-            f"{beside}{self.marks(kind, number, entry)}</div>\n"
+            f"{course} {beside}{self.marks(kind, number, entry)}</div>\n"
         )
 
     def has(self, kind, number, entry):
@@ -252,7 +262,7 @@ class Page:
         return text + "</tbody>\n</table>\n</div>\n"
 
     def room_row(self, day, room):
-        text = f'<tr>\n<th scope="row">{self.link("room", room)}</th>\n'
+        text = f'<tr>\n<th scope="row">{self.week("room", room)}</th>\n'
         for period in range(self.instance.periods):
             here = [it for it in self.at.get((day, period), []) if it[1] == room]
             text += "<td>\n" + "".join(self.lecture("room", room, it) for it in here) + "</td>\n"
@@ -392,16 +402,45 @@ class Page:
         text += "".join(self.course_row(it) for it in range(len(self.of)))
         return text + "</tbody>\n</table>\n</div>\n</details>\n"
 
-    def text(self):
-        instance, lists = self.instance, self.lists()
-        counts = [sum(it[0] for it in items) for _, _, _, items in lists]
-        hard, cost = sum(counts[:4]), sum(counts[4:])
-        name = "".join(" " + shown(it) for it in instance.name)
-        text = (
+    def name(self):
+        return "".join(" " + shown(it) for it in self.instance.name)
+
+    def head(self):
+        return (
             '<!DOCTYPE html>\n<html lang="en">\n<head>\n<meta charset="utf-8">\n'
             '<meta name="viewport" content="width=device-width, initial-scale=1">\n'
             '<meta name="color-scheme" content="light dark">\n'
-            f"<title>Timetable{name}</title>\n<style>\n{self.style}</style>\n</head>\n<body>\n"
+            f"<title>Timetable{self.name()}</title>\n<style>\n{self.style}</style>\n</head>\n<body>\n"
+        )
+
+    def legend(self):
+        return (
+            '<p class="legend">In the grids: <strong>broken</strong> breaks a hard rule, <mark>costs</mark> costs, '
+            '<span class="barred">not c</span> a period that is unavailable for course c. '
+            "A lecture's bar has the colour of the first curriculum that has its course."
+        )
+
+    def sheet_text(self):
+        option, value = self.sheet
+        text = self.head() + f"<main>\n<header>\n<h1>Timetable<b>{self.name()}</b></h1>\n</header>\n{self.legend()}</p>\n"
+        if option == "--week":
+            names = {"room": [it[0] for it in self.instance.rooms], "teacher": self.instance.teachers, "curriculum": [it[0] for it in self.instance.curricula]}
+            found = [(kind, names[kind].index(value.encode())) for kind in names if value.encode() in names[kind]]
+            text += '<div class="grids">\n' + "".join(self.grid(*it) for it in found) + "</div>\n"
+        elif value == "days":
+            text += self.days_text()
+        else:
+            text += self.section(value, {"rooms": "room", "teachers": "teacher", "curricula": "curriculum"}[value])
+        return text + "</main>\n</body>\n</html>\n"
+
+    def text(self):
+        if self.sheet:
+            return self.sheet_text()
+        instance, lists = self.instance, self.lists()
+        counts = [sum(it[0] for it in items) for _, _, _, items in lists]
+        hard, cost = sum(counts[:4]), sum(counts[4:])
+        name = self.name()
+        text = self.head() + (
             '<a class="skip" href="#rooms">Skip to the weeks</a>\n<nav aria-label="Contents">\n<ul>\n'
         )
         for part in ["summary", "rooms", "teachers", "curricula", "days", "courses"]:
@@ -416,11 +455,8 @@ class Page:
         )
         text += self.counts_table("hard", "Hard rules", lists[:4], ("Hard", hard, "0 in a feasible timetable"))
         text += self.counts_table("cost", "Costs", lists[4:], ("Cost", cost, "less is better"))
-        text += (
-            '</div>\n<p class="legend">In the grids: <strong>broken</strong> breaks a hard rule, <mark>costs</mark> costs, '
-            '<span class="barred">not c</span> a period that is unavailable for course c. '
-            "A lecture's bar has the colour of the first curriculum that has its course. "
-            "A rule that is not in the tables counts 0. <span class=\"files\">The files count days and periods from 0.</span></p>\n"
+        text += "</div>\n" + self.legend() + (
+            " A rule that is not in the tables counts 0. <span class=\"files\">The files count days and periods from 0.</span></p>\n"
         )
         for at, (ident, title, _, items) in enumerate(lists):
             if counts[at]:
@@ -458,8 +494,8 @@ class Tags(html.parser.HTMLParser):
             self.faults.append(f"end of {tag} at {self.getpos()}")
 
 
-def faults_of(text):
-    """What is wrong with a page, whatever it shows."""
+def faults_of(text, is_sheet=False):
+    """What is wrong with a page or a sheet, whatever it shows."""
     tags = Tags()
     tags.feed(text)
     tags.close()
@@ -479,14 +515,16 @@ def faults_of(text):
     style = text[text.index("<style>") : text.index("</style>")]
     faults += [f"no colour of hue{it}" for it in range(HUES) if style.count(f".hue{it} {{") != 2]
     faults += [f"too pale: {it}" for it in pale_hues(style)]
+    if re.search("[\x00-\x09\x0b-\x1f\x7f-\x9f]", text):
+        faults.append("a control")
+    if is_sheet:
+        return faults
     rooms = text[text.index('<details open id="rooms">') : text.index('<details open id="teachers">')]
     count = lambda title: int(re.search(rf"{title}</th><td>(\d+)", text).group(1))
     if sum(map(int, re.findall(r"<mark>no seat: (\d+)</mark>", rooms))) != count("Room capacity"):
         faults.append("the marks of seats don't add up")
     if 2 * text.count("<mark>isolated</mark>") != count("Compactness"):
         faults.append("the isolated lectures don't add up")
-    if re.search("[\x00-\x09\x0b-\x1f\x7f-\x9f]", text):
-        faults.append("a control")
     return faults
 
 
@@ -515,10 +553,11 @@ def style_of():
         return re.search(r'r#"(.*)"#;', file.read(), re.S).group(1)
 
 
-def look(name, instance, solution, folder, days=(), periods=()):
+def look(name, instance, solution, folder, days=(), periods=(), sheet=()):
     """The faults of one case's page."""
     out = os.path.join(folder, name + ".html")
     options = ["--days", ",".join(days), "--periods", ",".join(periods)] if days else []
+    options += sheet
     done = subprocess.run([TOP + "/tt", "page", instance, solution, out, *options], capture_output=True, text=True)
     if done.returncode:
         return [f"status {done.returncode}: {done.stderr.strip()}"]
@@ -526,12 +565,12 @@ def look(name, instance, solution, folder, days=(), periods=()):
         data = file.read()
     with open(instance, "rb") as first, open(solution, "rb") as second:
         read = Instance(first.read())
-        wanted = Page(read, table_of(read, second.read()), style_of(), days, periods).text()
+        wanted = Page(read, table_of(read, second.read()), style_of(), days, periods, sheet=sheet).text()
     try:
         text = data.decode("utf-8")
     except UnicodeDecodeError as fault:
         return [f"no UTF-8: {fault}"]
-    faults = faults_of(text)
+    faults = faults_of(text, bool(sheet))
     if text != wanted:
         lines = zip(text.split("\n"), wanted.split("\n"))
         faults.append(next((f"differs: {one!r} for {other!r}" for one, other in lines if one != other), "differs in length"))

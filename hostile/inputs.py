@@ -344,6 +344,16 @@ def standard_input(desk):
     assert not (desk.folder / "new").exists()
 
 
+def weeks_by_name(desk):
+    """A name that is markup, or no ASCII, is that of a week like any other; one that nobody has is refused."""
+    for name in ("t2", "<b>", "a&amp;", "é"):
+        desk.put(instance=MINI.replace(b" t1 ", f" {name} ".encode()), solution=APART)
+        words = ["page", "instance", "solution", "out", "--week"]
+        same(desk.told([*words, name]), (0, b"", b""))
+        assert (desk.folder / "out").read_bytes().count(b"<h3 ") == 1, name
+        same(desk.told([*words, name + name]), refused(f"--week: unknown name: {name}{name}".encode()))
+
+
 ROWS = [
     ("Mini cut to each length", cut_instances),
     ("the proof of Gap cut to each length", cut_proofs),
@@ -359,5 +369,6 @@ ROWS = [
     ("4,096 lectures at the greatest price", many_dear_lectures),
     ("files that aren't there", missing_files),
     ("folders in the place of files", folders_in_the_place_of_files),
+    ("weeks by name", weeks_by_name),
     ("standard input as an input", standard_input),
 ]

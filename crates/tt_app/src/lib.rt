@@ -4,11 +4,10 @@
 pub use tt_call_answers::{Answer, AppFault};
 pub use tt_call_changes::{ChangesFault, changes};
 pub use tt_call_checks::{bound, check, check_sum, sum, upgrade, validate};
+pub use tt_call_names::{PageNames, UNNAMED};
 pub use tt_call_searches::{
     BestAnswer, BestSearch, Effort, ImproveSearch, PartsAnswer, TreeEffort, WatchBest, best,
     improve, parts, solve,
 };
-pub use tt_call_texts::{
-    PageNames, WeekTimes, calendar, inspect, page, proved_page, report, table,
-};
+pub use tt_call_texts::{PageForm, WeekTimes, calendar, inspect, page, proved_page, report, table};
 pub use tt_call_wishes::{ValidateFault, validate_wishes};

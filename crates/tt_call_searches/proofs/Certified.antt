@@ -15,7 +15,7 @@ use Rattle.tt_leaf.specs.declared.leaf.Bound.{Bound}
 use Rattle.tt_leaf.specs.declared.leaf.Bound.TheVariants.{AtLeast}
 use Rattle.tt_page.specs.Pages.{page_text}
 use Rattle.tt_page.specs.declared.proved.Proved.TheVariants as proved
-use Rattle.tt_page_text.specs.Labels.{no_labels}
+use Rattle.tt_page_text.specs.Labelled.{Labelled}
 use Rattle.tt_proof_check.specs.Derives.{HoldsOfAll}
 use Rattle.tt_proof_check.specs.Headline.{BoundsAll}
 use Rattle.tt_proof_sum.specs.Sums.{IsSum}
@@ -23,21 +23,25 @@ use Rattle.tt_best.specs.Weeks.{IsNoHigher, IsNoWorseThan}
 use Rattle.tt_call_searches.specs.Best.{ShowsPage, CostsAtMost, CostsNoMore}
 use Rattle.tt_call_searches.specs.Given.{IsGiven}
 use Rattle.tt_call_searches.specs.declared.calls.best.BestAnswer.{BestAnswer}
+use Rattle.tt_call_names.specs.Names.{labels_for}
+use Rattle.tt_call_names.specs.declared.names.PageNames.{PageNames}
 use Rattle.tt_call_answers.specs.Sums.{CertifiesSum}
 
 -- the solution and the proofs certify a cost and a bound, which holds for every feasible timetable, and the page shows them
-pub record IsWhole {A : Type 0} (instance solution : List ℕ) (files : List (List ℕ)) (page : Option (Vec ℕ A)) (style : List ℕ)
-    (c b : ℕ) : Type 0 where
+pub record IsWhole {A : Type 0} (instance solution : List ℕ) (files : List (List ℕ)) (page : Option (Vec ℕ A)) (names : PageNames)
+    (labels : Labelled) (style : List ℕ) (c b : ℕ) : Type 0 where
   pub certified : CertifiesSum instance solution files c b
   pub bounds : BoundsAll instance b
   pub within : b ≤ c
-  pub shown : ShowsPage page (page_text certified.solves.problem certified.solves.table no_labels (proved.AtLeast b) style)
+  pub named : labels_for certified.solves.problem names ≡ Ok labels
+  pub shown : ShowsPage page (page_text certified.solves.problem certified.solves.table labels (proved.AtLeast b) style)
 
 -- they certify them if the solution spells a feasible timetable of this cost, and the bound is the sum
-pub whole : {A : Type 0} (i s : List ℕ) (p : Problem) (t : List Cell) (files : List (List ℕ)) (page : Option (Vec ℕ A)) (style : List ℕ)
-    (sum : Bound) (c b : ℕ) → Spells i p → SpellsTable p s t → IsFeasible p t → c ≡ cost p t → IsSum p files sum → HoldsOfAll p sum
-    → sum ≡ AtLeast b → ShowsPage page (page_text p t no_labels (proved.AtLeast b) style) → IsWhole i s files page style c b
-whole i s p t files page style sum c b spells solved feasible costs is holds e shown =
+pub whole : {A : Type 0} (i s : List ℕ) (p : Problem) (t : List Cell) (files : List (List ℕ)) (page : Option (Vec ℕ A)) (names : PageNames)
+    (labels : Labelled) (style : List ℕ) (sum : Bound) (c b : ℕ) → Spells i p → SpellsTable p s t → IsFeasible p t → c ≡ cost p t
+    → IsSum p files sum → HoldsOfAll p sum → sum ≡ AtLeast b → labels_for p names ≡ Ok labels
+    → ShowsPage page (page_text p t labels (proved.AtLeast b) style) → IsWhole i s files page names labels style c b
+whole i s p t files page names labels style sum c b spells solved feasible costs is holds e named shown =
     let here : HoldsOfAll p (AtLeast b) = subst (λ (x : Bound). HoldsOfAll p x) e holds in
     record {
       certified = record {
@@ -52,6 +56,7 @@ whole i s p t files page style sum c b spells solved feasible costs is holds e s
       };
       bounds = λ other read. subst (λ (x : Problem). HoldsOfAll x (AtLeast b)) (spelled_once i p other spells read) here;
       within = subst (λ (n : ℕ). b ≤ n) (sym costs) (here t feasible);
+      named = named;
       shown = shown;
     }
 
@@ -79,12 +84,12 @@ no_worse_found p t u fits feasible kept =
     )
 
 -- the answer costs no more than a given solution that breaks no hard rule
-pub costs_no_more : (i : List ℕ) (given : Option (List ℕ)) (style : List ℕ) (p : Problem) (table : Option (List Cell)) (w : List Cell)
-    (a : BestAnswer) → Spells i p → IsGiven p given table
-    → IsTimetable p w → IsNoWorseThan p table w → (IsFeasible p w → CostsAtMost i style (cost p w) a) → CostsNoMore i given style a
-costs_no_more i None style p table w a spells is fits kept costs = tt
-costs_no_more i (Some s) style p None w a spells is fits kept costs = absurd is
-costs_no_more i (Some s) style p (Some t) w a spells is fits kept costs =
+pub costs_no_more : (i : List ℕ) (given : Option (List ℕ)) (names : PageNames) (style : List ℕ) (p : Problem) (table : Option (List Cell))
+    (w : List Cell) (a : BestAnswer) → Spells i p → IsGiven p given table → IsTimetable p w → IsNoWorseThan p table w
+    → (IsFeasible p w → CostsAtMost i names style (cost p w) a) → CostsNoMore i given names style a
+costs_no_more i None names style p table w a spells is fits kept costs = tt
+costs_no_more i (Some s) names style p None w a spells is fits kept costs = absurd is
+costs_no_more i (Some s) names style p (Some t) w a spells is fits kept costs =
     λ c solves.
     let limits = (spelled_instance i p spells).within in
     let same : solves.problem ≡ p = spelled_once i solves.problem p solves.both.spelled spells in

@@ -1,4 +1,5 @@
 pub mod Certified
 pub mod Given
+pub mod GivenNames
 pub mod Improving
 pub mod Searching

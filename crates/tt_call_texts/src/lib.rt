@@ -5,6 +5,6 @@ mod calls;
 
 pub use calls::calendar::{WeekTimes, calendar};
 pub use calls::inspect::inspect;
-pub use calls::page::{PageNames, page, proved_page};
+pub use calls::page::{PageForm, page, proved_page};
 pub use calls::report::report;
 pub use calls::table::table;

@@ -3,6 +3,7 @@
 use crate::arguments::Request;
 use crate::description::{Argument, Description, Form, Range};
 use crate::files::INSTANCE;
+use crate::pages::{DAYS, GivenNames, PERIODS, names_of};
 use crate::searches::{SEED, TIME};
 use crate::showing::{PROGRESS, QUIET, Showing, showing_of};
 use clap::ArgMatches;
@@ -29,6 +30,8 @@ pub struct BestRequest<'a> {
     /// The timetable from which the search begins.
     pub start: Option<&'a str>,
     pub search: BestSearch,
+    /// The names on the page.
+    pub names: GivenNames<'a>,
     pub showing: Showing,
 }
 
@@ -70,7 +73,7 @@ pub const BEST: Description<'static> = Description {
     about: "Searches for a best timetable and for proofs of a lower bound until they meet, and writes them with a page",
     example: "Example: tt best week.ctt week --rounds 20",
     arguments: &[
-        INSTANCE, FOLDER, START, SEED, ROUNDS, TIME, KEEP, PROGRESS, QUIET,
+        INSTANCE, FOLDER, START, SEED, ROUNDS, TIME, KEEP, DAYS, PERIODS, PROGRESS, QUIET,
     ],
 };
 
@@ -91,6 +94,7 @@ pub fn best_request<'a>(found: &ArgMatches<'a>) -> Option<Request<'a>> {
         folder: found.get_str("OUTDIR")?,
         start: found.get_str("from"),
         search: best_search(found)?,
+        names: names_of(found),
         showing: showing_of(found),
     }))
 }

@@ -19,7 +19,7 @@ pub use best::{BestRequest, BestSearch};
 pub use checks::{BoundRequest, CheckRequest, UpgradeRequest, WishesRequest};
 pub use files::TimetableFiles;
 pub use inspect::InspectRequest;
-pub use pages::{NamesWish, PageRequest};
+pub use pages::{GivenNames, GivenWeeks, PageRequest};
 pub use parts::{PartSearch, PartsRequest};
 pub use reports::{CalendarRequest, CalendarWish, ChangesRequest, ReportRequest, TableRequest};
 pub use searches::{ImproveRequest, MAX_SOLVE_NODES, Search, SolveRequest, TreeSearch};

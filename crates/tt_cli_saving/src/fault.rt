@@ -27,6 +27,11 @@ pub enum CommandFault {
         path: String,
         reason: io::Error,
     },
+    /// No room, teacher or curriculum has the name of the week that is to be shown.
+    #[error("--week: unknown name: {name}")]
+    UnknownWeek {
+        name: String,
+    },
     #[error("{0}")]
     Read(ReadFault),
     #[error("{0}")]

@@ -3,7 +3,8 @@
 use std::alloc::{AllocError, Global};
 use std::io::Write;
 use tt_call_answers::{Answer, AppFault};
-use tt_call_texts::{PageNames, proved_page};
+use tt_call_names::UNNAMED;
+use tt_call_texts::proved_page;
 use tt_cli_files::{Batch, Role};
 use tt_cli_saving::{CommandFault, Inputs, Prepared, Target, World};
 use tt_page::STYLE;
@@ -37,14 +38,10 @@ fn page_of(alloc: Global, instance: &[u8], answer: &Answer) -> Result<Option<Vec
     let (Some(table), Some(proof)) = (&answer.table, &answer.proof) else {
         return Ok(None);
     };
-    let names = PageNames {
-        days: None,
-        periods: None,
-    };
     let mut proofs = [Peeked::new(alloc, Pieces::new(proof, PIECE_BYTES, 0))];
     let mut page = Vec::new(alloc);
     let sink = &mut Writing::new(&mut page);
-    proved_page(alloc, instance, table, names, &mut proofs, STYLE, sink)?;
+    proved_page(alloc, instance, table, UNNAMED, &mut proofs, STYLE, sink)?;
     Ok(Some(page))
 }
 

@@ -84,6 +84,12 @@ unfoldable pub header_text : Problem → List Cell → Proved → List ℕ
 header_text p t proved =
     contents_text ++ name_text p ++ verdict_text (hard p t) (cost p t) ++ proved_text p proved (hard p t) (cost p t) ++ sizes_text p t
 
+-- The legend of the marks in the grids.
+unfoldable pub marks_text : List ℕ
+marks_text = codes "<p class=\"legend\">In the grids: <strong>broken</strong> breaks a hard rule, <mark>costs</mark> costs, <span class=\"barred\">not c</span> a period that is unavailable for course c. A lecture's bar has the colour of the first curriculum that has its course."
+
 -- The legend: the marks in the grids, the rules that are not shown, and how the files count.
 unfoldable pub legend_text : List ℕ
-legend_text = codes "</div>\n<p class=\"legend\">In the grids: <strong>broken</strong> breaks a hard rule, <mark>costs</mark> costs, <span class=\"barred\">not c</span> a period that is unavailable for course c. A lecture's bar has the colour of the first curriculum that has its course. A rule that is not in the tables counts 0. <span class=\"files\">The files count days and periods from 0.</span></p>\n"
+legend_text =
+    codes "</div>\n" ++ marks_text
+    ++ codes " A rule that is not in the tables counts 0. <span class=\"files\">The files count days and periods from 0.</span></p>\n"

@@ -4,3 +4,4 @@ pub mod Heading
 pub mod Limits
 pub mod Pages
 pub mod Proofs
+pub mod Sheets

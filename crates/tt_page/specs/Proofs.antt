@@ -5,6 +5,8 @@ use Rattle.tt_leaf.specs.Ranges.{AreBelow}
 use Rattle.tt_leaf.specs.declared.leaf.Bound.{Bound}
 use Rattle.tt_leaf.specs.declared.leaf.Bound.TheVariants as bound
 use Rattle.tt_page.specs.declared.proved.Proved.{Proved}
+use Rattle.tt_page.specs.declared.sheet.Shown.{Shown}
+use Rattle.tt_page.specs.declared.sheet.Shown.TheVariants.{Whole, Only}
 use Rattle.tt_page.specs.declared.proved.Proved.TheVariants.{AtLeast, Infeasible, Clique, Slots}
 
 -- The courses that are named are the instance's.
@@ -12,6 +14,11 @@ abbrev pub IsProvedOf : Problem → Proved → Type 0
 IsProvedOf p (Clique cs) = AreBelow (length p.courses) cs
 IsProvedOf p (Slots cs) = AreBelow (length p.courses) cs
 IsProvedOf p _ = ⊤
+
+-- If what is proved is shown, the courses that are named are the instance's.
+abbrev pub IsShownOf : Problem → Shown → Type 0
+IsShownOf p (Whole proved) = IsProvedOf p proved.now
+IsShownOf p (Only sheet) = ⊤
 
 -- What a bound says.
 abbrev pub proved_of : Bound → Proved

@@ -4,7 +4,7 @@ ghost use Rattle.std.specs.Prelude.{◌≡◌, length};
 ghost use Rattle.tt_rules.specs.Score.{IsScore};
 ghost use Rattle.tt_page_text.specs.Puts.{put_text};
 ghost use Rattle.tt_leaf.specs.Ranges.{AreBelow};
-ghost use Rattle.tt_page.specs.Heading.{head_text, contents_text, verdict_text, best_text, gap_text, least_text, infeasible_text, clique_text, slots_text, bound_text, proved_text, sizes_text, header_text, legend_text};
+ghost use Rattle.tt_page.specs.Heading.{head_text, contents_text, verdict_text, best_text, gap_text, least_text, infeasible_text, clique_text, slots_text, bound_text, proved_text, sizes_text, header_text, marks_text, legend_text};
 ghost use Rattle.tt_page.specs.Proofs.{IsProvedOf};
 
 use crate::proved::Proved;
@@ -216,14 +216,27 @@ pub fn put_header(out: &mut PageText, plan: &Plan<'_, '_>, proved: &Proved, scor
     put_sizes(out, plan);
 }
 
-/// The legend: the marks in the grids, the rules that are not shown, and how the files count.
-const LEGEND: &str =
-    "</div>\n<p class=\"legend\">In the grids: <strong>broken</strong> breaks a hard rule, <mark>costs</mark> costs, <span class=\"barred\">not c</span> a period that is unavailable for course c. A lecture's bar has the colour of the first curriculum that has its course. A rule that is not in the tables counts 0. <span class=\"files\">The files count days and periods from 0.</span></p>\n";
+/// The legend of the marks in the grids.
+const MARKS: &str =
+    "<p class=\"legend\">In the grids: <strong>broken</strong> breaks a hard rule, <mark>costs</mark> costs, <span class=\"barred\">not c</span> a period that is unavailable for course c. A lecture's bar has the colour of the first curriculum that has its course.";
+
+/// Appends the legend of the marks.
+#[tactic(auto, unfolding(crate::specs::Heading::marks_text))]
+pub fn put_marks(out: &mut PageText)
+    ensures { out.new ≡ put_text out.old marks_text }
+{
+    put_token(out, MARKS.as_bytes());
+}
 
 /// Appends the legend.
-#[tactic(auto, unfolding(crate::specs::Heading::legend_text))]
+#[tactic(auto, using(tt_page_text::proofs::Growing::puts), unfolding(crate::specs::Heading::legend_text))]
 pub fn put_legend(out: &mut PageText)
     ensures { out.new ≡ put_text out.old legend_text }
 {
-    put_token(out, LEGEND.as_bytes());
+    put_token(out, b"</div>\n");
+    put_marks(out);
+    put_token(
+        out,
+        b" A rule that is not in the tables counts 0. <span class=\"files\">The files count days and periods from 0.</span></p>\n",
+    );
 }

@@ -11,21 +11,23 @@ ghost use Rattle.tt_page_text.specs.declared.page_text.TheConstants.{MAX_PAGE_BY
 ghost use Rattle.tt_page_text.specs.declared.fault.TextFault.TheVariants as text_fault;
 ghost use Rattle.tt_page.specs.Faults.{ExplainsSize, is_failed_write};
 ghost use Rattle.tt_page.specs.Limits.{IsWithinLimit};
-ghost use Rattle.tt_page.specs.Pages.{counts_text, weeks_text, page_text};
-ghost use Rattle.tt_page.specs.Proofs.{IsProvedOf};
+ghost use Rattle.tt_page.specs.Pages.{counts_text, weeks_text, page_text, shown_text};
+ghost use Rattle.tt_page.specs.Proofs.{IsProvedOf, IsShownOf};
 ghost use Rattle.tt_page.specs.declared.fault.PageFault.TheVariants as fault;
 
 use crate::courses::put_courses;
 use crate::fault::PageFault;
 use crate::heading::{put_head, put_header, put_legend};
+use crate::look::Look;
 use crate::proved::Proved;
+use crate::sheet::{Shown, put_sheet};
 use std::alloc::Global;
 use tt_instance::Instance;
 use tt_page_days::put_days;
 use tt_page_lists::{put_cost_table, put_hard_table, put_lists};
 use tt_page_plan::Plan;
 use tt_page_text::{Labels, PAGE_PIECE_BYTES, PageText, TextFault, put_token};
-use tt_page_weeks::put_section;
+use tt_page_weeks::{View, put_section};
 use tt_rules::{Score, score};
 use tt_table::{Kind, Timetable};
 use tt_text::{Sink, WriteFailed, write_all};
@@ -55,10 +57,14 @@ fn put_counts(
 fn put_weeks(out: &mut PageText, plan: &Plan<'_, '_>, labels: &Labels)
     ensures { out.new ≡ put_text out.old (weeks_text plan.now.problem plan.now.table labels.now) }
 {
-    put_section(out, plan, labels, Kind::Room);
-    put_section(out, plan, labels, Kind::Teacher);
-    put_section(out, plan, labels, Kind::Curriculum);
-    put_days(out, plan, labels);
+    let view = View {
+        labels,
+        is_linked: true,
+    };
+    put_section(out, plan, &view, Kind::Room);
+    put_section(out, plan, &view, Kind::Teacher);
+    put_section(out, plan, &view, Kind::Curriculum);
+    put_days(out, plan, &view);
     put_courses(out, plan);
 }
 
@@ -67,19 +73,36 @@ fn put_weeks(out: &mut PageText, plan: &Plan<'_, '_>, labels: &Labels)
 fn put_page(
     out: &mut PageText,
     plan: &Plan<'_, '_>,
-    labels: &Labels,
     proved: &Proved,
     score: &Score,
-    style: &str,
+    look: &Look<'_>,
 )
     requires score { IsScore plan.now.problem plan.now.table score.now }
     requires proved { IsProvedOf plan.now.problem proved.now }
-    ensures { out.new ≡ put_text out.old (page_text plan.now.problem plan.now.table labels.now proved.now style.now) }
+    ensures { out.new ≡ put_text out.old (page_text plan.now.problem plan.now.table look.now.labels.now proved.now look.now.style.now) }
 {
-    put_head(out, plan.instance(), style);
-    put_counts(out, plan, labels, proved, score);
-    put_weeks(out, plan, labels);
+    put_head(out, plan.instance(), look.style);
+    put_counts(out, plan, look.labels, proved, score);
+    put_weeks(out, plan, look.labels);
     put_token(out, b"</main>\n</body>\n</html>\n");
+}
+
+/// Appends the text of what is shown.
+fn put_all(
+    out: &mut PageText,
+    plan: &Plan<'_, '_>,
+    shown: Shown<'_>,
+    score: &Score,
+    look: &Look<'_>,
+)
+    requires score { IsScore plan.now.problem plan.now.table score.now }
+    requires shown { IsShownOf plan.now.problem shown }
+    ensures { out.new ≡ put_text out.old (shown_text plan.now.problem plan.now.table look.now.labels.now shown.entry look.now.style.now) }
+{
+    match shown {
+        Shown::Whole(proved) => put_page(out, plan, proved, score, look),
+        Shown::Only(sheet) => put_sheet(out, plan, sheet, look),
+    }
 }
 
 /// Returns the text of a page, unless it is too large.
@@ -87,21 +110,20 @@ pub fn text_of(
     alloc: Global,
     instance: &Instance<'_>,
     table: &Timetable,
-    labels: &Labels,
     proved: &Proved,
-    style: &str,
+    look: &Look<'_>,
 ) -> Result<Vec<u8>, TextFault>
     requires table { IsTimetable instance.now table.now }
     requires proved { IsProvedOf instance.now proved.now }
-    ensures text { IfOk result (λ v. v.items ≡ page_text instance.now table.now labels.now proved.now style.now) }
+    ensures text { IfOk result (λ v. v.items ≡ page_text instance.now table.now look.now.labels.now proved.now look.now.style.now) }
     // It is refused as too large exactly if it has more bytes than a page may have, unless memory runs out.
-    ensures size { let text = page_text instance.now table.now labels.now proved.now style.now in
+    ensures size { let text = page_text instance.now table.now look.now.labels.now proved.now look.now.style.now in
         MatchResult result (λ _. IsWithinLimit text) (λ f. f ≡ text_fault.TooLarge → IsTooLarge text) }
 {
     let plan = Plan::new(alloc, instance, table)?;
     let score = score(instance, table);
     let mut first = PageText::new(alloc, PAGE_PIECE_BYTES)?;
-    put_page(&mut first, &plan, labels, proved, &score, style);
+    put_page(&mut first, &plan, proved, &score, look);
     let Some(total) = first.total() else {
         return Err(TextFault::TooLarge);
     };
@@ -109,7 +131,7 @@ pub fn text_of(
         return Ok(first.into_bytes());
     }
     let mut whole = PageText::new(alloc, total)?;
-    put_page(&mut whole, &plan, labels, proved, &score, style);
+    put_page(&mut whole, &plan, proved, &score, look);
     Ok(whole.into_bytes())
 }
 
@@ -117,20 +139,19 @@ pub fn text_of(
 fn write_pieces<W: Sink>(
     out: &mut PageText,
     plan: &Plan<'_, '_>,
-    labels: &Labels,
-    proved: &Proved,
+    shown: Shown<'_>,
     score: &Score,
-    style: &str,
+    look: &Look<'_>,
     total: usize,
     sink: &mut W,
 ) -> Result<(), WriteFailed>
     requires score { IsScore plan.now.problem plan.now.table score.now }
-    requires proved { IsProvedOf plan.now.problem proved.now }
-    requires first { out.old ≡ put_text (window 0 PAGE_PIECE_BYTES too_many) (page_text plan.now.problem plan.now.table labels.now proved.now style.now) }
-    requires total { total ≡ length (page_text plan.now.problem plan.now.table labels.now proved.now style.now) }
+    requires shown { IsShownOf plan.now.problem shown }
+    requires first { out.old ≡ put_text (window 0 PAGE_PIECE_BYTES too_many) (shown_text plan.now.problem plan.now.table look.now.labels.now shown look.now.style.now) }
+    requires total { total ≡ length (shown_text plan.now.problem plan.now.table look.now.labels.now shown look.now.style.now) }
     requires within { total ≤ MAX_PAGE_BYTES }
-    ensures written { OnOk result (Appends (W.contents sink.old) (W.contents sink.new) (page_text plan.now.problem plan.now.table labels.now proved.now style.now)) }
-    ensures part { OnErr result (TakesPart (W.contents sink.old) (W.contents sink.new) (page_text plan.now.problem plan.now.table labels.now proved.now style.now)) }
+    ensures written { OnOk result (Appends (W.contents sink.old) (W.contents sink.new) (shown_text plan.now.problem plan.now.table look.now.labels.now shown.entry look.now.style.now)) }
+    ensures part { OnErr result (TakesPart (W.contents sink.old) (W.contents sink.new) (shown_text plan.now.problem plan.now.table look.now.labels.now shown.entry look.now.style.now)) }
     ensures failed { W.has_failed sink.new ≡ (if is_ok result then W.has_failed sink.old else true) }
 {
     let mut from = 0;
@@ -141,29 +162,28 @@ fn write_pieces<W: Sink>(
             return Ok(());
         }
         out.restart(from, from + PAGE_PIECE_BYTES);
-        put_page(out, plan, labels, proved, score, style);
+        put_all(out, plan, shown, score, look);
     }
 }
 
-/// Writes the page of a timetable's week, with names of days and periods, and a style (`STYLE` is the program's). The header says
-/// what is proved: the caller has to have checked its proof. All bytes are counted before the first is written.
+/// Writes the page of a timetable's week, or a sheet of it. The header of a page says what is proved: the caller has to have checked its proof.
+/// All bytes are counted before the first is written.
 pub fn page<W: Sink>(
     alloc: Global,
     instance: &Instance<'_>,
     table: &Timetable,
-    labels: &Labels,
-    proved: &Proved,
-    style: &str,
+    shown: Shown<'_>,
+    look: &Look<'_>,
     sink: &mut W,
 ) -> Result<(), PageFault>
     requires table { IsTimetable instance.now table.now }
-    requires proved { IsProvedOf instance.now proved.now }
-    ensures written { OnOk result (Appends (W.contents sink.old) (W.contents sink.new) (page_text instance.now table.now labels.now proved.now style.now)) }
+    requires shown { IsShownOf instance.now shown }
+    ensures written { OnOk result (Appends (W.contents sink.old) (W.contents sink.new) (shown_text instance.now table.now look.now.labels.now shown.entry look.now.style.now)) }
     // After a failed write, a part from the front of the text was taken.
-    ensures part { result ≡ Err fault.Write → TakesPart (W.contents sink.old) (W.contents sink.new) (page_text instance.now table.now labels.now proved.now style.now) }
+    ensures part { result ≡ Err fault.Write → TakesPart (W.contents sink.old) (W.contents sink.new) (shown_text instance.now table.now look.now.labels.now shown.entry look.now.style.now) }
     ensures failed { W.has_failed sink.new ≡ (if is_err_and result is_failed_write then true else W.has_failed sink.old) }
     // The page is refused as too large exactly if it has more bytes than a page may have, unless memory runs out.
-    ensures size { let text = page_text instance.now table.now labels.now proved.now style.now in
+    ensures size { let text = shown_text instance.now table.now look.now.labels.now shown.entry look.now.style.now in
         MatchResult result (λ _. IsWithinLimit text) (λ f. ExplainsSize f text) }
     // If the page is too large, nothing was written.
     ensures refused { result ≡ Err fault.TooLarge → sink.new ≡ sink.old }
@@ -173,10 +193,10 @@ pub fn page<W: Sink>(
     let plan = Plan::new(alloc, instance, table)?;
     let score = score(instance, table);
     let mut out = PageText::new(alloc, PAGE_PIECE_BYTES)?;
-    put_page(&mut out, &plan, labels, proved, &score, style);
+    put_all(&mut out, &plan, shown, &score, look);
     let Some(total) = out.total() else {
         return Err(PageFault::TooLarge);
     };
-    write_pieces(&mut out, &plan, labels, proved, &score, style, total, sink)?;
+    write_pieces(&mut out, &plan, shown, &score, look, total, sink)?;
     Ok(())
 }

@@ -98,7 +98,7 @@ main > details:not([class]) > summary { padding: .7rem 0; }
 .lecture { position: relative; padding: .15rem .35rem .2rem .6rem; margin-bottom: 2px; background: var(--tile); border: 1px solid transparent; font-size: .78rem; line-height: 1.3; }
 .lecture::before { content: ""; position: absolute; inset: 0 auto 0 0; border-left: .25rem solid var(--hue, transparent); }
 .lecture:last-child { margin-bottom: 0; }
-.lecture a { color: var(--soft); }
+.lecture a, .lecture bdi { color: var(--soft); }
 .lecture .course { display: block; color: var(--ink); font-weight: 650; font-size: .87rem; }
 .lecture mark, .lecture strong { display: block; width: fit-content; padding: 0 .25em; margin-top: 2px; font-size: .6875rem; font-weight: 500; overflow-wrap: break-word; }
 .lecture:has(mark) { background: var(--costfill); border: 1px dashed var(--costline); }

@@ -1,5 +1,5 @@
 -- The days of a page: a table for each, with a row for each room and a column for each period.
-use Rattle.std.specs.Prelude.{ℕ, List, [], ◌∷◌, ◌++◌, flat_map, codes}
+use Rattle.std.specs.Prelude.{ℕ, Bool, List, [], ◌∷◌, ◌++◌, flat_map, codes}
 use Rattle.tt_list_laws.specs.Words.{range_below}
 use Rattle.tt_text.specs.Pieces.{Text, Number}
 use Rattle.tt_instance.specs.Problem.{Problem}
@@ -9,24 +9,23 @@ use Rattle.tt_page_text.specs.Markup.{markup}
 use Rattle.tt_page_text.specs.Labelled.{Labelled}
 use Rattle.tt_page_text.specs.Labels.{day_text, period_text}
 use Rattle.tt_page_plan.specs.Orders.{numbers_of}
-use Rattle.tt_page_plan.specs.Links.{week_link}
 use Rattle.tt_table.specs.declared.kind.Kind.TheVariants.{Room}
-use Rattle.tt_page_weeks.specs.Lectures.{lecture_text}
+use Rattle.tt_page_weeks.specs.Lectures.{lecture_text, week_text}
 use Rattle.tt_page_weeks.specs.Grids.{entries_at, paper_name}
 
 -- ---- a day
 
--- The lectures in a room in a period of a day, as in the room's week.
-unfoldable pub room_cell : Problem → List Cell → Labelled → ℕ → ℕ → ℕ → List ℕ
-room_cell p t labels d r s = codes "<td>\n" ++ flat_map (lecture_text p t labels Room r) (entries_at p t Room r d s) ++ codes "</td>\n"
+-- The lectures in a room in a period of a day, as in the room's week, with links or without.
+unfoldable pub room_cell : Problem → List Cell → Labelled → Bool → ℕ → ℕ → ℕ → List ℕ
+room_cell p t labels linked d r s = codes "<td>\n" ++ flat_map (lecture_text p t labels linked Room r) (entries_at p t Room r d s) ++ codes "</td>\n"
 
--- The beginning of a room's row: a link to the room's week.
-unfoldable pub room_row_head : Problem → ℕ → List ℕ
-room_row_head p r = codes "<tr>\n<th scope=\"row\">" ++ week_link p Room r ++ codes "</th>\n"
+-- The beginning of a room's row: the room, as a link to its week if there are links.
+unfoldable pub room_row_head : Problem → Bool → ℕ → List ℕ
+room_row_head p linked r = codes "<tr>\n<th scope=\"row\">" ++ week_text p linked Room r ++ codes "</th>\n"
 
 -- The row of a room in the table of a day: its cell for each period.
-unfoldable pub room_row : Problem → List Cell → Labelled → ℕ → ℕ → List ℕ
-room_row p t labels d r = room_row_head p r ++ flat_map (room_cell p t labels d r) (range_below p.periods) ++ codes "</tr>\n"
+unfoldable pub room_row : Problem → List Cell → Labelled → Bool → ℕ → ℕ → List ℕ
+room_row p t labels linked d r = room_row_head p linked r ++ flat_map (room_cell p t labels linked d r) (range_below p.periods) ++ codes "</tr>\n"
 
 -- The beginning of a day's grid, up to the name of the day.
 unfoldable pub day_grid_head : ℕ → List ℕ
@@ -47,10 +46,10 @@ unfoldable pub period_head : Labelled → ℕ → List ℕ
 period_head labels s = codes "<th scope=\"col\">" ++ period_text labels s ++ codes "</th>\n"
 
 -- The table of a day: a row for each room, in the order of their names.
-unfoldable pub day_grid : Problem → List Cell → Labelled → ℕ → List ℕ
-day_grid p t labels d =
+unfoldable pub day_grid : Problem → List Cell → Labelled → Bool → ℕ → List ℕ
+day_grid p t labels linked d =
     day_title p labels d ++ flat_map (period_head labels) (range_below p.periods)
-    ++ codes "</tr>\n</thead>\n<tbody>\n" ++ flat_map (room_row p t labels d) (numbers_of p Room) ++ codes "</tbody>\n</table>\n</div>\n"
+    ++ codes "</tr>\n</thead>\n<tbody>\n" ++ flat_map (room_row p t labels linked d) (numbers_of p Room) ++ codes "</tbody>\n</table>\n</div>\n"
 
 -- ---- the section
 
@@ -68,7 +67,7 @@ days_head n = markup (
     Text (codes "<details open id=\"daily\">\n<summary><h2>Days <small>") ∷ Number n ∷ Text (codes "</small></h2></summary>\n<ul class=\"index\">\n") ∷ [])
 
 -- The section of days: its index, and the grid of each day.
-unfoldable pub days_text : Problem → List Cell → Labelled → List ℕ
-days_text p t labels =
+unfoldable pub days_text : Problem → List Cell → Labelled → Bool → List ℕ
+days_text p t labels linked =
     days_head p.days ++ flat_map (day_index_item labels) (all_days p) ++ codes "</ul>\n<div class=\"grids\">\n"
-    ++ flat_map (day_grid p t labels) (all_days p) ++ codes "</div>\n</details>\n"
+    ++ flat_map (day_grid p t labels linked) (all_days p) ++ codes "</div>\n</details>\n"

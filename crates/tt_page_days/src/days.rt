@@ -6,9 +6,9 @@ ghost use Rattle.tt_page_text.specs.Puts.{put_text};
 ghost use Rattle.tt_page_days.specs.Days.{room_cell, room_row_head, room_row, day_grid_head, day_table_head, day_title, period_head, day_grid, day_link_head, day_index_item, days_head, days_text};
 
 use tt_instance::Instance;
-use tt_page_plan::{Plan, put_week_link};
+use tt_page_plan::Plan;
 use tt_page_text::{Labels, PageText, Part, put, put_day, put_period, put_token};
-use tt_page_weeks::{put_lectures, put_paper_name};
+use tt_page_weeks::{View, put_lectures, put_paper_name, put_week};
 use tt_table::Kind;
 
 /// Appends the lectures in a room in a period of a day.
@@ -16,62 +16,62 @@ use tt_table::Kind;
 fn put_room_cell(
     out: &mut PageText,
     plan: &Plan<'_, '_>,
-    labels: &Labels,
+    view: &View<'_>,
     day: u32,
     room: u32,
     period: u32,
 )
     requires day { day < plan.now.problem.days }
     requires period { period < plan.now.problem.periods }
-    ensures { out.new ≡ put_text out.old (room_cell plan.now.problem plan.now.table labels.now day room period) }
+    ensures { out.new ≡ put_text out.old (room_cell plan.now.problem plan.now.table view.now.labels.now view.now.is_linked day room period) }
 {
     put_token(out, b"<td>\n");
     let entries = plan.in_period(day, period);
-    put_lectures(out, plan, labels, Kind::Room, room, entries);
+    put_lectures(out, plan, view, Kind::Room, room, entries);
     put_token(out, b"</td>\n");
 }
 
 #[tactic(auto, using(tt_page_text::proofs::Growing::puts))]
-fn put_room_cells(out: &mut PageText, plan: &Plan<'_, '_>, labels: &Labels, day: u32, room: u32)
+fn put_room_cells(out: &mut PageText, plan: &Plan<'_, '_>, view: &View<'_>, day: u32, room: u32)
     requires day { day < plan.now.problem.days }
-    ensures { out.new ≡ put_text out.old (flat_map (room_cell plan.now.problem plan.now.table labels.now day room) (range_below plan.now.problem.periods)) }
+    ensures { out.new ≡ put_text out.old (flat_map (room_cell plan.now.problem plan.now.table view.now.labels.now view.now.is_linked day room) (range_below plan.now.problem.periods)) }
 {
     for period in 0..plan.instance().periods() {
-        put_room_cell(out, plan, labels, day, room, period);
+        put_room_cell(out, plan, view, day, room, period);
     }
 }
 
 #[tactic(auto, using(tt_page_text::proofs::Growing::puts), unfolding(crate::specs::Days::room_row_head))]
-fn put_room_row_head(out: &mut PageText, instance: &Instance<'_>, room: u32)
+fn put_room_row_head(out: &mut PageText, instance: &Instance<'_>, is_linked: bool, room: u32)
     requires { room < length instance.now.rooms }
-    ensures { out.new ≡ put_text out.old (room_row_head instance.now room) }
+    ensures { out.new ≡ put_text out.old (room_row_head instance.now is_linked room) }
 {
     put_token(out, b"<tr>\n<th scope=\"row\">");
-    put_week_link(out, instance, Kind::Room, room);
+    put_week(out, instance, is_linked, Kind::Room, room);
     put_token(out, b"</th>\n");
 }
 
 /// Appends the row of a room.
 #[tactic(auto, using(tt_page_text::proofs::Growing::puts), unfolding(crate::specs::Days::room_row))]
-fn put_room_row(out: &mut PageText, plan: &Plan<'_, '_>, labels: &Labels, day: u32, room: u32)
+fn put_room_row(out: &mut PageText, plan: &Plan<'_, '_>, view: &View<'_>, day: u32, room: u32)
     requires day { day < plan.now.problem.days }
     requires room { room < length plan.now.problem.rooms }
-    ensures { out.new ≡ put_text out.old (room_row plan.now.problem plan.now.table labels.now day room) }
+    ensures { out.new ≡ put_text out.old (room_row plan.now.problem plan.now.table view.now.labels.now view.now.is_linked day room) }
 {
-    put_room_row_head(out, plan.instance(), room);
-    put_room_cells(out, plan, labels, day, room);
+    put_room_row_head(out, plan.instance(), view.is_linked, room);
+    put_room_cells(out, plan, view, day, room);
     put_token(out, b"</tr>\n");
 }
 
 /// Appends the rows of some rooms.
 #[tactic(auto, using(tt_page_text::proofs::Growing::puts))]
-fn put_room_rows(out: &mut PageText, plan: &Plan<'_, '_>, labels: &Labels, day: u32, rooms: &[u32])
+fn put_room_rows(out: &mut PageText, plan: &Plan<'_, '_>, view: &View<'_>, day: u32, rooms: &[u32])
     requires day { day < plan.now.problem.days }
     requires rooms { All (λ r. r < length plan.now.problem.rooms) rooms.now }
-    ensures { out.new ≡ put_text out.old (flat_map (room_row plan.now.problem plan.now.table labels.now day) rooms.now) }
+    ensures { out.new ≡ put_text out.old (flat_map (room_row plan.now.problem plan.now.table view.now.labels.now view.now.is_linked day) rooms.now) }
 {
     for room in rooms {
-        put_room_row(out, plan, labels, day, *room);
+        put_room_row(out, plan, view, day, *room);
     }
 }
 
@@ -137,24 +137,24 @@ fn put_period_heads(out: &mut PageText, instance: &Instance<'_>, labels: &Labels
 
 /// Appends the table of a day.
 #[tactic(auto, using(tt_page_text::proofs::Growing::puts), unfolding(crate::specs::Days::day_grid))]
-fn put_day_grid(out: &mut PageText, plan: &Plan<'_, '_>, labels: &Labels, day: u32)
+fn put_day_grid(out: &mut PageText, plan: &Plan<'_, '_>, view: &View<'_>, day: u32)
     requires { day < plan.now.problem.days }
-    ensures { out.new ≡ put_text out.old (day_grid plan.now.problem plan.now.table labels.now day) }
+    ensures { out.new ≡ put_text out.old (day_grid plan.now.problem plan.now.table view.now.labels.now view.now.is_linked day) }
 {
     let rooms = plan.in_order(Kind::Room);
-    put_day_title(out, plan.instance(), labels, day);
-    put_period_heads(out, plan.instance(), labels);
+    put_day_title(out, plan.instance(), view.labels, day);
+    put_period_heads(out, plan.instance(), view.labels);
     put_token(out, b"</tr>\n</thead>\n<tbody>\n");
-    put_room_rows(out, plan, labels, day, rooms);
+    put_room_rows(out, plan, view, day, rooms);
     put_token(out, b"</tbody>\n</table>\n</div>\n");
 }
 
 #[tactic(auto, using(tt_page_text::proofs::Growing::puts))]
-fn put_day_grids(out: &mut PageText, plan: &Plan<'_, '_>, labels: &Labels)
-    ensures { out.new ≡ put_text out.old (flat_map (day_grid plan.now.problem plan.now.table labels.now) (range_below plan.now.problem.days)) }
+fn put_day_grids(out: &mut PageText, plan: &Plan<'_, '_>, view: &View<'_>)
+    ensures { out.new ≡ put_text out.old (flat_map (day_grid plan.now.problem plan.now.table view.now.labels.now view.now.is_linked) (range_below plan.now.problem.days)) }
 {
     for day in 0..plan.instance().days() {
-        put_day_grid(out, plan, labels, day);
+        put_day_grid(out, plan, view, day);
     }
 }
 
@@ -207,12 +207,12 @@ fn put_days_head(out: &mut PageText, days: u32)
 
 /// Appends the section of all days.
 #[tactic(auto, using(tt_page_text::proofs::Growing::puts), unfolding(crate::specs::Days::days_text))]
-pub fn put_days(out: &mut PageText, plan: &Plan<'_, '_>, labels: &Labels)
-    ensures { out.new ≡ put_text out.old (days_text plan.now.problem plan.now.table labels.now) }
+pub fn put_days(out: &mut PageText, plan: &Plan<'_, '_>, view: &View<'_>)
+    ensures { out.new ≡ put_text out.old (days_text plan.now.problem plan.now.table view.now.labels.now view.now.is_linked) }
 {
     put_days_head(out, plan.instance().days());
-    put_day_index(out, plan.instance(), labels);
+    put_day_index(out, plan.instance(), view.labels);
     put_token(out, b"</ul>\n<div class=\"grids\">\n");
-    put_day_grids(out, plan, labels);
+    put_day_grids(out, plan, view);
     put_token(out, b"</div>\n</details>\n");
 }

@@ -1,5 +1,5 @@
 -- The grids of a page: one for each room, teacher and curriculum, with a column for each day and a row for each period of a day.
-use Rattle.std.specs.Prelude.{ℕ, List, [], ◌∷◌, ◌++◌, filter, flat_map, codes, Option, Some, None, if◌then◌else◌}
+use Rattle.std.specs.Prelude.{ℕ, Bool, List, [], ◌∷◌, ◌++◌, filter, flat_map, codes, Option, Some, None, if◌then◌else◌}
 use Rattle.tt_list_laws.specs.Words.{range_below}
 use Rattle.tt_text.specs.Pieces.{Text, Number}
 use Rattle.tt_instance.specs.Problem.{Problem}
@@ -17,7 +17,7 @@ use Rattle.tt_page_plan.specs.Orders.{numbers_of}
 use Rattle.tt_page_plan.specs.Links.{week_link}
 use Rattle.tt_page_weeks.specs.Lectures.{hue_class, lecture_text}
 use Rattle.tt_table.specs.declared.kind.Kind.{Kind}
-use Rattle.tt_table.specs.declared.kind.Kind.TheVariants.{Room, Teacher, Curriculum}
+use Rattle.tt_table.specs.declared.kind.Kind.TheVariants.{Room, Curriculum}
 
 -- ---- cells
 
@@ -41,11 +41,11 @@ entries_at p t kind n d s = filter (belongs_to p kind n) (filter (is_at (slot d 
 unfoldable pub cell_head : Kind → ℕ → ℕ → ℕ → List ℕ
 cell_head kind n d s = markup (Text (codes "<td id=\"") ∷ Text (word_of kind) ∷ Number n ∷ Text (codes "-") ∷ Number d ∷ Text (codes "-") ∷ Number s ∷ Text (codes "\">\n") ∷ [])
 
--- A cell of a week: those of the given courses to which its period is unavailable, and its lectures.
-unfoldable pub cell_text : Problem → List Cell → Labelled → Kind → ℕ → List ℕ → ℕ → ℕ → List ℕ
-cell_text p t labels kind n own s d =
+-- A cell of a week: those of the given courses to which its period is unavailable, and its lectures, with links or without.
+unfoldable pub cell_text : Problem → List Cell → Labelled → Bool → Kind → ℕ → List ℕ → ℕ → ℕ → List ℕ
+cell_text p t labels linked kind n own s d =
     cell_head kind n d s ++ flat_map (barred_text p labels d s) own
-    ++ flat_map (lecture_text p t labels kind n) (entries_at p t kind n d s) ++ codes "</td>\n"
+    ++ flat_map (lecture_text p t labels linked kind n) (entries_at p t kind n d s) ++ codes "</td>\n"
 
 -- ---- a grid
 
@@ -54,9 +54,9 @@ unfoldable pub row_head : Labelled → ℕ → List ℕ
 row_head labels s = codes "<tr>\n<th scope=\"row\">" ++ period_text labels s ++ codes "</th>\n"
 
 -- The row of a period in a week: a cell for each day.
-unfoldable pub row_text : Problem → List Cell → Labelled → Kind → ℕ → List ℕ → ℕ → List ℕ
-row_text p t labels kind n own s =
-    row_head labels s ++ flat_map (cell_text p t labels kind n own s) (all_days p) ++ codes "</tr>\n"
+unfoldable pub row_text : Problem → List Cell → Labelled → Bool → Kind → ℕ → List ℕ → ℕ → List ℕ
+row_text p t labels linked kind n own s =
+    row_head labels s ++ flat_map (cell_text p t labels linked kind n own s) (all_days p) ++ codes "</tr>\n"
 
 -- The seats of a room, in the heading of its week.
 unfoldable pub seats_text : Problem → Kind → ℕ → List ℕ
@@ -86,11 +86,11 @@ grid_title p kind n = grid_head p kind n ++ seats_text p kind n ++ paper_name p 
 unfoldable pub day_head : Labelled → ℕ → List ℕ
 day_head labels d = codes "<th scope=\"col\">" ++ day_text labels d ++ codes "</th>\n"
 
--- The grid of a week: a column for each day, and a row for each period of a day.
-unfoldable pub grid_text : Problem → List Cell → Labelled → Kind → ℕ → List ℕ
-grid_text p t labels kind n =
+-- The grid of a week, with links or without: a column for each day, and a row for each period of a day.
+unfoldable pub grid_text : Problem → List Cell → Labelled → Bool → Kind → ℕ → List ℕ
+grid_text p t labels linked kind n =
     grid_title p kind n ++ flat_map (day_head labels) (all_days p)
-    ++ codes "</tr>\n</thead>\n<tbody>\n" ++ flat_map (row_text p t labels kind n (own_courses p kind n)) (range_below p.periods)
+    ++ codes "</tr>\n</thead>\n<tbody>\n" ++ flat_map (row_text p t labels linked kind n (own_courses p kind n)) (range_below p.periods)
     ++ codes "</tbody>\n</table>\n</div>\n"
 
 -- ---- a section
@@ -111,8 +111,8 @@ section_head p kind = markup (
     ∷ Text (codes " <small>") ∷ Number (count_of p kind) ∷ Text (codes "</small></h2></summary>\n<ul class=\"index\">\n") ∷ [])
 
 -- The section of all rooms, teachers or curricula, in the order of their names.
-unfoldable pub section_text : Problem → List Cell → Labelled → Kind → List ℕ
-section_text p t labels kind =
+unfoldable pub section_text : Problem → List Cell → Labelled → Bool → Kind → List ℕ
+section_text p t labels linked kind =
     section_head p kind ++ flat_map (index_item p kind) (numbers_of p kind)
-    ++ codes "</ul>\n<div class=\"grids\">\n" ++ flat_map (grid_text p t labels kind) (numbers_of p kind)
+    ++ codes "</ul>\n<div class=\"grids\">\n" ++ flat_map (grid_text p t labels linked kind) (numbers_of p kind)
     ++ codes "</div>\n</details>\n"

@@ -13,14 +13,23 @@ use Rattle.tt_page_plan.specs.Kinds.{course_name, teacher_of, first_curriculum}
 use Rattle.tt_page_plan.specs.Links.{week_link}
 use Rattle.tt_page_weeks.specs.Marks.{in_conflict, room_taken, repeated, in_other_room}
 use Rattle.tt_page_weeks.specs.declared.hues.TheConstants.{HUES}
+use Rattle.tt_table.specs.Kinds.{name_of}
 use Rattle.tt_table.specs.declared.kind.Kind.{Kind}
 use Rattle.tt_table.specs.declared.kind.Kind.TheVariants.{Room, Teacher, Curriculum}
 
+-- The name of a room, a teacher or a curriculum where there are no links.
+unfoldable pub plain_week : Problem → Kind → ℕ → List ℕ
+plain_week p kind n = markup (Text (codes "<bdi>") ∷ Text (shown (name_of p kind n)) ∷ Text (codes "</bdi>") ∷ [])
+
+-- The name of a room, a teacher or a curriculum: the link to its week, if there are links.
+abbrev pub week_text : Problem → Bool → Kind → ℕ → List ℕ
+week_text p linked kind n = if linked then week_link p kind n else plain_week p kind n
+
 -- The part of a lecture that its week doesn't determine: a room's week shows teachers, a teacher's shows rooms, a curriculum's both.
-unfoldable pub further_text : Problem → Kind → Cell → List ℕ
-further_text p Room e = week_link p Teacher (teacher_of p e.course)
-further_text p Teacher e = week_link p Room e.room
-further_text p Curriculum e = week_link p Room e.room ++ codes " " ++ week_link p Teacher (teacher_of p e.course)
+unfoldable pub further_text : Problem → Bool → Kind → Cell → List ℕ
+further_text p linked Room e = week_text p linked Teacher (teacher_of p e.course)
+further_text p linked Teacher e = week_text p linked Room e.room
+further_text p linked Curriculum e = week_text p linked Room e.room ++ codes " " ++ week_text p linked Teacher (teacher_of p e.course)
 
 -- A mark, if it applies.
 abbrev pub mark : Bool → List ℕ → List ℕ
@@ -55,12 +64,20 @@ lecture_head p c = codes "<div class=\"lecture" ++ hue_class (first_curriculum p
 unfoldable pub lecture_when : Labelled → Cell → List ℕ
 lecture_when labels e = codes "\"><span class=\"when\">" ++ when_text labels e.day e.period ++ codes "</span> "
 
+-- The course of a lecture where there are no links.
+unfoldable pub plain_course : Problem → ℕ → List ℕ
+plain_course p c = markup (Text (codes "<bdi class=\"course\">") ∷ Text (shown (course_name p c)) ∷ Text (codes "</bdi> ") ∷ [])
+
 -- The course of a lecture, as a link to its row.
-unfoldable pub lecture_course : Problem → ℕ → List ℕ
-lecture_course p c = markup (
+unfoldable pub linked_course : Problem → ℕ → List ℕ
+linked_course p c = markup (
     Text (codes "<a class=\"course\" href=\"#course") ∷ Number c ∷ Text (codes "\">") ∷ Text (shown (course_name p c)) ∷ Text (codes "</a> ") ∷ [])
 
--- A lecture in a week: its colour, its day and period, its course, its room or teacher or both, and its marks.
-unfoldable pub lecture_text : Problem → List Cell → Labelled → Kind → ℕ → Cell → List ℕ
-lecture_text p t labels kind n e =
-    lecture_head p e.course ++ lecture_when labels e ++ lecture_course p e.course ++ further_text p kind e ++ marks_text p t kind n e ++ codes "</div>\n"
+-- The course of a lecture: the link to its row, if there are links.
+abbrev pub lecture_course : Problem → Bool → ℕ → List ℕ
+lecture_course p linked c = if linked then linked_course p c else plain_course p c
+
+-- A lecture in a week, with links or without: its colour, its day and period, its course, its room or teacher or both, and its marks.
+unfoldable pub lecture_text : Problem → List Cell → Labelled → Bool → Kind → ℕ → Cell → List ℕ
+lecture_text p t labels linked kind n e =
+    lecture_head p e.course ++ lecture_when labels e ++ lecture_course p linked e.course ++ further_text p linked kind e ++ marks_text p t kind n e ++ codes "</div>\n"

@@ -11,6 +11,7 @@ ghost use Rattle.tt_page_weeks.specs.Grids.{barred_when, barred_course, barred_t
 
 use crate::hues::put_hue;
 use crate::lectures::put_lecture;
+use crate::view::View;
 use tt_instance::Instance;
 use tt_page_plan::{
     Plan, caption_of, course_name, is_in_week, put_name, put_week_link, section_of, title_of,
@@ -83,17 +84,17 @@ fn put_all_barred(
 pub fn put_lectures(
     out: &mut PageText,
     plan: &Plan<'_, '_>,
-    labels: &Labels,
+    view: &View<'_>,
     kind: Kind,
     number: u32,
     entries: Group<'_>,
 )
     requires { All (InRange plan.now.problem) entries }
-    ensures { out.new ≡ put_text out.old (flat_map (lecture_text plan.now.problem plan.now.table labels.now kind number) (filter (belongs_to plan.now.problem kind number) entries.entry)) }
+    ensures { out.new ≡ put_text out.old (flat_map (lecture_text plan.now.problem plan.now.table view.now.labels.now view.now.is_linked kind number) (filter (belongs_to plan.now.problem kind number) entries.entry)) }
 {
     for entry in entries {
         if is_in_week(plan.instance(), kind, number, entry) {
-            put_lecture(out, plan, labels, kind, number, entry);
+            put_lecture(out, plan, view, kind, number, entry);
         }
     }
 }
@@ -123,7 +124,7 @@ fn put_cell_head(out: &mut PageText, kind: Kind, number: u32, day: u32, period: 
 fn put_cell(
     out: &mut PageText,
     plan: &Plan<'_, '_>,
-    labels: &Labels,
+    view: &View<'_>,
     kind: Kind,
     number: u32,
     own: &[u32],
@@ -133,12 +134,12 @@ fn put_cell(
     requires own { All (λ c. c < length plan.now.problem.courses) own.now }
     requires period { period < plan.now.problem.periods }
     requires day { day < plan.now.problem.days }
-    ensures { out.new ≡ put_text out.old (cell_text plan.now.problem plan.now.table labels.now kind number own.now period day) }
+    ensures { out.new ≡ put_text out.old (cell_text plan.now.problem plan.now.table view.now.labels.now view.now.is_linked kind number own.now period day) }
 {
     put_cell_head(out, kind, number, day, period);
-    put_all_barred(out, plan.instance(), labels, own, day, period);
+    put_all_barred(out, plan.instance(), view.labels, own, day, period);
     let entries = plan.in_period(day, period);
-    put_lectures(out, plan, labels, kind, number, entries);
+    put_lectures(out, plan, view, kind, number, entries);
     put_token(out, b"</td>\n");
 }
 
@@ -147,7 +148,7 @@ fn put_cell(
 fn put_cells(
     out: &mut PageText,
     plan: &Plan<'_, '_>,
-    labels: &Labels,
+    view: &View<'_>,
     kind: Kind,
     number: u32,
     own: &[u32],
@@ -155,10 +156,10 @@ fn put_cells(
 )
     requires own { All (λ c. c < length plan.now.problem.courses) own.now }
     requires period { period < plan.now.problem.periods }
-    ensures { out.new ≡ put_text out.old (flat_map (cell_text plan.now.problem plan.now.table labels.now kind number own.now period) (range_below plan.now.problem.days)) }
+    ensures { out.new ≡ put_text out.old (flat_map (cell_text plan.now.problem plan.now.table view.now.labels.now view.now.is_linked kind number own.now period) (range_below plan.now.problem.days)) }
 {
     for day in 0..plan.instance().days() {
-        put_cell(out, plan, labels, kind, number, own, period, day);
+        put_cell(out, plan, view, kind, number, own, period, day);
     }
 }
 
@@ -177,7 +178,7 @@ fn put_row_head(out: &mut PageText, labels: &Labels, period: u32)
 fn put_row(
     out: &mut PageText,
     plan: &Plan<'_, '_>,
-    labels: &Labels,
+    view: &View<'_>,
     kind: Kind,
     number: u32,
     own: &[u32],
@@ -185,10 +186,10 @@ fn put_row(
 )
     requires own { All (λ c. c < length plan.now.problem.courses) own.now }
     requires period { period < plan.now.problem.periods }
-    ensures { out.new ≡ put_text out.old (row_text plan.now.problem plan.now.table labels.now kind number own.now period) }
+    ensures { out.new ≡ put_text out.old (row_text plan.now.problem plan.now.table view.now.labels.now view.now.is_linked kind number own.now period) }
 {
-    put_row_head(out, labels, period);
-    put_cells(out, plan, labels, kind, number, own, period);
+    put_row_head(out, view.labels, period);
+    put_cells(out, plan, view, kind, number, own, period);
     put_token(out, b"</tr>\n");
 }
 
@@ -197,16 +198,16 @@ fn put_row(
 fn put_rows(
     out: &mut PageText,
     plan: &Plan<'_, '_>,
-    labels: &Labels,
+    view: &View<'_>,
     kind: Kind,
     number: u32,
     own: &[u32],
 )
     requires { All (λ c. c < length plan.now.problem.courses) own.now }
-    ensures { out.new ≡ put_text out.old (flat_map (row_text plan.now.problem plan.now.table labels.now kind number own.now) (range_below plan.now.problem.periods)) }
+    ensures { out.new ≡ put_text out.old (flat_map (row_text plan.now.problem plan.now.table view.now.labels.now view.now.is_linked kind number own.now) (range_below plan.now.problem.periods)) }
 {
     for period in 0..plan.instance().periods() {
-        put_row(out, plan, labels, kind, number, own, period);
+        put_row(out, plan, view, kind, number, own, period);
     }
 }
 
@@ -312,30 +313,30 @@ fn put_day_head(out: &mut PageText, labels: &Labels, day: u32)
 
 /// Appends the grid of a room, teacher or curriculum.
 #[tactic(auto, using(tt_page_text::proofs::Growing::puts), unfolding(crate::specs::Grids::grid_text))]
-fn put_grid(out: &mut PageText, plan: &Plan<'_, '_>, labels: &Labels, kind: Kind, number: u32)
+pub fn put_grid(out: &mut PageText, plan: &Plan<'_, '_>, view: &View<'_>, kind: Kind, number: u32)
     requires { number < count_of plan.now.problem kind }
-    ensures { out.new ≡ put_text out.old (grid_text plan.now.problem plan.now.table labels.now kind number) }
+    ensures { out.new ≡ put_text out.old (grid_text plan.now.problem plan.now.table view.now.labels.now view.now.is_linked kind number) }
 {
     let instance = plan.instance();
     let own = plan.own_courses(kind, number);
     put_grid_title(out, instance, kind, number);
-    put_day_heads(out, instance, labels);
+    put_day_heads(out, instance, view.labels);
     put_token(out, b"</tr>\n</thead>\n<tbody>\n");
-    put_rows(out, plan, labels, kind, number, own);
+    put_rows(out, plan, view, kind, number, own);
     put_token(out, b"</tbody>\n</table>\n</div>\n");
 }
 
 /// Appends the grids of a section, until the text is full.
 #[tactic(auto, using(tt_page_text::proofs::Growing::puts))]
-fn put_grids(out: &mut PageText, plan: &Plan<'_, '_>, labels: &Labels, kind: Kind, numbers: &[u32])
+fn put_grids(out: &mut PageText, plan: &Plan<'_, '_>, view: &View<'_>, kind: Kind, numbers: &[u32])
     requires { All (λ n. n < count_of plan.now.problem kind) numbers.now }
-    ensures { out.new ≡ put_text out.old (flat_map (grid_text plan.now.problem plan.now.table labels.now kind) numbers.now) }
+    ensures { out.new ≡ put_text out.old (flat_map (grid_text plan.now.problem plan.now.table view.now.labels.now view.now.is_linked kind) numbers.now) }
 {
     for number in numbers {
         if out.is_full() {
             return;
         }
-        put_grid(out, plan, labels, kind, *number);
+        put_grid(out, plan, view, kind, *number);
     }
 }
 
@@ -393,13 +394,13 @@ fn put_section_head(out: &mut PageText, instance: &Instance<'_>, kind: Kind)
 
 /// Appends the section of all rooms, teachers or curricula, in the order of their names.
 #[tactic(auto, using(tt_page_text::proofs::Growing::puts), unfolding(crate::specs::Grids::section_text))]
-pub fn put_section(out: &mut PageText, plan: &Plan<'_, '_>, labels: &Labels, kind: Kind)
-    ensures { out.new ≡ put_text out.old (section_text plan.now.problem plan.now.table labels.now kind) }
+pub fn put_section(out: &mut PageText, plan: &Plan<'_, '_>, view: &View<'_>, kind: Kind)
+    ensures { out.new ≡ put_text out.old (section_text plan.now.problem plan.now.table view.now.labels.now view.now.is_linked kind) }
 {
     let numbers = plan.in_order(kind);
     put_section_head(out, plan.instance(), kind);
     put_index(out, plan.instance(), kind, numbers);
     put_token(out, b"</ul>\n<div class=\"grids\">\n");
-    put_grids(out, plan, labels, kind, numbers);
+    put_grids(out, plan, view, kind, numbers);
     put_token(out, b"</div>\n</details>\n");
 }

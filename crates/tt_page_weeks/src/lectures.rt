@@ -3,31 +3,77 @@
 ghost use Rattle.std.specs.Prelude.{◌≡◌, ◌<◌, length};
 ghost use Rattle.tt_instance.specs.Cells.{InRange};
 ghost use Rattle.tt_page_text.specs.Puts.{put_text};
-ghost use Rattle.tt_page_weeks.specs.Lectures.{further_text, mark, isolated_mark, marks_text, lecture_head, lecture_when, lecture_course, lecture_text};
+ghost use Rattle.tt_table.specs.Kinds.{count_of};
+ghost use Rattle.tt_table.specs.declared.kind.Kind.TheVariants as kinds;
+ghost use Rattle.tt_page_plan.specs.Kinds.{teacher_of};
+ghost use Rattle.tt_page_weeks.specs.Lectures.{plain_week, week_text, further_text, mark, isolated_mark, marks_text, lecture_head, lecture_when, plain_course, linked_course, lecture_course, lecture_text};
 
 use crate::hues::put_hue;
 use crate::marks::{is_in_conflict, is_in_other_room, is_repeated, is_room_taken};
+use crate::view::View;
 use tt_instance::Instance;
-use tt_page_plan::{
-    Plan, course_name, is_isolated, is_unavailable, put_teacher_link, put_week_link,
-};
+use tt_page_plan::{Plan, course_name, is_isolated, is_unavailable, put_week_link, teacher_of};
 use tt_page_text::{Labels, PageText, Part, put, put_counted, put_token, put_when};
 use tt_rules::without_seat;
 use tt_table::{Entry, Kind};
 
+#[tactic(auto, unfolding(crate::specs::Lectures::plain_week))]
+fn put_plain_week(out: &mut PageText, instance: &Instance<'_>, kind: Kind, number: u32)
+    requires { number < count_of instance.now kind }
+    ensures { out.new ≡ put_text out.old (plain_week instance.now kind number) }
+{
+    let name = kind.name(instance, number);
+    put(
+        out,
+        &[Part::Text("<bdi>"), Part::Name(name), Part::Text("</bdi>")],
+    );
+}
+
+/// Appends the name of a room, a teacher or a curriculum, as a link to its week if there are links.
+pub fn put_week(
+    out: &mut PageText,
+    instance: &Instance<'_>,
+    is_linked: bool,
+    kind: Kind,
+    number: u32,
+)
+    requires { number < count_of instance.now kind }
+    ensures { out.new ≡ put_text out.old (week_text instance.now is_linked kind number) }
+{
+    if is_linked {
+        put_week_link(out, instance, kind, number);
+    } else {
+        put_plain_week(out, instance, kind, number);
+    }
+}
+
+fn put_teacher(out: &mut PageText, instance: &Instance<'_>, is_linked: bool, course: u32)
+    requires { course < length instance.now.courses }
+    ensures { out.new ≡ put_text out.old (week_text instance.now is_linked kinds.Teacher (teacher_of instance.now course)) }
+{
+    let teacher = teacher_of(instance, course);
+    put_week(out, instance, is_linked, Kind::Teacher, teacher);
+}
+
 /// Appends the information about a lecture that its week doesn't already show.
 #[tactic(auto, using(tt_page_text::proofs::Growing::puts), unfolding(crate::specs::Lectures::further_text))]
-fn put_further(out: &mut PageText, instance: &Instance<'_>, kind: Kind, entry: &Entry)
+fn put_further(
+    out: &mut PageText,
+    instance: &Instance<'_>,
+    is_linked: bool,
+    kind: Kind,
+    entry: &Entry,
+)
     requires { InRange instance.now entry.now }
-    ensures { out.new ≡ put_text out.old (further_text instance.now kind entry.now) }
+    ensures { out.new ≡ put_text out.old (further_text instance.now is_linked kind entry.now) }
 {
     match kind {
-        Kind::Room => put_teacher_link(out, instance, entry.course),
-        Kind::Teacher => put_week_link(out, instance, Kind::Room, entry.room),
+        Kind::Room => put_teacher(out, instance, is_linked, entry.course),
+        Kind::Teacher => put_week(out, instance, is_linked, Kind::Room, entry.room),
         Kind::Curriculum => {
-            put_week_link(out, instance, Kind::Room, entry.room);
+            put_week(out, instance, is_linked, Kind::Room, entry.room);
             put_token(out, b" ");
-            put_teacher_link(out, instance, entry.course);
+            put_teacher(out, instance, is_linked, entry.course);
         }
     }
 }
@@ -114,11 +160,27 @@ fn put_lecture_when(out: &mut PageText, labels: &Labels, entry: &Entry)
     put_token(out, b"</span> ");
 }
 
-/// Appends the link from a lecture to its course.
-#[tactic(auto, unfolding(crate::specs::Lectures::lecture_course))]
-fn put_lecture_course(out: &mut PageText, instance: &Instance<'_>, course: u32)
+#[tactic(auto, unfolding(crate::specs::Lectures::plain_course))]
+fn put_plain_course(out: &mut PageText, instance: &Instance<'_>, course: u32)
     requires { course < length instance.now.courses }
-    ensures { out.new ≡ put_text out.old (lecture_course instance.now course) }
+    ensures { out.new ≡ put_text out.old (plain_course instance.now course) }
+{
+    let name = course_name(instance, course);
+    put(
+        out,
+        &[
+            Part::Text("<bdi class=\"course\">"),
+            Part::Name(name),
+            Part::Text("</bdi> "),
+        ],
+    );
+}
+
+/// Appends the link from a lecture to its course.
+#[tactic(auto, unfolding(crate::specs::Lectures::linked_course))]
+fn put_linked_course(out: &mut PageText, instance: &Instance<'_>, course: u32)
+    requires { course < length instance.now.courses }
+    ensures { out.new ≡ put_text out.old (linked_course instance.now course) }
 {
     let name = course_name(instance, course);
     put(
@@ -133,24 +195,36 @@ fn put_lecture_course(out: &mut PageText, instance: &Instance<'_>, course: u32)
     );
 }
 
+/// Appends the course of a lecture, as a link to its row if there are links.
+fn put_lecture_course(out: &mut PageText, instance: &Instance<'_>, is_linked: bool, course: u32)
+    requires { course < length instance.now.courses }
+    ensures { out.new ≡ put_text out.old (lecture_course instance.now is_linked course) }
+{
+    if is_linked {
+        put_linked_course(out, instance, course);
+    } else {
+        put_plain_course(out, instance, course);
+    }
+}
+
 /// Appends a lecture in a week.
 #[tactic(auto, using(tt_page_text::proofs::Growing::puts), unfolding(crate::specs::Lectures::lecture_text))]
 pub fn put_lecture(
     out: &mut PageText,
     plan: &Plan<'_, '_>,
-    labels: &Labels,
+    view: &View<'_>,
     kind: Kind,
     number: u32,
     entry: &Entry,
 )
     requires { InRange plan.now.problem entry.now }
-    ensures { out.new ≡ put_text out.old (lecture_text plan.now.problem plan.now.table labels.now kind number entry.now) }
+    ensures { out.new ≡ put_text out.old (lecture_text plan.now.problem plan.now.table view.now.labels.now view.now.is_linked kind number entry.now) }
 {
     let instance = plan.instance();
     put_lecture_head(out, plan, entry.course);
-    put_lecture_when(out, labels, entry);
-    put_lecture_course(out, instance, entry.course);
-    put_further(out, instance, kind, entry);
+    put_lecture_when(out, view.labels, entry);
+    put_lecture_course(out, instance, view.is_linked, entry.course);
+    put_further(out, instance, view.is_linked, kind, entry);
     put_marks(out, plan, kind, number, entry);
     put_token(out, b"</div>\n");
 }

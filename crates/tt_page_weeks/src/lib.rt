@@ -6,6 +6,11 @@ mod groups;
 mod hues;
 mod lectures;
 mod marks;
+mod named;
+mod view;
 
 pub use grids::{put_lectures, put_paper_name, put_section};
 pub use hues::HUES;
+pub use lectures::put_week;
+pub use named::{has_week, put_named};
+pub use view::View;

@@ -45,6 +45,69 @@ fn a_best_timetable_with_its_proof(rt: HostRuntime) -> Result<(), Fail> {
     Ok(())
 }
 
+/// Runs a command with the names of Gap's day and periods.
+fn run_named(
+    alloc: Global,
+    command: &[&'static str],
+    memory: &MemoryFiles,
+) -> Result<Outcome, Fail> {
+    let mut words = Vec::from_slice(alloc, command)?;
+    for word in ["--days", "Mon", "--periods", "8:00,9:00,10:00"] {
+        words.push(word)?;
+    }
+    run_on(alloc, &words, memory)
+}
+
+#[test]
+fn a_page_with_names(rt: HostRuntime) -> Result<(), Fail> {
+    let memory = MemoryFiles::new(rt.alloc(), Refusal::Nothing);
+    memory.put("a.ctt", GAP)?;
+    let words = ["best", "a.ctt", "found", "--rounds", "2"];
+    let outcome = run_named(rt.alloc(), &words, &memory)?;
+    assert_eq!(rt; outcome.answer(), (0, "cost 5 bound 5 optimal\n", ""));
+    let words = [
+        "page",
+        "a.ctt",
+        "found/best.sol",
+        "a.html",
+        "--proof",
+        "found/tree.proof",
+    ];
+    let page = run_named(rt.alloc(), &words, &memory)?;
+    assert_eq!(rt; page.status, 0);
+    let best = memory.text("found/page.html")?;
+    assert!(rt;
+        best.as_deref()
+            .is_some_and(|text| text.contains("Mon, 9:00"))
+    );
+    assert_eq!(rt; best, memory.text("a.html")?);
+    Ok(())
+}
+
+#[test]
+fn names_that_do_not_fit(rt: HostRuntime) -> Result<(), Fail> {
+    for (option, names, err) in [
+        (
+            "--days",
+            "Mon,Tue",
+            "refused: names of days: not one for each day\n",
+        ),
+        (
+            "--periods",
+            "8:00,9:00",
+            "refused: names of periods: not one for each period of a day\n",
+        ),
+    ] {
+        let memory = MemoryFiles::new(rt.alloc(), Refusal::Nothing);
+        memory.put("a.ctt", GAP)?;
+        let words = ["best", "a.ctt", "found", option, names];
+        let outcome = run_on(rt.alloc(), &words, &memory)?;
+        assert_eq!(rt; outcome.answer(), (2, "", err));
+        assert_eq!(rt; memory.count(), 1);
+    }
+    Ok(())
+}
+
 #[test]
 fn no_timetable_at_all(rt: HostRuntime) -> Result<(), Fail> {
     let memory = MemoryFiles::new(rt.alloc(), Refusal::Nothing);

@@ -4,8 +4,8 @@
 use std::alloc::{AllocError, Global};
 use std::test::Fail;
 use tt_app::{
-    Answer, BestSearch, ImproveSearch, PageNames, TreeEffort, best, check, improve, page, report,
-    solve, upgrade, validate,
+    Answer, BestSearch, ImproveSearch, PageForm, PageNames, TreeEffort, UNNAMED, best, check,
+    improve, page, report, solve, upgrade, validate,
 };
 use tt_instance::Instance;
 use tt_instance_read::read_instance;
@@ -333,7 +333,14 @@ fn the_command_best(rt: HostRuntime) -> Result<(), Fail> {
         proofs: &proofs,
     };
     println!(rt; "{MARK}")?;
-    let answer = best(rt.alloc(), GAP.as_bytes(), search, "", &mut Unwatched);
+    let answer = best(
+        rt.alloc(),
+        GAP.as_bytes(),
+        search,
+        UNNAMED,
+        "",
+        &mut Unwatched,
+    );
     println!(rt; "{MARK}")?;
     let line = b"cost 5 bound 5 optimal\n".as_slice();
     assert_eq!(rt; answer?.out.as_slice(), line);
@@ -352,7 +359,7 @@ fn the_command_page(rt: HostRuntime) -> Result<(), Fail> {
         rt.alloc(),
         MINI.as_bytes(),
         MINI_SOLUTION.as_bytes(),
-        names,
+        PageForm { names, sheet: None },
         "",
         &mut Writing::new(&mut text),
     );

@@ -16,4 +16,6 @@ mod pages;
 #[cfg(test)]
 mod reports;
 #[cfg(test)]
+mod sheets;
+#[cfg(test)]
 mod writers;

@@ -3,17 +3,17 @@
 use crate::writers::StoppingOnce;
 use std::alloc::Global;
 use std::test::Fail;
-use tt_app::{AppFault, PageNames, page};
+use tt_app::{AppFault, PageForm, UNNAMED, page};
 use tt_page::{MAX_PAGE_BYTES, PageText, put_shown};
 use tt_testing_files::{MemoryFiles, Refusal};
 use tt_testing_runs::{Outcome, run_on};
 use tt_testing_samples::{GAP, GAP_PROOF, MINI, MINI_SOLUTION, edited};
 use tt_text::{Sink, Writing};
 
-/// No names.
-const UNNAMED: PageNames<'static> = PageNames {
-    days: None,
-    periods: None,
+/// The whole page, without names.
+const WHOLE: PageForm<'static> = PageForm {
+    names: UNNAMED,
+    sheet: None,
 };
 
 /// Both courses of Mini in one period, and one of them again in another.
@@ -176,7 +176,7 @@ fn writes_that_stop(rt: HostRuntime) -> Result<(), Fail> {
             rt.alloc(),
             MINI.as_bytes(),
             MINI_SOLUTION.as_bytes(),
-            UNNAMED,
+            WHOLE,
             tt_page::STYLE,
             &mut sink,
         );
@@ -196,7 +196,7 @@ fn styled(alloc: Global, letters: usize) -> Result<(Result<u8, AppFault>, usize)
         alloc,
         MINI.as_bytes(),
         MINI_SOLUTION.as_bytes(),
-        UNNAMED,
+        WHOLE,
         style.as_str(),
         &mut Writing::new(&mut text),
     );

@@ -3,7 +3,7 @@
 use crate::counting::Counting;
 use std::alloc::{AllocError, Global};
 use std::test::Fail;
-use tt_app::{AppFault, BestAnswer, BestSearch, best};
+use tt_app::{AppFault, BestAnswer, BestSearch, UNNAMED, best};
 use tt_testing_samples::{GAP, GAP_PROOF, MINI_SOLUTION};
 
 /// A number of questions that no search in this file reaches.
@@ -32,7 +32,7 @@ fn best_of(
         start,
         proofs: &texts,
     };
-    Ok(best(alloc, GAP.as_bytes(), search, "", watch))
+    Ok(best(alloc, GAP.as_bytes(), search, UNNAMED, "", watch))
 }
 
 #[test]

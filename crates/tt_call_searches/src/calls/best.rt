@@ -1,6 +1,6 @@
 //! The call `best`.
 
-ghost use Rattle.std.specs.Prelude.{◌≡◌, ℕ, List, IfOk, IfErr, MatchResult, ⊤};
+ghost use Rattle.std.specs.Prelude.{◌≡◌, ℕ, List, Ok, IfOk, IfErr, MatchResult, ⊤};
 ghost use Rattle.std.specs.Option.{option_copied};
 ghost use Rattle.tt_instance.specs.Problem.{Problem};
 ghost use Rattle.tt_instance.specs.Spelling.{Spells};
@@ -9,11 +9,13 @@ ghost use Rattle.tt_rules.specs.Score as score;
 ghost use Rattle.tt_rules.specs.Score.{IsFeasible};
 ghost use Rattle.tt_page.specs.Pages.{page_text};
 ghost use Rattle.tt_page.specs.Proofs.{IsProvedOf};
-ghost use Rattle.tt_page_text.specs.Labels.{no_labels};
+ghost use Rattle.tt_page_text.specs.Labelled.{Labelled};
 ghost use Rattle.tt_parts.specs.Found.{AreFound};
 ghost use Rattle.tt_best.specs.Weeks.{IsWeek};
-ghost use Rattle.tt_call_searches.specs.Best.{IsBest, IsNoneFound, CostsAtMost, CostsNoMore, ShowsPage};
-ghost use Rattle.tt_call_searches.specs.Given.{SpellsGiven, IsGivenRefusal};
+ghost use Rattle.tt_call_names.specs.Names.{labels_for};
+ghost use Rattle.tt_call_names.specs.declared.names.PageNames.{PageNames};
+ghost use Rattle.tt_call_searches.specs.Best.{IsBest, IsBestRefusal, IsNoneFound, CostsAtMost, CostsNoMore, ShowsPage};
+ghost use Rattle.tt_call_searches.specs.Given.{SpellsGiven};
 ghost use Rattle.tt_call_answers.specs.Lines.{best_line, none_line};
 ghost use Rattle.tt_call_answers.specs.declared.fault.AppFault.TheVariants as fault;
 
@@ -22,12 +24,13 @@ use crate::calls::solve::put_bound;
 use std::alloc::{AllocError, Global};
 use tt_best::{Rounds, Start, WatchRounds, Week, find_best};
 use tt_call_answers::AppFault;
+use tt_call_names::{PageNames, labels_for};
 use tt_instance::Instance;
 use tt_instance_read::read_instance;
 use tt_leaf::Bound;
-use tt_page::Proved;
+use tt_page::{Look, Proved};
 use tt_page_reason::explain_bound;
-use tt_page_text::{Labels, TextFault};
+use tt_page_text::TextFault;
 use tt_parts::{Parts, copy_texts};
 use tt_rules::score;
 use tt_table::{Entry, Timetable, write_solution};
@@ -88,7 +91,7 @@ impl WatchBest for Unwatched {
 /// Gives the results on the way to a watch as answers.
 struct Answering<'w, W: WatchBest> {
     alloc: Global,
-    style: &'w str,
+    look: &'w Look<'w>,
     watch: &'w mut W,
 }
 
@@ -96,7 +99,7 @@ impl<'w, W: WatchBest> Drop for Answering<'w, W> {
     fn drop(self) {
         let Answering {
             alloc: _,
-            style: _,
+            look: _,
             watch: _,
         } = self;
     }
@@ -135,7 +138,7 @@ impl<'w, W: WatchBest> WatchRounds for Answering<'w, W> {
 
     /// If memory runs out, no answer is given.
     fn keep(&mut self, instance: &Instance<'_>, week: &Week) {
-        if let Ok(answer) = answer_of(self.alloc, instance, week, self.style) {
+        if let Ok(answer) = answer_of(self.alloc, instance, week, self.look) {
             self.watch.keep(&answer);
         }
     }
@@ -174,14 +177,13 @@ fn page_of(
     instance: &Instance<'_>,
     table: &Timetable,
     proved: &Proved,
-    style: &str,
+    look: &Look<'_>,
 ) -> Result<Option<Vec<u8>>, AllocError>
     requires table { IsTimetable instance.now table.now }
     requires proved { IsProvedOf instance.now proved.now }
-    ensures { IfOk result (λ page. ShowsPage page (page_text instance.now table.now no_labels proved.now style.now)) }
+    ensures { IfOk result (λ page. ShowsPage page (page_text instance.now table.now look.now.labels.now proved.now look.now.style.now)) }
 {
-    let labels = Labels::none(alloc);
-    match tt_page::text_of(alloc, instance, table, &labels, proved, style) {
+    match tt_page::text_of(alloc, instance, table, proved, look) {
         Ok(text) => Ok(Some(text)),
         Err(TextFault::TooLarge) => Ok(None),
         Err(TextFault::OutOfMemory) => Err(AllocError),
@@ -195,12 +197,13 @@ fn found_answer(
     table: &Timetable,
     cost: u64,
     parts: &Parts,
-    style: &str,
+    look: &Look<'_>,
 ) -> Result<BestAnswer, AllocError>
     requires feasible { IsFeasible instance.now table.now }
     requires cost { cost ≡ score.cost instance.now table.now }
     requires parts { AreFound instance.now parts.now }
-    ensures { IfOk result (λ a. (i : List ℕ) → Spells i instance.now → CostsAtMost i style.now cost a) }
+    ensures { IfOk result (λ a. (i : List ℕ) (names : PageNames) → Spells i instance.now → labels_for instance.now names ≡ Ok look.now.labels.now →
+        CostsAtMost i names look.now.style.now cost a) }
 {
     let Bound::AtLeast(points) = parts.bound else {
         unreachable!();
@@ -210,7 +213,7 @@ fn found_answer(
         out: found_line(alloc, cost, points)?,
         table: Some(write_solution(alloc, instance, table)?),
         partial: None,
-        page: page_of(alloc, instance, table, &Proved::AtLeast(points), style)?,
+        page: page_of(alloc, instance, table, &Proved::AtLeast(points), look)?,
         proofs: copy_texts(alloc, &parts.proofs)?,
     })
 }
@@ -220,11 +223,12 @@ fn missing_answer(
     alloc: Global,
     instance: &Instance<'_>,
     week: &Week,
-    style: &str,
+    look: &Look<'_>,
 ) -> Result<BestAnswer, AllocError>
     requires week { IsWeek instance.now week.now }
     requires broken { ¬ IsFeasible instance.now week.now.table }
-    ensures { IfOk result (λ a. (i : List ℕ) → Spells i instance.now → IsNoneFound i style.now a) }
+    ensures { IfOk result (λ a. (i : List ℕ) (names : PageNames) → Spells i instance.now → labels_for instance.now names ≡ Ok look.now.labels.now →
+        IsNoneFound i names look.now.style.now a) }
 {
     let proved = explain_bound(alloc, instance, week.parts.bound)?;
     Ok(BestAnswer {
@@ -232,7 +236,7 @@ fn missing_answer(
         out: missing_line(alloc, week.parts.bound)?,
         table: None,
         partial: Some(write_solution(alloc, instance, &week.table)?),
-        page: page_of(alloc, instance, &week.table, &proved, style)?,
+        page: page_of(alloc, instance, &week.table, &proved, look)?,
         proofs: copy_texts(alloc, &week.parts.proofs)?,
     })
 }
@@ -242,12 +246,13 @@ fn answer_of(
     alloc: Global,
     instance: &Instance<'_>,
     week: &Week,
-    style: &str,
+    look: &Look<'_>,
 ) -> Result<BestAnswer, AllocError>
     requires { IsWeek instance.now week.now }
-    ensures found { IfOk result (λ a. (i : List ℕ) → Spells i instance.now → IsBest i style.now a) }
-    ensures costs { IfOk result (λ a. (i : List ℕ) → Spells i instance.now → IsFeasible instance.now week.now.table →
-        CostsAtMost i style.now (score.cost instance.now week.now.table) a) }
+    ensures found { IfOk result (λ a. (i : List ℕ) (names : PageNames) → Spells i instance.now → labels_for instance.now names ≡ Ok look.now.labels.now →
+        IsBest i names look.now.style.now a) }
+    ensures costs { IfOk result (λ a. (i : List ℕ) (names : PageNames) → Spells i instance.now → labels_for instance.now names ≡ Ok look.now.labels.now →
+        IsFeasible instance.now week.now.table → CostsAtMost i names look.now.style.now (score.cost instance.now week.now.table) a) }
 {
     let score = score(instance, &week.table);
     if score.feasible() {
@@ -257,33 +262,34 @@ fn answer_of(
             &week.table,
             score.cost(),
             &week.parts,
-            style,
+            look,
         )
     } else {
-        missing_answer(alloc, instance, week, style)
+        missing_answer(alloc, instance, week, look)
     }
 }
 
 /// Searches for a best timetable and for proofs of a lower bound, in rounds, until they meet or the watch ends the search. It starts from a
-/// solution and from proofs of an earlier search, if there are any. The page that shows the results has a style. Nothing is promised about how
-/// good they are, except that no given solution is better.
+/// solution and from proofs of an earlier search, if there are any. The page that shows the results has names and a style. Nothing is promised
+/// about how good they are, except that no given solution is better.
 pub fn best<W: WatchBest>(
     alloc: Global,
     instance: &[u8],
     search: BestSearch<'_>,
+    names: PageNames<'_>,
     style: &str,
     watch: &mut W,
 ) -> Result<BestAnswer, AppFault>
     // The timetable breaks no hard rule and its cost is the one in the line; the proofs add up to the bound, which holds for every such
     // timetable. The page shows this timetable and this bound.
-    ensures found { IfOk result (IsBest instance.now style.now) }
+    ensures found { IfOk result (IsBest instance.now names.entry style.now) }
     // If a solution is given that breaks no hard rule, there is a timetable that costs no more.
-    ensures no_more { IfOk result (CostsNoMore instance.now (option_copied search.entry.start) style.now) }
+    ensures no_more { IfOk result (CostsNoMore instance.now (option_copied search.entry.start) names.entry style.now) }
     // A refusal reports the first error.
-    ensures fault { IfErr result (IsGivenRefusal instance.now (option_copied search.entry.start)) }
-    // If the files are spelled, there is an answer, unless memory runs out.
-    ensures only { (p : Problem) → Spells instance.now p → SpellsGiven p (option_copied search.entry.start) →
-        MatchResult result (λ _. ⊤) (λ f. f ≡ fault.OutOfMemory) }
+    ensures fault { IfErr result (IsBestRefusal instance.now (option_copied search.entry.start) names.entry) }
+    // If the files are spelled and the names fit, there is an answer, unless memory runs out.
+    ensures only { (p : Problem) (labels : Labelled) → Spells instance.now p → SpellsGiven p (option_copied search.entry.start) →
+        labels_for p names.entry ≡ Ok labels → MatchResult result (λ _. ⊤) (λ f. f ≡ fault.OutOfMemory) }
 {
     let BestSearch {
         rounds,
@@ -293,6 +299,11 @@ pub fn best<W: WatchBest>(
     } = search;
     let instance = read_instance(alloc, instance)?;
     let table = read_given(alloc, &instance, start)?;
+    let labels = labels_for(alloc, &instance, names)?;
+    let look = Look {
+        labels: &labels,
+        style,
+    };
     let rounds = Rounds {
         count: rounds,
         seed,
@@ -300,9 +311,9 @@ pub fn best<W: WatchBest>(
     let start = Start { table, proofs };
     let mut answering = Answering {
         alloc,
-        style,
+        look: &look,
         watch,
     };
     let week = find_best(alloc, &instance, rounds, start, &mut answering)?;
-    Ok(answer_of(alloc, &instance, &week, style)?)
+    Ok(answer_of(alloc, &instance, &week, &look)?)
 }

@@ -1,77 +1,90 @@
 //! The calls `page` and `proved_page`.
 
-ghost use Rattle.std.specs.Prelude.{◌≡◌, ◌+◌, ◌<◌, ◌^◌, ℕ, List, Some, Ok, Err, true, if◌then◌else◌, IfOk, IfErr, MatchResult, slice_get, slice_index_or};
+ghost use Rattle.std.specs.Prelude.{◌≡◌, ◌+◌, ◌<◌, ◌^◌, ℕ, List, Some, Ok, Err, true, if◌then◌else◌, IsTrue, IfOk, IfErr, MatchResult, slice_get, slice_index_or};
 ghost use Rattle.std.specs.Io.KnownBytes.{Appends};
 ghost use Rattle.tt_instance.specs.Problem.{Problem};
 ghost use Rattle.tt_instance.specs.declared.cell.Cell.{Cell};
 ghost use Rattle.tt_leaf.specs.declared.leaf.Bound.{Bound};
 ghost use Rattle.tt_page.specs.Limits.{IsWithinLimit};
-ghost use Rattle.tt_page.specs.Pages.{page_text};
+ghost use Rattle.tt_page.specs.Pages.{page_text, shown_text};
+ghost use Rattle.tt_page.specs.Proofs.{IsShownOf};
 ghost use Rattle.tt_page.specs.declared.proved.Proved.{Proved};
 ghost use Rattle.tt_page.specs.declared.proved.Proved.TheVariants.{Unproved};
 ghost use Rattle.tt_page_reason.specs.Explained.{IsProvedBy};
 ghost use Rattle.tt_page_text.specs.Labelled.{Labelled};
-ghost use Rattle.tt_page_text.specs.Labels.{Gives};
 ghost use Rattle.tt_text.specs.Failures.{is_err_and};
 ghost use Rattle.tt_proof_sum.specs.Added.{Give};
 ghost use Rattle.tt_proof_sum.specs.Faults.{all_points};
 ghost use Rattle.tt_proof_sum.specs.Sums.{IsSum};
 ghost use Rattle.tt_table.specs.Spelling.{SpellsBoth};
 ghost use Rattle.tt_call_answers.specs.FaultMaps.{HoldsNoStop};
-ghost use Rattle.tt_call_texts.specs.Paged.{labels_for, IsBeforeProofs, IsNotPut, IsPaged, IsPageRefusal, IsProvedPaged, IsProvedPageRefusal, IsSilentOrNotPut};
+ghost use Rattle.tt_call_names.specs.Names.{labels_for};
+ghost use Rattle.tt_call_texts.specs.Paged.{IsBeforeProofs, IsNotPut, IsPaged, IsPageRefusal, IsProvedPaged, IsProvedPageRefusal, IsSilentOrNotPut, has_weeks, unproved_text};
 ghost use Rattle.tt_call_answers.specs.Refusals.{IsUnwritten, is_failed_write};
 ghost use Rattle.tt_call_answers.specs.Sums.{IsSpelledAndFileCheckedUpToFailedRead};
 ghost use Rattle.tt_call_answers.specs.Refusals.{is_failed_read_at};
 
 use std::alloc::Global;
 use tt_call_answers::AppFault;
+use tt_call_names::{PageNames, labels_for};
 use tt_instance::Instance;
 use tt_instance_read::read_instance;
-use tt_page::Proved;
+use tt_page::{Look, Proved, Sheet, Shown};
 use tt_page_reason::explain_bound;
-use tt_page_text::{Labels, LabelsFault};
+use tt_page_weeks::has_week;
 use tt_proof_sum::sum_proofs;
 use tt_table::read_solution;
 use tt_text::Sink;
 use tt_text_peek::Peek;
 
-/// The names of the days and of the periods of a page; days or periods without names are numbered from 1.
+/// What a page shows that shows no bound.
 #[derive(Clone, Copy, Debug)]
-pub struct PageNames<'a> {
-    /// The names of the days, as Mon,Tue,Wed.
-    pub days: Option<&'a str>,
-    /// The names of the periods of a day, as 8:00,9:00.
-    pub periods: Option<&'a str>,
+pub struct PageForm<'a> {
+    pub names: PageNames<'a>,
+    /// The weeks of a sheet; if none are given, the page shows everything.
+    pub sheet: Option<Sheet<'a>>,
 }
 
-/// Returns the labels that names spell for an instance's days and periods.
-fn labels_for(
-    alloc: Global,
-    instance: &Instance<'_>,
-    names: PageNames<'_>,
-) -> Result<Labels, LabelsFault>
-    ensures { Gives (λ labels. labels) result (labels_for instance.now names.entry) }
+/// Checks whether there are weeks to show.
+fn has_weeks(instance: &Instance<'_>, sheet: Option<Sheet<'_>>) -> bool
+    ensures { result ≡ has_weeks instance.now sheet.entry }
 {
-    let PageNames { days, periods } = names;
-    Labels::read(alloc, instance.days(), instance.periods(), days, periods)
+    match sheet {
+        Some(Sheet::Named(name)) => has_week(instance, name),
+        Some(Sheet::Section(_) | Sheet::Days) | None => true,
+    }
 }
 
-/// Writes the page of a solution's week, with names and a style; the status is 0.
+/// Returns what is shown, if nothing is proved.
+fn shown_for<'a>(sheet: Option<Sheet<'a>>, unproved: &'a Proved) -> Shown<'a>
+    requires { unproved.now ≡ Unproved }
+    ensures text { (style : List ℕ) (p : Problem) (t : List Cell) (labels : Labelled) → shown_text p t labels result style ≡ unproved_text sheet.entry style p t labels }
+    ensures courses { (p : Problem) → IsShownOf p result }
+{
+    match sheet {
+        Some(sheet) => Shown::Only(sheet),
+        None => Shown::Whole(unproved),
+    }
+}
+
+/// Writes the page of a solution's week, or a sheet of some of its weeks, with names and a style; the status is 0.
 pub fn page<W: Sink>(
     alloc: Global,
     instance: &[u8],
     solution: &[u8],
-    names: PageNames<'_>,
+    form: PageForm<'_>,
     style: &str,
     sink: &mut W,
 ) -> Result<u8, AppFault>
-    // The bytes written are the page.
-    ensures written { IfOk result (IsPaged instance.now solution.now names.entry style.now (W.contents sink.old) (W.contents sink.new)) }
+    // The bytes written are the page or the sheet.
+    ensures written { IfOk result (IsPaged instance.now solution.now form.entry style.now (W.contents sink.old) (W.contents sink.new)) }
     // A refusal reports the first error.
-    ensures fault { IfErr result (IsPageRefusal instance.now solution.now names.entry style.now (W.contents sink.old) (W.contents sink.new)) }
-    // If both files are spelled and the names fit, the page is written if it isn't too large, and only then, unless memory runs out or a write fails.
-    ensures only { (p : Problem) (t : List Cell) (labels : Labelled) → SpellsBoth instance.now solution.now p t → labels_for p names.entry ≡ Ok labels →
-        let text = page_text p t labels Unproved style.now in MatchResult result (λ _. IsWithinLimit text) (λ f. IsNotPut f text) }
+    ensures fault { IfErr result (IsPageRefusal instance.now solution.now form.entry style.now (W.contents sink.old) (W.contents sink.new)) }
+    // If both files are spelled, the names fit and there are weeks to show, the page is written if it isn't too large, and only then, unless memory
+    // runs out or a write fails.
+    ensures only { (p : Problem) (t : List Cell) (labels : Labelled) → SpellsBoth instance.now solution.now p t →
+        labels_for p form.entry.names ≡ Ok labels → IsTrue (has_weeks p form.entry.sheet) →
+        let text = unproved_text form.entry.sheet style.now p t labels in MatchResult result (λ _. IsWithinLimit text) (λ f. IsNotPut f text) }
     // If any other error is reported, nothing is written.
     ensures unwritten { IfErr result (λ f. IsUnwritten f → sink.new ≡ sink.old) }
     // A failed write is reported exactly if a write failed.
@@ -79,16 +92,17 @@ pub fn page<W: Sink>(
 {
     let instance = read_instance(alloc, instance)?;
     let table = read_solution(alloc, &instance, solution)?;
-    let labels = labels_for(alloc, &instance, names)?;
-    tt_page::page(
-        alloc,
-        &instance,
-        &table,
-        &labels,
-        &Proved::Unproved,
+    let labels = labels_for(alloc, &instance, form.names)?;
+    if !has_weeks(&instance, form.sheet) {
+        return Err(AppFault::UnknownName);
+    }
+    let unproved = Proved::Unproved;
+    let shown = shown_for(form.sheet, &unproved);
+    let look = Look {
+        labels: &labels,
         style,
-        sink,
-    )?;
+    };
+    tt_page::page(alloc, &instance, &table, shown, &look, sink)?;
     Ok(0)
 }
 
@@ -134,6 +148,11 @@ pub fn proved_page<R: Peek, W: Sink>(
     let labels = labels_for(alloc, &instance, names)?;
     let bound = sum_proofs(alloc, &instance, proofs)?;
     let proved = explain_bound(alloc, &instance, bound)?;
-    tt_page::page(alloc, &instance, &table, &labels, &proved, style, sink)?;
+    let look = Look {
+        labels: &labels,
+        style,
+    };
+    let shown = Shown::Whole(&proved);
+    tt_page::page(alloc, &instance, &table, shown, &look, sink)?;
     Ok(0)
 }

@@ -5,14 +5,15 @@ use std::alloc::Global;
 use std::cell::{Cell, RefCell};
 use std::io::{Error, ErrorKind, Write};
 use tt_call_answers::AppFault;
-use tt_call_texts::{PageNames, page, proved_page};
-use tt_cli_arguments::PageRequest;
+use tt_call_names::PageNames;
+use tt_call_texts::{PageForm, page, proved_page};
+use tt_cli_arguments::{GivenWeeks, PageRequest};
 use tt_cli_files::{Batch, Draft, Label, OutputFault, Place, Ready, Role, StandardStream, finish};
 use tt_cli_saving::{
     CommandFault, Input, Inputs, LastUnread, Prepared, Reply, Shown, Target, World, Written, clear,
     fault_over, proof_files, ticker_of,
 };
-use tt_page::STYLE;
+use tt_page::{STYLE, Sheet};
 use tt_text::{Sink, Writing};
 use tt_text_peek::Peek;
 
@@ -21,7 +22,7 @@ use tt_text_peek::Peek;
 struct PageTexts<'a> {
     instance: &'a [u8],
     solution: &'a [u8],
-    names: PageNames<'a>,
+    form: PageForm<'a>,
 }
 
 /// Writes a page to a sink, with the bound of the proofs if there are any.
@@ -34,12 +35,12 @@ fn fill_page<P: Peek, W: Sink>(
     let PageTexts {
         instance,
         solution,
-        names,
+        form,
     } = texts;
     if proofs.is_empty() {
-        page(alloc, instance, solution, names, STYLE, sink)
+        page(alloc, instance, solution, form, STYLE, sink)
     } else {
-        proved_page(alloc, instance, solution, names, proofs, STYLE, sink)
+        proved_page(alloc, instance, solution, form.names, proofs, STYLE, sink)
     }
 }
 
@@ -188,6 +189,42 @@ fn put_page<R: World, O: Write, E: Write>(
     }
 }
 
+/// Returns the weeks of a sheet.
+fn sheet_of<'a>(weeks: GivenWeeks<'a>) -> Sheet<'a> {
+    match weeks {
+        GivenWeeks::Section(by) => Sheet::Section(by),
+        GivenWeeks::Days => Sheet::Days,
+        GivenWeeks::Named(name) => Sheet::Named(name.as_bytes()),
+    }
+}
+
+/// Returns what a request wants a page to show.
+fn form_of<'a>(request: &PageRequest<'a>) -> PageForm<'a> {
+    PageForm {
+        names: PageNames {
+            days: request.names.days,
+            periods: request.names.periods,
+        },
+        sheet: match request.weeks {
+            Some(weeks) => Some(sheet_of(weeks)),
+            None => None,
+        },
+    }
+}
+
+/// Returns the fault that no week has a name, with the name.
+fn with_week(alloc: Global, fault: CommandFault, weeks: Option<GivenWeeks<'_>>) -> CommandFault {
+    match (fault, weeks) {
+        (CommandFault::Call(AppFault::UnknownName), Some(GivenWeeks::Named(name))) => {
+            match String::from_str(alloc, name) {
+                Ok(name) => CommandFault::UnknownWeek { name },
+                Err(_) => CommandFault::OutOfMemory,
+            }
+        }
+        (fault, _) => fault,
+    }
+}
+
 /// Reads the files of a page, and tries its output.
 fn open_page<R: World>(
     rt: &R,
@@ -220,13 +257,13 @@ pub fn answer_page<R: World, O: Write, E: Write>(
     let texts = PageTexts {
         instance: &texts.instance,
         solution: &texts.solution,
-        names: PageNames {
-            days: request.names.days,
-            periods: request.names.periods,
-        },
+        form: form_of(request),
     };
     let shown = RefCell::new(ticker_of(rt, err, "page", request.showing));
     let reply = put_page(rt, output, texts, &request.proofs, out, &shown);
     clear(&shown);
-    reply
+    match reply {
+        Ok(reply) => Ok(reply),
+        Err(fault) => Err(with_week(rt.alloc(), fault, request.weeks)),
+    }
 }

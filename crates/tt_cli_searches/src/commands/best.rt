@@ -9,6 +9,7 @@ use std::alloc::{AllocError, Global};
 use std::cell::Cell;
 use std::io::Write;
 use tt_call_answers::AppFault;
+use tt_call_names::PageNames;
 use tt_call_searches::{BestAnswer, BestSearch, best};
 use tt_cli_arguments::BestRequest;
 use tt_cli_files::Batch;
@@ -43,7 +44,11 @@ fn search_shown<'k, R: World, E: Write>(
     let shelf = BestShelf { files: &*files };
     let keeper = Keeper::new(rt, ticker, asked.seconds, kept, shelf, asked.keeps);
     let mut keeper = BestKeeper::new(keeper, &*files, asked.keeps);
-    best(alloc, instance, search, STYLE, &mut keeper)
+    let names = PageNames {
+        days: request.names.days,
+        periods: request.names.periods,
+    };
+    best(alloc, instance, search, names, STYLE, &mut keeper)
 }
 
 /// Reads the proofs that an earlier run left in the folder; a file that can't be read is passed over.

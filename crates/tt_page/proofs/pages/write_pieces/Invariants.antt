@@ -1,17 +1,18 @@
 use Rattle.std.proofs.Common.{◌≡◌, ◌-◌, ◌≤◌, drop, take}
 use Rattle.tt_text.proofs.TakenParts.{Taken}
 use Rattle.tt_page_text.specs.declared.page_text.TheConstants.{PAGE_PIECE_BYTES}
-use Rattle.tt_page.specs.Pages.{page_text}
+use Rattle.tt_page.specs.Pages.{shown_text}
 use Rattle.tt_page.proofs.pages.write_pieces.Given as goal
 
 abbrev pub invariant-pieces : goal.invariant-pieces
 invariant-pieces g l = record {
   within : l.from ≤ l.total;
   size : l.out.size ≡ PAGE_PIECE_BYTES;
-  piece : l.out.bytes ≡ take PAGE_PIECE_BYTES (drop l.from (page_text l.plan.problem l.plan.table l.labels l.proved l.style));
+  piece : l.out.bytes ≡ take PAGE_PIECE_BYTES (drop l.from (shown_text l.plan.problem l.plan.table l.look.labels.now l.shown
+      l.look.style.now));
   taken : Taken (g.W.Sink.contents l.fn.sink) (g.W.Sink.contents l.sink)
-      (page_text l.plan.problem l.plan.table l.labels l.proved l.style)
-      (drop l.from (page_text l.plan.problem l.plan.table l.labels l.proved l.style));
+      (shown_text l.plan.problem l.plan.table l.look.labels.now l.shown l.look.style.now)
+      (drop l.from (shown_text l.plan.problem l.plan.table l.look.labels.now l.shown l.look.style.now));
   failed : g.W.Sink.has_failed l.sink ≡ g.W.Sink.has_failed l.fn.sink;
 }
 

@@ -6,4 +6,5 @@ use Rattle.tt_page_days.specs.Days.{day_grid}
 use Rattle.tt_page_days.proofs.days.put_day_grids.Given as goal
 
 abbrev pub invariant-loop-day : goal.invariant-loop-day
-invariant-loop-day l = l.out ≡ put_text l.initial.out (flat_map (day_grid l.plan.problem l.plan.table l.labels) (range_below l.day))
+invariant-loop-day l = l.out ≡ put_text l.initial.out (flat_map
+    (day_grid l.plan.problem l.plan.table l.view.labels.now l.view.is_linked) (range_below l.day))

@@ -6,5 +6,6 @@ use Rattle.tt_page_days.specs.Days.{room_cell}
 use Rattle.tt_page_days.proofs.days.put_room_cells.Given as goal
 
 abbrev pub invariant-loop-period : goal.invariant-loop-period
-invariant-loop-period l = l.out ≡ put_text l.initial.out (flat_map (room_cell l.plan.problem l.plan.table l.labels l.day l.room)
+invariant-loop-period l = l.out ≡ put_text l.initial.out (flat_map
+    (room_cell l.plan.problem l.plan.table l.view.labels.now l.view.is_linked l.day l.room)
     (range_below l.period))

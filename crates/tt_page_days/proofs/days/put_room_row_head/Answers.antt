@@ -13,6 +13,6 @@ pub returns : goal.returns
 unfolding room_row_head
 returns c =
     let first = c.args.out.now in
-    let middle = c.put_week_link.new.out in
+    let middle = c.put_week.new.out in
     then_put first middle _ _ _ (then_put first c.put_token.new.out middle (codes "<tr>\n<th scope=\"row\">") _
-    (head_put c) c.put_week_link.ensures) c.put_token-2.ensures
+    (head_put c) c.put_week.ensures) c.put_token-2.ensures

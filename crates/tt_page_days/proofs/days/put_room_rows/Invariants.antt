@@ -6,4 +6,5 @@ use Rattle.tt_page_days.proofs.days.put_room_rows.Given as goal
 
 abbrev pub invariant-loop-room : goal.invariant-loop-room
 invariant-loop-room l =
-    l.out ≡ put_text l.initial.out (flat_map (room_row l.plan.problem l.plan.table l.labels l.day) (take l.room-index l.rooms))
+    l.out ≡ put_text l.initial.out (flat_map (room_row l.plan.problem l.plan.table l.view.labels.now l.view.is_linked l.day)
+    (take l.room-index l.rooms))

@@ -1,5 +1,3 @@
-use Rattle.std.proofs.Common.{◌≡◌, ◌<◌, All, length, subst, sym}
-use Rattle.tt_page_plan.specs.Kinds.{own_courses}
 use Rattle.tt_page_weeks.specs.Grids.{grid_text}
 use Rattle.tt_page_text.proofs.Growing.{then_put}
 use Rattle.tt_page_weeks.proofs.grids.put_grid.Goals as goal

@@ -6,4 +6,5 @@ use Rattle.tt_page_weeks.proofs.grids.put_grids.Given as goal
 
 abbrev pub invariant-loop-number : goal.invariant-loop-number
 invariant-loop-number l =
-    l.out ≡ put_text l.initial.out (flat_map (grid_text l.plan.problem l.plan.table l.labels l.kind) (take l.number-index l.numbers))
+    l.out ≡ put_text l.initial.out (flat_map (grid_text l.plan.problem l.plan.table l.view.labels.now l.view.is_linked l.kind)
+    (take l.number-index l.numbers))

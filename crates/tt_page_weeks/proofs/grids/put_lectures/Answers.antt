@@ -16,7 +16,8 @@ loop-entry-preserved-then-is_in_week c =
     let own : belongs_to p c.args.kind c.args.number e ≡ true = ap (λ (q : Problem). belongs_to q c.args.kind c.args.number e)
     (sym c.instance.ensures) ∙ sym c.is_in_week.ensures ∙ c.if-is_in_week.true in
     record {
-      text = shown_one (belongs_to p c.args.kind c.args.number) (lecture_text p t c.args.labels.now c.args.kind c.args.number) e
+      text = shown_one (belongs_to p c.args.kind c.args.number)
+          (lecture_text p t c.args.view.now.labels.now c.args.view.now.is_linked c.args.kind c.args.number) e
           c.next.new.self c.loop-entry.entry-iterator _ c.loop-entry.out c.put_lecture.new.out first own c.put_lecture.ensures
           c.loop-entry.invariant.text;
       left = All-tail (InRange p) e c.next.new.self (subst (All (InRange p)) first c.loop-entry.invariant.left);
@@ -31,7 +32,8 @@ loop-entry-preserved c =
     let other : belongs_to p c.args.kind c.args.number e ≡ false = ap (λ (q : Problem). belongs_to q c.args.kind c.args.number e)
     (sym c.instance.ensures) ∙ sym c.is_in_week.ensures ∙ c.if-is_in_week.false in
     record {
-      text = passed_one (belongs_to p c.args.kind c.args.number) (lecture_text p t c.args.labels.now c.args.kind c.args.number) e
+      text = passed_one (belongs_to p c.args.kind c.args.number)
+          (lecture_text p t c.args.view.now.labels.now c.args.view.now.is_linked c.args.kind c.args.number) e
           c.next.new.self c.loop-entry.entry-iterator _ c.loop-entry.out first other c.loop-entry.invariant.text;
       left = All-tail (InRange p) e c.next.new.self (subst (All (InRange p)) first c.loop-entry.invariant.left);
     }

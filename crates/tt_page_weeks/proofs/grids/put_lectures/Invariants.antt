@@ -8,9 +8,9 @@ use Rattle.tt_page_weeks.proofs.grids.put_lectures.Given as goal
 
 abbrev pub invariant-loop-entry : goal.invariant-loop-entry
 invariant-loop-entry l = record {
-  text : put_text l.out (flat_map (lecture_text l.plan.problem l.plan.table l.labels l.kind l.number)
+  text : put_text l.out (flat_map (lecture_text l.plan.problem l.plan.table l.view.labels.now l.view.is_linked l.kind l.number)
       (filter (belongs_to l.plan.problem l.kind l.number) l.entry-iterator)) ≡ put_text l.fn.out
-      (flat_map (lecture_text l.plan.problem l.plan.table l.labels l.kind l.number)
+      (flat_map (lecture_text l.plan.problem l.plan.table l.view.labels.now l.view.is_linked l.kind l.number)
       (filter (belongs_to l.plan.problem l.kind l.number) l.fn.entries));
   left : All (InRange l.plan.problem) l.entry-iterator;
 }

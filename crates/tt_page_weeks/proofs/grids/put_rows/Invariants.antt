@@ -6,5 +6,6 @@ use Rattle.tt_page_weeks.specs.Grids.{row_text}
 use Rattle.tt_page_weeks.proofs.grids.put_rows.Given as goal
 
 abbrev pub invariant-loop-period : goal.invariant-loop-period
-invariant-loop-period l = l.out ≡ put_text l.initial.out (flat_map (row_text l.plan.problem l.plan.table l.labels l.kind l.number l.own)
+invariant-loop-period l = l.out ≡ put_text l.initial.out (flat_map
+    (row_text l.plan.problem l.plan.table l.view.labels.now l.view.is_linked l.kind l.number l.own)
     (range_below l.period))

@@ -8,7 +8,7 @@ use Rattle.tt_call_searches.proofs.calls.best.found_answer.Goals as goal
 
 pub returns : goal.returns
 returns c =
-    λ i spells.
+    λ i names spells named.
     let a = c.args in
     let parts = a.parts.now in
     let solution = c.in_ok-write_solution in
@@ -16,10 +16,10 @@ returns c =
     let copies = c.in_ok-copy_texts in
     let same = copies.ensures ∙ ap (λ (l : List (Vec ℕ Global)). texts_of l) c.deref.ensures.value in
     let sum = subst (λ (files : List (List ℕ)). IsSum a.instance.now files parts.bound) (sym same) c.requires.parts.sum in
-    let is = whole i solution.field-0.items a.instance.now a.table.now (texts_of copies.field-0.items) page.field-0 a.style.now
-    parts.bound a.cost
+    let is = whole i solution.field-0.items a.instance.now a.table.now (texts_of copies.field-0.items) page.field-0 names
+    a.look.now.labels.now a.look.now.style.now parts.bound a.cost
     c.in-AtLeast.points spells solution.ensures.again c.requires.feasible c.requires.cost sum c.requires.parts.holds c.in-AtLeast.is
-    page.ensures in
+    named page.ensures in
     record {
       found = record {
         solution = solution.field-0.items;
@@ -29,6 +29,8 @@ returns c =
         bounds = is.bounds;
         within = is.within;
         file = refl;
+        labels = a.look.now.labels.now;
+        named = is.named;
         page = is.shown;
         no_partial = refl;
         text = c.in_ok-found_line.ensures;

@@ -7,14 +7,15 @@ use Rattle.tt_page_reason.proofs.Bounds.{by_bound}
 use Rattle.tt_proof_check.proofs.TextFaults.{err_same}
 use Rattle.tt_proof_sum.specs.Added.{Give}
 use Rattle.tt_call_answers.specs.FaultMaps.{fault_from_instance, fault_from_solution, fault_from_labels, fault_from_page, fault_from_sum}
-use Rattle.tt_call_texts.specs.Paged.{IsNotPut}
+use Rattle.tt_call_texts.specs.Paged.{IsNotPut, proved_text}
 use Rattle.tt_call_answers.specs.declared.fault.AppFault.TheVariants as fault
 use Rattle.tt_call_answers.specs.Refusals.{is_failed_write, is_failed_read_at}
 use Rattle.tt_call_answers.proofs.ReportedMemory.{lower_sum, lower_instance, lower_solution, lower_labels}
 use Rattle.tt_call_answers.proofs.FailedReads.{read_summed, passed, calm, unread, sum_read, instance_read_at, solution_read_at, labels_read_at, page_read_at, instance_write, solution_write, labels_write, sum_write, page_write}
 use Rattle.tt_call_answers.proofs.Sums.{sum_here, silent_refusal}
 use Rattle.tt_call_answers.proofs.Files.{tells_instance, tells_solution, only_memory}
-use Rattle.tt_call_texts.proofs.Paging.{names_memory, names_tell_proved, sum_tells_page, page_tells, page_same, proved_same, output_tells, page_unwritten}
+use Rattle.tt_call_names.proofs.Fitting.{names_memory}
+use Rattle.tt_call_texts.proofs.Paging.{names_tell_proved, sum_tells_page, page_tells, page_same, proved_same, output_tells, page_unwritten}
 use Rattle.tt_call_texts.proofs.calls.page.proved_page.Goals as goal
 
 pub returns-in_err-instance-clause-only : goal.returns-in_err-instance-clause-only
@@ -142,8 +143,8 @@ returns-in_err-page-clause-only g c =
     λ p t l files b both named given h within.
     let here = sum_here c.args.instance.now files p c.in_ok-instance.instance b both.spelled c.in_ok-instance.ensures.found h within in
     let same = page_same c.args.instance.now c.args.solution.now p c.in_ok-instance.instance t c.in_ok-table.table c.args.names l
-    c.in_ok-labels.labels proved proved c.args.style.now both c.in_ok-instance.ensures.found
-    c.in_ok-table.ensures.found named c.in_ok-labels.ensures refl in (
+    c.in_ok-labels.labels (proved_text proved c.args.style.now) both c.in_ok-instance.ensures.found
+    c.in_ok-table.ensures.found named c.in_ok-labels.ensures in (
       proved,
       proved_same c.args.instance.now p c.in_ok-instance.instance b c.in_ok-bound.bound proved both.spelled c.in_ok-instance.ensures.found
           (c.in_ok-bound.ensures.only files b given here.is here.within) c.in_ok-proved.ensures.by,
@@ -175,13 +176,14 @@ returns-clause-only g c =
     λ p t l files b both named given h within.
     let here = sum_here c.args.instance.now files p c.in_ok-instance.instance b both.spelled c.in_ok-instance.ensures.found h within in
     let same = page_same c.args.instance.now c.args.solution.now p c.in_ok-instance.instance t c.in_ok-table.table c.args.names l
-    c.in_ok-labels.labels proved proved c.args.style.now both c.in_ok-instance.ensures.found
-    c.in_ok-table.ensures.found named c.in_ok-labels.ensures refl in (
+    c.in_ok-labels.labels (proved_text proved c.args.style.now) both c.in_ok-instance.ensures.found
+    c.in_ok-table.ensures.found named c.in_ok-labels.ensures in (
       proved,
       proved_same c.args.instance.now p c.in_ok-instance.instance b c.in_ok-bound.bound proved both.spelled c.in_ok-instance.ensures.found
           (c.in_ok-bound.ensures.only files b given here.is here.within) c.in_ok-proved.ensures.by,
       (
-        subst (λ (x : List ℕ). Appends (g.W.Sink.contents c.args.sink.now) (g.W.Sink.contents c.page.new.sink) x) same c.in_ok-page.ensures.written,
+        subst (λ (x : List ℕ). Appends (g.W.Sink.contents c.args.sink.now) (g.W.Sink.contents c.page.new.sink) x) same
+            c.in_ok-page.ensures.written,
         subst IsWithinLimit same c.in_ok-page.ensures.size,
       ),
     )
