@@ -1,3 +1,3 @@
--- Definitions that only clauses of private functions name: not part of the trusted statement.
+-- Definitions on which no part of the trusted statement rests.
 pub mod Nested
 pub mod NumberSet

@@ -1,4 +1,4 @@
--- Definitions that only clauses of private functions name: not part of the trusted statement.
+-- Definitions on which no part of the trusted statement rests.
 pub mod Counted
 pub mod Fields
 pub mod NeighbourCounts

@@ -1,4 +1,4 @@
-pub mod Accounts
+-- Definitions on which no part of the trusted statement rests.
 pub mod Groups
 pub mod Rents
 pub mod Tables
