@@ -1,4 +1,5 @@
 -- Definitions on which no part of the trusted statement rests.
+pub mod Accounts
 pub mod Groups
 pub mod Rents
 pub mod Tables
