@@ -60,6 +60,9 @@ returns-then-not-has_weeks-clause-only g c =
     (weeks_there c.args.instance.now p c.in_ok-instance.instance c.args.form.sheet both.spelled c.in_ok-instance.ensures.found there
     (sym c.has_weeks.ensures ∙ c.if-not-has_weeks.true))
 
+pub page-requires-clause-shown : goal.page-requires-clause-shown
+page-requires-clause-shown g c = c.shown_for-shown.ensures.courses c.in_ok-instance.instance
+
 pub returns-in_err-page-clause-only : goal.returns-in_err-page-clause-only
 returns-in_err-page-clause-only g c =
     let e = err_from_is_err_and c.from_residual-in_err-page.result c.from_residual-in_err-page.ensures.1 in
