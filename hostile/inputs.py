@@ -260,6 +260,7 @@ def missing_files(desk):
         ("improve instance none out", "solution"),
         ("improve instance none out --complete --drop", "solution"),
         ("improve instance none out --stay 5", "solution"),
+        ("improve instance solution out --wishes none", "wishes"),
         ("solve none out proof", "instance"),
         ("report instance none --by room", "solution"),
         ("report instance none --changes solution", "solution"),

@@ -169,6 +169,8 @@ COMMANDS = [
     Command("improve gap empty out --complete --steps 100", out=b"hard 0 cost 5\n", written={"out": None}),
     Command("improve gap last.sol out --complete --drop --steps 100", out=b"hard 0 cost 5\n", err=b"line 1 left out, no such course: z R 0 0\n", written={"out": None}),
     Command("improve mini gap.sol out --stay 5 --steps 20", out=b"hard 0 cost 5 moved 0 rooms 0\n", written={"out": APART}),
+    Command("improve mini gap.sol out --wishes wishes --steps 20", out=b"hard 0 cost 5 wishes 0 moved 0 rooms 0\n", written={"out": APART}),
+    Command("improve mini gap.sol out --wishes bad", 2, b"", b"refused: wishes: UnknownWord at byte 0\n"),
     Command("improve mini gap.sol out --stay 1 --steps 20 --runs 2", out=b"hard 0 cost 1 moved 1 rooms 0\n", written={"out": None}),
     Command("improve mini gap.sol out --steps 100 --runs 5 --keep", out=b"hard 0 cost 1\n", written={"out": None}, hurry=HURRY),
     Command("improve mini gap.sol out --steps 1000 --runs 1000 --time 2", out=b"hard 0 cost 1\n", written={"out": None}, hurry=HURRY),
@@ -245,6 +247,7 @@ COMMANDS = [
     Command("improve mini gap.sol out --drop", 2, b"", None),
     Command("improve mini gap.sol out --stay 1000001", 2, b"", None),
     Command("improve mini gap.sol out --stay 5 --keep", 2, b"", None),
+    Command("improve mini gap.sol out --wishes wishes --keep", 2, b"", None),
 ]
 WRITTEN = ["out", "out.proof", "groups.proof", "rooms.proof", "tree.proof", "best.sol", "page.html"]
 

@@ -10,4 +10,5 @@ pub use tt_call_searches::{
     improve, parts, solve,
 };
 pub use tt_call_texts::{PageForm, WeekTimes, calendar, inspect, page, proved_page, report, table};
+pub use tt_call_wished::{WishedFault, WishedFiles, improve_under_wishes};
 pub use tt_call_wishes::{ValidateFault, validate_wishes};

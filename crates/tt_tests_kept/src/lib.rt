@@ -15,3 +15,5 @@ mod parts;
 mod solving;
 #[cfg(test)]
 mod staying;
+#[cfg(test)]
+mod wishing;

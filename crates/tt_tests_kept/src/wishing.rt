@@ -1,0 +1,52 @@
+//! The results of `improve --wishes`.
+
+use std::alloc::Global;
+use std::test::Fail;
+use tt_testing_files::{MemoryFiles, Refusal};
+use tt_testing_runs::{Outcome, run_on};
+use tt_testing_samples::{MINI, MINI_SOLUTION};
+
+/// Returns the outcome of `improve` under wishes.
+fn improved(alloc: Global, solution: &str, wishes: &str) -> Result<Outcome, Fail> {
+    let memory = MemoryFiles::new(alloc, Refusal::Nothing);
+    memory.put("a.ctt", MINI)?;
+    memory.put("a.sol", solution)?;
+    memory.put("a.wishes", wishes)?;
+    let words = [
+        "improve",
+        "a.ctt",
+        "a.sol",
+        "a.out",
+        "--complete",
+        "--wishes",
+        "a.wishes",
+        "--steps",
+        "20",
+    ];
+    run_on(alloc, &words, &memory)
+}
+
+#[test]
+fn a_lecture_stays_where_it_is_held(rt: HostRuntime) -> Result<(), Fail> {
+    for (wishes, line) in [
+        ("", "hard 0 cost 1 wishes 0 moved 1 rooms 0\n"),
+        (
+            "hold b * 0 2\nhold a * 0 0",
+            "hard 0 cost 5 wishes 0 moved 0 rooms 0\n",
+        ),
+    ] {
+        let outcome = improved(rt.alloc(), MINI_SOLUTION, wishes)?;
+        assert_eq!(rt; outcome.answer(), (0, line, ""), "{wishes}");
+    }
+    Ok(())
+}
+
+#[test]
+fn wishes_are_refused_by_name(rt: HostRuntime) -> Result<(), Fail> {
+    let outcome = improved(rt.alloc(), MINI_SOLUTION, "hold c * * *")?;
+    assert_eq!(rt;
+        outcome.answer(),
+        (2, "", "refused: wishes: UnknownCourse at byte 5\n")
+    );
+    Ok(())
+}
