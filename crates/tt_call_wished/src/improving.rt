@@ -52,9 +52,9 @@ pub fn improve_under_wishes<W: Watch>(
     completes: bool,
     watch: &mut W,
 ) -> Result<Answer, WishedFault>
-    ensures found { IfOk result (IsImprovedWished files completes search.stay) }
+    ensures found { IfOk result (IsImprovedWished files.entry completes search.stay) }
     // A refusal reports the first error: the instance's, then the solution's, then that of the wishes, and then why the solution can't be completed.
-    ensures fault { IfErr result (IsWishedRefusal files) }
+    ensures fault { IfErr result (IsWishedRefusal files.entry) }
 {
     let instance = read_instance(alloc, files.instance)?;
     let older = read_solution(alloc, &instance, files.solution)?;

@@ -26,8 +26,8 @@ pub struct WeekTimes<'a> {
 
 /// Returns the dates and times of an instance's days and periods.
 fn term_of(alloc: Global, instance: &Instance<'_>, times: WeekTimes<'_>) -> Result<Term, AppFault>
-    ensures term { IfOk result (IsTermOf instance.now times) }
-    ensures fault { IfErr result (IsTermFault instance.now times) }
+    ensures term { IfOk result (IsTermOf instance.now times.entry) }
+    ensures fault { IfErr result (IsTermFault instance.now times.entry) }
 {
     let sizes = (instance.days(), instance.periods());
     let WeekTimes {
@@ -50,9 +50,9 @@ pub fn calendar(
     name: &[u8],
     times: WeekTimes<'_>,
 ) -> Result<Answer, AppFault>
-    ensures found { IfOk result (IsCalendar instance.now solution.now by name.now times) }
+    ensures found { IfOk result (IsCalendar instance.now solution.now by name.now times.entry) }
     // A refusal reports the first error: that of a file, then an unknown name, then the dates and times.
-    ensures fault { IfErr result (IsCalendarRefusal instance.now solution.now by name.now times) }
+    ensures fault { IfErr result (IsCalendarRefusal instance.now solution.now by name.now times.entry) }
 {
     let instance = read_instance(alloc, instance)?;
     let table = read_solution(alloc, &instance, solution)?;
