@@ -1,2 +1,5 @@
 pub mod Examples
 mod Days
+mod Fields
+mod Lines
+mod Times

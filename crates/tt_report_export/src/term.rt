@@ -1,18 +1,14 @@
 //! When a week takes place.
 
-ghost use Rattle.std.specs.Prelude.{◌≡◌, length, slice_index_or, IfOk};
-ghost use Rattle.tt_report_export.specs.Terms.{IsTermFrom};
+ghost use Rattle.std.specs.Prelude.{◌≡◌, slice_index_or, IfErr, IfOk};
+ghost use Rattle.tt_report_export.specs.Times.{ExplainsTimes};
+ghost use Rattle.tt_report_export.specs.Terms.{IsTermFrom, IsWholeWeeks};
 
 use crate::dates::{date_of, dates_from};
+use crate::times::begins_from;
 use std::alloc::{AllocError, AllocFailed, Global};
 use std::marker::Model;
-use std::str::FromStr;
 use thiserror::Error;
-
-/// The number of minutes of an hour, and the number of hours of a day.
-const MINUTES: u32 = 60;
-
-const HOURS: u32 = 24;
 
 /// The number of days of a week.
 const WEEK: u32 = 7;
@@ -71,48 +67,13 @@ impl Model for Term {
     ghost view = { λ s. record { dates = s.dates.items; begins = s.begins.items; minutes = s.minutes; weeks = s.weeks; interval = s.interval } };
 }
 
-/// Returns the value of one or two digits.
-fn value_of(digits: &str) -> Option<u32> {
-    if digits.len() > 2 || !digits.bytes().all(|byte| byte.is_ascii_digit()) {
-        return None;
-    }
-    u32::from_str(digits).ok()
-}
-
 /// Returns the least number of whole weeks, in days, that has this many days.
-fn days_between(days: u32) -> u32 {
-    (days.saturating_add(WEEK - 1) / WEEK).saturating_mul(WEEK)
-}
-
-/// Returns the minute of the day of a time such as `8:00`.
-fn minute_of(time: &str) -> Option<u32> {
-    let (hour, minute) = time.split_once(':')?;
-    if minute.len() != 2 {
-        return None;
-    }
-    let hour = value_of(hour)?;
-    let minute = value_of(minute)?;
-    if hour >= HOURS || minute >= MINUTES {
-        return None;
-    }
-    Some(hour * MINUTES + minute)
-}
-
-/// Returns the minutes of the day at which this many periods begin.
-fn begins_from(alloc: Global, times: &str, periods: u32) -> Result<Vec<u32>, TermFault>
-    ensures { IfOk result (λ begins. length begins.items ≡ periods) }
+fn days_between(days: u32) -> Result<u32, TermFault>
+    ensures weeks { IfOk result (IsWholeWeeks days) }
+    ensures fault { IfErr result (λ f. f ≡ TermFault.NoDate) }
 {
-    let mut begins = Vec::new(alloc);
-    for time in times.split(',') {
-        begins.push(minute_of(time).ok_or(TermFault::NoTime)?)?;
-    }
-    if begins.len() < periods as usize {
-        return Err(TermFault::TooFewTimes);
-    }
-    if begins.len() > periods as usize {
-        return Err(TermFault::TooManyTimes);
-    }
-    Ok(begins)
+    let most = days.checked_add(WEEK - 1).ok_or(TermFault::NoDate)?;
+    Ok(most / WEEK * WEEK)
 }
 
 impl Term {
@@ -125,7 +86,8 @@ impl Term {
         times: &str,
         lengths: Lengths,
     ) -> Result<Term, TermFault>
-        ensures { IfOk result (IsTermFrom first.now sizes.0 sizes.1 lengths.minutes lengths.weeks) }
+        ensures term { IfOk result (IsTermFrom first.now times.now sizes.0 sizes.1 lengths.minutes lengths.weeks) }
+        ensures fault { IfErr result (ExplainsTimes times.now sizes.1) }
     {
         let (days, periods) = sizes;
         let dates = dates_from(alloc, date_of(first)?, days)?;
@@ -136,7 +98,7 @@ impl Term {
             begins,
             minutes,
             weeks,
-            interval: days_between(days),
+            interval: days_between(days)?,
         })
     }
 
