@@ -1,8 +1,8 @@
 //! Searching for proofs over disjoint targets.
 
-ghost use Rattle.std.specs.Prelude.{IfOk, IfSome};
+ghost use Rattle.std.specs.Prelude.{IfNone, IfOk, IfSome};
 ghost use Rattle.tt_instance.specs.Problem.{Problem};
-ghost use Rattle.tt_parts.specs.Found.{AreFound};
+ghost use Rattle.tt_parts.specs.Found.{AreFound, AreRefused, texts_of};
 
 use crate::known::{cost_of, is_greatest};
 use crate::prices::find_priced;
@@ -49,13 +49,15 @@ impl Parts {
     }
 }
 
-/// Returns proofs with the sum of their bounds, if each is right and no two claim the same target.
+/// Returns proofs with the sum of their bounds, if each is right and no two claim the same target, and `None` otherwise, or if the check of a
+/// claim isn't finished.
 pub fn add_up(
     alloc: Global,
     instance: &Instance<'_>,
     proofs: Vec<Vec<u8>>,
 ) -> Result<Option<Parts>, AllocError>
-    ensures { IfOk result (λ found. IfSome found (AreFound instance.now)) }
+    ensures found { IfOk result (λ found. IfSome found (AreFound instance.now)) }
+    ensures none { IfOk result (λ found. IfNone found (AreRefused instance.now (texts_of proofs.items))) }
 {
     let Some(bound) = sum_of(alloc, instance, proofs.as_slice())? else {
         return Ok(None);
