@@ -1,6 +1,6 @@
 //! The call `check_sum`.
 
-ghost use Rattle.std.specs.Prelude.{◌≡◌, ◌+◌, ◌<◌, ◌^◌, ℕ, List, Some, Err, true, if◌then◌else◌, IfOk, IfErr, MatchResult, slice_get, slice_index_or};
+ghost use Rattle.std.specs.Prelude.{◌≡◌, ◌+◌, ◌<◌, ◌≤◌, ◌^◌, ℕ, List, Some, Err, true, if◌then◌else◌, IfOk, IfErr, MatchResult, slice_get, slice_index_or};
 ghost use Rattle.tt_rules.specs.Score.{IsFeasible};
 ghost use Rattle.tt_leaf.specs.declared.leaf.Bound.TheVariants.{AtLeast};
 ghost use Rattle.tt_proof_check.specs.Derives.{HoldsOfAll};
@@ -13,7 +13,7 @@ ghost use Rattle.tt_proof_sum.specs.Faults as below;
 ghost use Rattle.tt_proof_sum.specs.Faults.{IsSumStop, IsUnfinished, all_points};
 ghost use Rattle.tt_proof_sum.specs.Sums.{IsSum};
 ghost use Rattle.tt_call_checks.specs.Checked.{IsFileFault, AnswersBroken};
-ghost use Rattle.tt_call_answers.specs.Sums.{IsSpelledAndFileCheckedUpToFailedRead, CertifiesSum};
+ghost use Rattle.tt_call_answers.specs.Sums.{AreLaterKept, IsSpelledAndFileCheckedUpToFailedRead, CertifiesSum};
 ghost use Rattle.tt_call_answers.specs.Refusals.{is_failed_read_at};
 ghost use Rattle.tt_call_checks.specs.Summed.{IsSumChecked, IsSumCheckFault, AnswersSumYes};
 ghost use Rattle.tt_call_answers.specs.FaultMaps.{HoldsNoStop};
@@ -42,6 +42,7 @@ fn summed_bound<R: Peek>(
         all_points h.parts < 2 ^ 64 → MatchResult result (λ c. c ≡ b) (λ e. OnFault e.stop IsUnfinished) }
     ensures holds { IfOk result (λ b. HoldsOfAll instance.now (AtLeast b)) }
     ensures fault { IfErr result (λ e. (files : List (List ℕ)) → Give R.remaining proofs.old files → IsSumStop instance.now files e.file e.stop) }
+    ensures later { IfErr result (λ e. (i : ℕ) → e.file ≤ i → slice_get proofs.new i ≡ slice_get proofs.old i) }
     ensures failed { (i : ℕ) (r : R) → slice_get proofs.new i ≡ Some r →
         R.has_failed r ≡ (if is_err_and result (below.is_failed_read_at (i + 1)) then true else R.has_failed (slice_index_or proofs.old i r)) }
     ensures up_to_failed_read { (i : ℕ) (r q : R) (bytes : List ℕ) → result ≡ Err (below.read_failed_at (i + 1)) → slice_get proofs.old i ≡ Some r →
@@ -73,6 +74,8 @@ pub fn check_sum<R: Peek>(
     ensures broken { BreaksARule instance.now solution.now → AnswersBroken result × (proofs.new ≡ proofs.old) }
     // If the instance or the solution is refused, no proof is read.
     ensures unread { IfErr result (λ f. IsFileFault f → proofs.new ≡ proofs.old) }
+    // The proofs after the one that a refusal names are as they were.
+    ensures later { IfErr result (AreLaterKept proofs.old proofs.new) }
     // A failed read is reported exactly if a read failed.
     ensures failed { (i : ℕ) (r : R) → slice_get proofs.new i ≡ Some r →
         R.has_failed r ≡ (if is_err_and result (is_failed_read_at (i + 1)) then true else R.has_failed (slice_index_or proofs.old i r)) }

@@ -9,7 +9,7 @@ ghost use Rattle.tt_proof_sum.specs.Added.{Give};
 ghost use Rattle.tt_proof_sum.specs.Faults.{all_points};
 ghost use Rattle.tt_proof_sum.specs.Sums.{IsSum};
 ghost use Rattle.tt_call_checks.specs.Bounded.{IsOfInstance};
-ghost use Rattle.tt_call_answers.specs.Sums.{IsSpelledAndFileCheckedUpToFailedRead};
+ghost use Rattle.tt_call_answers.specs.Sums.{AreLaterKept, IsSpelledAndFileCheckedUpToFailedRead};
 ghost use Rattle.tt_call_checks.specs.Summed.{IsSummed, IsSumRefusal, AnswersSum};
 ghost use Rattle.tt_call_answers.specs.Refusals.{is_failed_read_at};
 ghost use Rattle.tt_call_answers.specs.FaultMaps.{HoldsNoStop};
@@ -32,6 +32,8 @@ pub fn sum<R: Peek>(alloc: Global, instance: &[u8], proofs: &mut [R]) -> Result<
         (h : IsSum p files b) → all_points h.parts < 2 ^ 64 → AnswersSum result b }
     // If the instance is refused, no proof is read.
     ensures unread { IfErr result (λ f. IsOfInstance f → proofs.new ≡ proofs.old) }
+    // The proofs after the one that a refusal names are as they were.
+    ensures later { IfErr result (AreLaterKept proofs.old proofs.new) }
     // A failed read is reported exactly if a read failed.
     ensures failed { (i : ℕ) (r : R) → slice_get proofs.new i ≡ Some r →
         R.has_failed r ≡ (if is_err_and result (is_failed_read_at (i + 1)) then true else R.has_failed (slice_index_or proofs.old i r)) }

@@ -20,7 +20,7 @@ ghost use Rattle.tt_table.specs.Spelling.{SpellsBoth};
 ghost use Rattle.tt_call_answers.specs.FaultMaps.{HoldsNoStop};
 ghost use Rattle.tt_call_texts.specs.Paged.{labels_for, IsBeforeProofs, IsNotPut, IsPaged, IsPageRefusal, IsProvedPaged, IsProvedPageRefusal, IsSilentOrNotPut};
 ghost use Rattle.tt_call_answers.specs.Refusals.{IsUnwritten, is_failed_write};
-ghost use Rattle.tt_call_answers.specs.Sums.{IsSpelledAndFileCheckedUpToFailedRead};
+ghost use Rattle.tt_call_answers.specs.Sums.{AreLaterKept, IsSpelledAndFileCheckedUpToFailedRead};
 ghost use Rattle.tt_call_answers.specs.Refusals.{is_failed_read_at};
 
 use std::alloc::Global;
@@ -120,6 +120,8 @@ pub fn proved_page<R: Peek, W: Sink>(
     ensures unwritten { IfErr result (λ f. IsUnwritten f → sink.new ≡ sink.old) }
     // A failed write is reported exactly if a write failed.
     ensures failed { W.has_failed sink.new ≡ (if is_err_and result is_failed_write then true else W.has_failed sink.old) }
+    // The proofs after the one that a refusal names are as they were.
+    ensures later { IfErr result (AreLaterKept proofs.old proofs.new) }
     // A failed read is reported exactly if a read failed.
     ensures failed_read { (i : ℕ) (r : R) → slice_get proofs.new i ≡ Some r →
         R.has_failed r ≡ (if is_err_and result (is_failed_read_at (i + 1)) then true else R.has_failed (slice_index_or proofs.old i r)) }

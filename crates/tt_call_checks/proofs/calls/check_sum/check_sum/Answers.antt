@@ -11,7 +11,7 @@ use Rattle.tt_call_checks.proofs.Answering.{yes_same}
 use Rattle.tt_call_answers.proofs.FailedReads.{passed, calm, unread, instance_read_at, solution_read_at, sum_read, read_summed}
 use Rattle.tt_call_answers.proofs.Files.{tells_instance, tells_solution, only_memory}
 use Rattle.tt_call_answers.proofs.ReportedMemory.{lower_instance, lower_solution, lower_sum}
-use Rattle.tt_call_answers.proofs.Sums.{silent_refusal}
+use Rattle.tt_call_answers.proofs.Sums.{later_same, later_sum, silent_refusal}
 use Rattle.tt_call_checks.proofs.AddingBoth.{sum_certified, sum_not_certified, sum_cost, sum_fails, sum_yes}
 use Rattle.tt_call_checks.proofs.calls.check_sum.check_sum.Goals as goal
 
@@ -183,3 +183,18 @@ returns-in_err-bound-clause-failed g c =
 
 pub returns-then-not-feasible-clause-failed : goal.returns-then-not-feasible-clause-failed
 returns-then-not-feasible-clause-failed g c = λ i r found. unread g.R.Source.has_failed c.args.proofs.now i r found
+
+pub returns-in_err-instance-clause-later : goal.returns-in_err-instance-clause-later
+returns-in_err-instance-clause-later g c =
+    let e = err_from_is_err_and c.from_residual.result c.from_residual.ensures.1 in
+    rw (e.1, e.2) (later_same c.args.proofs.now (fault_from_instance c.in_err-instance.field-0.0))
+
+pub returns-in_err-table-clause-later : goal.returns-in_err-table-clause-later
+returns-in_err-table-clause-later g c =
+    let e = err_from_is_err_and c.from_residual-in_err-table.result c.from_residual-in_err-table.ensures.1 in
+    rw (e.1, e.2) (later_same c.args.proofs.now (fault_from_solution c.in_err-table.field-0.0))
+
+pub returns-in_err-bound-clause-later : goal.returns-in_err-bound-clause-later
+returns-in_err-bound-clause-later g c =
+    let e = err_from_is_err_and c.from_residual-in_err-bound.result c.from_residual-in_err-bound.ensures.1 in
+    rw (e.1, e.2) (later_sum _ _ c.in_err-bound.field-0.0 c.in_err-bound.ensures.later)

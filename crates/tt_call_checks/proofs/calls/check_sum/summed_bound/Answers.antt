@@ -26,3 +26,8 @@ pub returns-in_err-bound-clause-failed : goal.returns-in_err-bound-clause-failed
 returns-in_err-bound-clause-failed g c =
     λ i r found. same_reads c.from_residual.result c.in_err-bound.field-0.0 (is_failed_read_at (i + 1)) _ _ _ c.from_residual.ensures.1
     (c.in_err-bound.ensures.failed i r found) refl
+
+pub returns-in_err-bound-clause-later : goal.returns-in_err-bound-clause-later
+returns-in_err-bound-clause-later g c =
+    let e = err_from_is_err_and c.from_residual.result c.from_residual.ensures.1 in
+    rw (e.1, e.2) c.in_err-bound.ensures.later

@@ -9,7 +9,7 @@ use Rattle.tt_call_answers.specs.Refusals.{is_failed_read_at}
 use Rattle.tt_call_answers.proofs.FailedReads.{passed, calm, unread, instance_read_at, sum_read, read_summed}
 use Rattle.tt_call_answers.proofs.ReportedMemory.{lower_instance, lower_sum}
 use Rattle.tt_call_checks.proofs.Adding.{spelled_memory, sum_tells}
-use Rattle.tt_call_answers.proofs.Sums.{sum_here, silent_refusal}
+use Rattle.tt_call_answers.proofs.Sums.{later_same, later_sum, sum_here, silent_refusal}
 use Rattle.tt_call_checks.proofs.calls.sum.sum.Goals as goal
 
 pub returns-in_err-instance-clause-only : goal.returns-in_err-instance-clause-only
@@ -84,3 +84,13 @@ returns-in_err-bound-clause-failed g c =
     passed c.from_residual-in_err-bound.result (fault_from_sum f)
     (is_failed_read_at (i + 1)) _ _ _ c.from_residual-in_err-bound.ensures.1 (sum_read (i + 1) f)
     (c.in_err-bound.ensures.failed i r found)
+
+pub returns-in_err-instance-clause-later : goal.returns-in_err-instance-clause-later
+returns-in_err-instance-clause-later g c =
+    let e = err_from_is_err_and c.from_residual.result c.from_residual.ensures.1 in
+    rw (e.1, e.2) (later_same c.args.proofs.now (fault_from_instance c.in_err-instance.field-0.0))
+
+pub returns-in_err-bound-clause-later : goal.returns-in_err-bound-clause-later
+returns-in_err-bound-clause-later g c =
+    let e = err_from_is_err_and c.from_residual-in_err-bound.result c.from_residual-in_err-bound.ensures.1 in
+    rw (e.1, e.2) (later_sum _ _ c.in_err-bound.field-0.0 c.in_err-bound.ensures.later)

@@ -12,7 +12,7 @@ use Rattle.tt_call_answers.specs.declared.fault.AppFault.TheVariants as fault
 use Rattle.tt_call_answers.specs.Refusals.{is_failed_write, is_failed_read_at}
 use Rattle.tt_call_answers.proofs.ReportedMemory.{lower_sum, lower_instance, lower_solution, lower_labels}
 use Rattle.tt_call_answers.proofs.FailedReads.{read_summed, passed, calm, unread, sum_read, instance_read_at, solution_read_at, labels_read_at, page_read_at, instance_write, solution_write, labels_write, sum_write, page_write}
-use Rattle.tt_call_answers.proofs.Sums.{sum_here, silent_refusal}
+use Rattle.tt_call_answers.proofs.Sums.{later_same, later_sum, later_page, sum_here, silent_refusal}
 use Rattle.tt_call_answers.proofs.Files.{tells_instance, tells_solution, only_memory}
 use Rattle.tt_call_texts.proofs.Paging.{names_memory, names_tell_proved, sum_tells_page, page_tells, page_same, proved_same, output_tells, page_unwritten}
 use Rattle.tt_call_texts.proofs.calls.page.proved_page.Goals as goal
@@ -259,3 +259,33 @@ returns-in_err-page-clause-unwritten g c =
     rw (e.1, e.2)
     (page_unwritten _ _ c.in_err-page.field-0.0 (λ is. c.in_err-page.ensures.refused (ap (λ f. Err f) is))
     (λ is. c.in_err-page.ensures.unwritten (ap (λ f. Err f) is)))
+
+pub returns-in_err-instance-clause-later : goal.returns-in_err-instance-clause-later
+returns-in_err-instance-clause-later g c =
+    let e = err_from_is_err_and c.from_residual.result c.from_residual.ensures.1 in
+    rw (e.1, e.2) (later_same c.args.proofs.now (fault_from_instance c.in_err-instance.field-0.0))
+
+pub returns-in_err-table-clause-later : goal.returns-in_err-table-clause-later
+returns-in_err-table-clause-later g c =
+    let e = err_from_is_err_and c.from_residual-in_err-table.result c.from_residual-in_err-table.ensures.1 in
+    rw (e.1, e.2) (later_same c.args.proofs.now (fault_from_solution c.in_err-table.field-0.0))
+
+pub returns-in_err-labels-clause-later : goal.returns-in_err-labels-clause-later
+returns-in_err-labels-clause-later g c =
+    let e = err_from_is_err_and c.from_residual-in_err-labels.result c.from_residual-in_err-labels.ensures.1 in
+    rw (e.1, e.2) (later_same c.args.proofs.now (fault_from_labels c.in_err-labels.field-0.0))
+
+pub returns-in_err-bound-clause-later : goal.returns-in_err-bound-clause-later
+returns-in_err-bound-clause-later g c =
+    let e = err_from_is_err_and c.from_residual-in_err-bound.result c.from_residual-in_err-bound.ensures.1 in
+    rw (e.1, e.2) (later_sum _ _ c.in_err-bound.field-0.0 c.in_err-bound.ensures.later)
+
+pub returns-in_err-proved-clause-later : goal.returns-in_err-proved-clause-later
+returns-in_err-proved-clause-later g c =
+    let e = err_from_is_err_and c.from_residual-in_err-proved.result c.from_residual-in_err-proved.ensures.1 in
+    rw (e.1, e.2) tt
+
+pub returns-in_err-page-clause-later : goal.returns-in_err-page-clause-later
+returns-in_err-page-clause-later g c =
+    let e = err_from_is_err_and c.from_residual-in_err-page.result c.from_residual-in_err-page.ensures.1 in
+    rw (e.1, e.2) (later_page _ _ c.in_err-page.field-0.0)
