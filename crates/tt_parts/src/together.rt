@@ -10,7 +10,7 @@ use tt_instance::Instance;
 use tt_leaf::Bound;
 use tt_proof_sum::{SumStop, sum_proofs};
 use tt_stop::Stop;
-use tt_text::Memory;
+use tt_text_memory::Memory;
 use tt_text_peek::Peeked;
 
 /// The number of bytes of a proof that are read at once.

@@ -2,10 +2,10 @@
 
 ghost use Rattle.std.specs.Prelude.{◌≡◌, ◌<◌, ℕ, List, Bool, false, Some};
 ghost use Rattle.std.specs.declared.option.Option.{Option};
-ghost use Rattle.tt_text.specs.Sources.{Rest};
+ghost use Rattle.tt_text_memory.specs.Memories.{Rest};
 
-use crate::source::{ReadFailed, Source};
 use std::marker::Model;
+use tt_text::{ReadFailed, Source};
 
 /// A text in memory that is given in pieces of one size. No read of it fails, whoever reads it: `has_failed` is never true.
 #[derive(Drop)]
@@ -16,7 +16,7 @@ pub struct Memory<'a> {
 
 impl<'a> Model for Memory<'a> {
     ghost use Rattle.std.specs.Prelude.{◌<◌};
-    ghost use Rattle.tt_text.specs.Sources.{Rest};
+    ghost use Rattle.tt_text_memory.specs.Memories.{Rest};
 
     ghost Value = { Rest };
 
