@@ -8,7 +8,7 @@ ghost use Rattle.tt_stay.specs.Staying.{IsNear};
 use crate::weight::{Weight, weigh};
 use std::alloc::{AllocError, Global};
 use tt_instance::Instance;
-use tt_stay_search::{Search, search_near};
+use tt_stay_search::{Guide, Homes, Prices, Search, search_near};
 use tt_table::Timetable;
 use tt_watch::Watch;
 
@@ -21,10 +21,10 @@ pub struct Near {
 
 /// Searches in this many runs, each from the timetable that the run before it found and with the seed counted up. No run begins once the watch
 /// has ended the search.
-fn search_in_runs<W: Watch>(
+pub fn search_in_runs<P: Prices, W: Watch>(
     alloc: Global,
     instance: &Instance<'_>,
-    older: &Timetable,
+    guide: &Guide<'_, P>,
     start: Timetable,
     search: Search,
     watch: &mut W,
@@ -41,7 +41,7 @@ fn search_in_runs<W: Watch>(
             seed: search.seed.wrapping_add(run),
             ..search
         };
-        table = search_near(alloc, instance, older.entries(), table, next, watch)?;
+        table = search_near(alloc, instance, guide, table, next, watch)?;
     }
     Ok(table)
 }
@@ -65,7 +65,12 @@ pub fn improve_near<W: Watch>(
         weight: weigh(alloc, instance, older, &start)?,
         table: start.copy()?,
     };
-    let table = search_in_runs(alloc, instance, older, start, search, watch)?;
+    let homes = Homes::new(alloc, instance, older.entries(), search.stay)?;
+    let guide = Guide {
+        older: older.entries(),
+        prices: &homes,
+    };
+    let table = search_in_runs(alloc, instance, &guide, start, search, watch)?;
     let found = Near {
         weight: weigh(alloc, instance, older, &table)?,
         table,

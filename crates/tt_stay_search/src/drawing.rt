@@ -2,7 +2,7 @@
 
 ghost use Rattle.std.specs.Prelude.{◌≡◌, map};
 
-use crate::homes::Homes;
+use crate::prices::{Prices, Shift};
 use tt_moves::{Step, apply, can_step, change};
 use tt_occupancy::Occupied;
 use tt_plans_odds::Dice;
@@ -17,6 +17,13 @@ const HARD: i64 = 1_000;
 /// The unit of a heat: so many units make a cost point, and as many units of a wait a nat.
 const UNIT: i64 = 1_024;
 
+/// What guides the draws: the older timetable, and the prices of places.
+#[derive(Drop)]
+pub struct Guide<'o, P> {
+    pub older: &'o [Entry],
+    pub prices: &'o P,
+}
+
 /// Returns a random place for an entry.
 fn random_place(occupied: &Occupied<'_, '_>, entry: Entry, dice: &mut Dice) -> Entry {
     let instance = occupied.instance();
@@ -28,21 +35,23 @@ fn random_place(occupied: &Occupied<'_, '_>, entry: Entry, dice: &mut Dice) -> E
     }
 }
 
-/// Returns the place to which an entry is to go: mostly a random one, and at times that of the older timetable.
-fn drawn_place(
+/// Returns the place to which an entry is to go: at times that of the older timetable, and mostly a random one, or the one that the prices make
+/// of it.
+fn drawn_place<P: Prices>(
     occupied: &Occupied<'_, '_>,
-    older: &[Entry],
+    guide: &Guide<'_, P>,
     index: u32,
     entry: Entry,
     dice: &mut Dice,
 ) -> Entry {
     if dice.below(DRAWS_HOME) == 0
-        && let Some(home) = older.get(index as usize)
+        && let Some(home) = guide.older.get(index as usize)
         && home.course == entry.course
     {
         return *home;
     }
-    random_place(occupied, entry, dice)
+    let place = random_place(occupied, entry, dice);
+    guide.prices.wanted(place, dice)
 }
 
 /// Returns the number of the first entry in the room and the period of a place.
@@ -71,51 +80,55 @@ fn at_place(entry: Entry, place: Entry) -> Entry {
 }
 
 /// Draws a step: an entry goes to a place, and one that is there takes its place.
-fn draw_step(
+fn draw_step<P: Prices>(
     occupied: &Occupied<'_, '_>,
-    homes: &Homes,
-    older: &[Entry],
+    guide: &Guide<'_, P>,
     dice: &mut Dice,
 ) -> Option<Draw> {
     let entries = occupied.table().entries();
     let index = dice.below(entries.len() as u32);
     let entry = *entries.get(index as usize)?;
-    let place = drawn_place(occupied, older, index, entry, dice);
-    let gained = homes.price(place).saturating_sub(homes.price(entry));
-    if let Some(other) = entry_in(entries, place) {
-        let there = *entries.get(other as usize)?;
-        let moved = homes.price(at_place(there, entry));
+    let place = drawn_place(occupied, guide, index, entry, dice);
+    let shift = Shift {
+        from: entry,
+        to: place,
+    };
+    let Some(other) = entry_in(entries, place) else {
         return Some(Draw {
-            step: Step::Swap {
-                first: index,
-                second: other,
+            step: Step::Move {
+                entry: index,
+                room: place.room,
+                day: place.day,
+                period: place.period,
             },
-            price: gained.saturating_add(moved.saturating_sub(homes.price(there))),
+            price: guide.prices.added(entries, shift, None),
         });
-    }
+    };
+    let there = *entries.get(other as usize)?;
+    let back = Shift {
+        from: there,
+        to: at_place(there, entry),
+    };
     Some(Draw {
-        step: Step::Move {
-            entry: index,
-            room: place.room,
-            day: place.day,
-            period: place.period,
+        step: Step::Swap {
+            first: index,
+            second: other,
         },
-        price: gained,
+        price: guide.prices.added(entries, shift, Some(back)),
     })
 }
 
 /// Draws a step, and makes it if what it adds is below a limit that is drawn by the heat. Returns what it adds.
-pub fn try_draw(
+pub fn try_draw<P: Prices>(
     occupied: &mut Occupied<'_, '_>,
-    homes: &Homes,
-    older: &[Entry],
+    guide: &Guide<'_, P>,
     dice: &mut Dice,
     heat: i64,
 ) -> i64
     ensures problem { occupied.new.problem ≡ occupied.old.problem }
     ensures courses { map (λ e. e.course) occupied.new.entries ≡ map (λ e. e.course) occupied.old.entries }
 {
-    let Some(Draw { step, price }) = draw_step(occupied, homes, older, dice) else {
+    let Some(Draw { step, price }) = draw_step(occupied, guide, dice) else {
         return 0;
     };
     if !can_step(occupied, step) {

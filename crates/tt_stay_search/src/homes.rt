@@ -1,8 +1,10 @@
 //! The places of the older timetable.
 
+use crate::prices::{Prices, Shift};
 use crate::stay::Stay;
 use std::alloc::{AllocError, Global};
 use tt_instance::Instance;
+use tt_plans_odds::Dice;
 use tt_table::Entry;
 
 /// Where the lectures of each course were, and what it costs to leave these places.
@@ -55,7 +57,7 @@ impl Homes {
     }
 
     /// Returns the price of an entry's place.
-    pub fn price(&self, entry: Entry) -> i64 {
+    fn price(&self, entry: Entry) -> i64 {
         let room = self.rooms.get(self.place_of(entry)).copied().unwrap_or(0);
         if room == 0 {
             i64::from(self.stay.period)
@@ -64,5 +66,24 @@ impl Homes {
         } else {
             i64::from(self.stay.room)
         }
+    }
+
+    /// Returns what an entry that goes to another place adds to the prices.
+    fn gained(&self, shift: Shift) -> i64 {
+        self.price(shift.to).saturating_sub(self.price(shift.from))
+    }
+}
+
+impl Prices for Homes {
+    fn added(&self, _entries: &[Entry], shift: Shift, back: Option<Shift>) -> i64 {
+        let other = match back {
+            Some(back) => self.gained(back),
+            None => 0,
+        };
+        self.gained(shift).saturating_add(other)
+    }
+
+    fn wanted(&self, place: Entry, _dice: &mut Dice) -> Entry {
+        place
     }
 }

@@ -4,15 +4,15 @@ ghost use Rattle.std.specs.Prelude.{◌≡◌, IfOk, OnOk, map};
 ghost use Rattle.tt_table.specs.Table.{IsTimetable};
 ghost use Rattle.tt_stay_search.specs.Rearranged.{IsRearranged};
 
-use crate::drawing::try_draw;
-use crate::homes::Homes;
+use crate::drawing::{Guide, try_draw};
 use crate::nearest::Nearest;
+use crate::prices::Prices;
 use crate::stay::Search;
 use std::alloc::{AllocError, Global};
 use tt_instance::Instance;
 use tt_occupancy::Occupied;
 use tt_plans_odds::Dice;
-use tt_table::{Entry, Timetable};
+use tt_table::Timetable;
 use tt_watch::{Progress, Unit, Watch};
 
 /// The number of draws of a step.
@@ -32,19 +32,12 @@ fn heat_of(made: u64, steps: u64) -> i64 {
     i64::try_from(heat).unwrap_or(0)
 }
 
-/// What a search draws from.
-#[derive(Drop)]
-struct Drawer<'o> {
-    homes: Homes,
-    older: &'o [Entry],
-    dice: Dice,
-}
-
 /// Makes the draws of a step, and keeps the best timetable.
-fn make_draws(
+fn make_draws<P: Prices>(
     occupied: &mut Occupied<'_, '_>,
     nearest: &mut Nearest,
-    drawer: &mut Drawer<'_>,
+    guide: &Guide<'_, P>,
+    dice: &mut Dice,
     heat: i64,
 ) -> Result<(), AllocError>
     requires { IsRearranged occupied.old.problem occupied.old.entries nearest.old.table }
@@ -53,13 +46,7 @@ fn make_draws(
     ensures table { OnOk result (IsRearranged occupied.old.problem occupied.old.entries nearest.new.table) }
 {
     for _ in 0..DRAWS {
-        let added = try_draw(
-            occupied,
-            &drawer.homes,
-            drawer.older,
-            &mut drawer.dice,
-            heat,
-        );
+        let added = try_draw(occupied, guide, dice, heat);
         nearest.keep(occupied, added)?;
     }
     Ok(())
@@ -81,10 +68,10 @@ fn tell<W: Watch>(watch: &mut W, made: u64, steps: u64) {
 }
 
 /// Searches from a timetable; the watch may end the search. Returns the best timetable that was found.
-pub fn search_near<W: Watch>(
+pub fn search_near<P: Prices, W: Watch>(
     alloc: Global,
     instance: &Instance<'_>,
-    older: &[Entry],
+    guide: &Guide<'_, P>,
     start: Timetable,
     search: Search,
     watch: &mut W,
@@ -92,12 +79,7 @@ pub fn search_near<W: Watch>(
     requires { IsTimetable instance.now start }
     ensures { IfOk result (IsRearranged instance.now start) }
 {
-    let Search {
-        seed,
-        steps,
-        stay,
-        ..
-    } = search;
+    let Search { seed, steps, .. } = search;
     let mut nearest = Nearest {
         table: start.copy()?,
         added: 0,
@@ -106,11 +88,7 @@ pub fn search_near<W: Watch>(
     let Ok(mut occupied) = Occupied::new(alloc, instance, start) else {
         return Err(AllocError);
     };
-    let mut drawer = Drawer {
-        homes: Homes::new(alloc, instance, older, stay)?,
-        older,
-        dice: Dice::new(alloc, seed)?,
-    };
+    let mut dice = Dice::new(alloc, seed)?;
     for made in 0..steps {
         if made % STEPS_BETWEEN == 0 {
             if watch.is_over() {
@@ -121,7 +99,8 @@ pub fn search_near<W: Watch>(
         make_draws(
             &mut occupied,
             &mut nearest,
-            &mut drawer,
+            guide,
+            &mut dice,
             heat_of(made, steps),
         )?;
     }

@@ -52,6 +52,13 @@ fn is_kept(entries: &[Entry], wish: &Wish) -> bool
     }
 }
 
+/// Returns whether a timetable keeps a wish.
+pub fn keeps(table: &Timetable, wish: &Wish) -> bool
+    ensures { result ≡ is_kept table.now wish.now }
+{
+    is_kept(table.entries(), wish)
+}
+
 /// Counts the wishes that the entries break.
 fn count_broken(entries: &[Entry], wishes: &[Wish]) -> usize
     ensures value { result ≡ broken_wishes entries.now wishes.now }

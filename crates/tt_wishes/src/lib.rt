@@ -16,7 +16,7 @@ mod words;
 pub use facts::list_facts;
 pub use fault::WishesFault;
 pub use format::MAX_WISHES;
-pub use keeping::broken_wishes;
+pub use keeping::{broken_wishes, keeps};
 pub use laws::wishes_are_facts;
 pub use reading::read_wishes;
 pub use rooms::RoomList;

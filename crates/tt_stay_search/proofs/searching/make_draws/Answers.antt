@@ -3,13 +3,13 @@ use Rattle.tt_stay_search.proofs.Rearranging.{rearranged_on}
 use Rattle.tt_stay_search.proofs.searching.make_draws.Goals as goal
 
 pub keep-requires : goal.keep-requires
-keep-requires c =
+keep-requires g c =
     let drawn = c.try_draw-added.ensures in
     let invariant = c.loop.invariant in
     rearranged_on _ _ _ _ _ (drawn.problem ∙ invariant.problem) (drawn.courses ∙ invariant.courses) invariant.table
 
 pub loop-preserved : goal.loop-preserved
-loop-preserved c =
+loop-preserved g c =
     let drawn = c.try_draw-added.ensures in
     let invariant = c.loop.invariant in
     let problem = drawn.problem ∙ invariant.problem in

@@ -3,7 +3,7 @@ use Rattle.tt_stay_search.specs.Rearranged.{IsRearranged}
 use Rattle.tt_stay_search.proofs.searching.make_draws.Given as goal
 
 abbrev pub invariant-loop : goal.invariant-loop
-invariant-loop l = record {
+invariant-loop g l = record {
   problem : l.occupied.problem ≡ l.initial.occupied.problem;
   courses : map (λ e. e.course) l.occupied.entries ≡ map (λ e. e.course) l.initial.occupied.entries;
   table : IsRearranged l.initial.occupied.problem l.initial.occupied.entries l.nearest.table;

@@ -1,0 +1,41 @@
+-- Timetables that are better than another one, if broken wishes count as broken hard rules do.
+use Rattle.std.specs.Prelude.{◌≡◌, ◌×◌, ℕ, ◌+◌, ◌<◌, ◌⊎◌, Bool, true, not, ◌||◌, List}
+use Rattle.std.specs.List.{list_all}
+use Rattle.tt_instance.specs.Problem.{Problem}
+use Rattle.tt_instance.specs.declared.cell.Cell.{Cell}
+use Rattle.tt_wishes.specs.Wishes.{broken_wishes, is_kept}
+use Rattle.tt_wishes.specs.declared.wish.Wish.{Wish}
+use Rattle.tt_stay_search.specs.Rearranged.{IsRearranged}
+use Rattle.tt_stay_search.specs.declared.stay.Stay.{Stay}
+use Rattle.tt_stay.specs.Staying.{IsWeight, total}
+use Rattle.tt_wishes_search.specs.declared.searching.Wished.{Wished}
+use Rattle.tt_wishes_search.specs.declared.weight.WishedWeight.{WishedWeight}
+
+-- Whether the second timetable keeps each wish that the first one keeps.
+abbrev pub stays_kept : List Cell → List Cell → List Wish → Bool
+stays_kept t u ws = list_all (λ w. not (is_kept t w) || is_kept u w) ws
+
+-- The weight of a timetable: that near the older one, and the number of wishes that it breaks.
+pub record IsWishedWeight (p : Problem) (ws : List Wish) (old t : List Cell) (w : WishedWeight) : Type 0 where
+  pub weight : IsWeight p old t w.weight
+  pub wishes : w.wishes ≡ broken_wishes t ws
+
+-- The number of broken hard rules and wishes.
+abbrev pub broken : WishedWeight → ℕ
+broken w = w.weight.hard + w.wishes
+
+-- The cost and the prices of the lectures that left their places.
+abbrev pub total_of : Stay → WishedWeight → ℕ
+total_of s w = total s w.weight.cost w.weight.moved w.weight.rooms
+
+-- Fewer hard rules and wishes are broken, or equally many at a lower total.
+abbrev pub IsLower : Stay → WishedWeight → WishedWeight → Type 0
+IsLower s v w = (broken v < broken w) ⊎ ((broken v ≡ broken w) × (total_of s v < total_of s w))
+
+-- A timetable with its weight: its entries are those of the timetable from which the search started, it keeps each wish that that one keeps, and
+-- that one has no lower weight.
+pub record IsWished (p : Problem) (ws : List Wish) (start : List Cell) (s : Stay) (n : Wished) : Type 0 where
+  pub entries : IsRearranged p start n.table
+  pub kept : stays_kept start n.table ws ≡ true
+  pub weight : IsWishedWeight p ws start n.table n.weight
+  pub no_worse : (first : WishedWeight) → IsWishedWeight p ws start start first → IsLower s first n.weight → ⊥

@@ -1,0 +1,14 @@
+//! Timetables that are better if broken wishes count as broken hard rules do.
+#![tactic(auto)]
+
+mod holds;
+mod kept;
+mod places;
+mod prices;
+mod searching;
+mod weight;
+
+pub use kept::keeps_all_kept;
+pub use searching::{Wished, improve_wished};
+pub use tt_stay::{Search, Stay};
+pub use weight::WishedWeight;

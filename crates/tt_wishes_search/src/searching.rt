@@ -1,0 +1,78 @@
+//! The improvement under wishes.
+
+ghost use Rattle.std.specs.Prelude.{IfOk};
+ghost use Rattle.tt_table.specs.Table.{IsTimetable};
+ghost use Rattle.tt_stay_search.specs.Rearranged.{IsRearranged};
+ghost use Rattle.tt_wishes_search.specs.Wished.{IsWished};
+
+use crate::kept::keeps_all_kept;
+use crate::prices::WishPrices;
+use crate::weight::{WishedWeight, weigh_wished};
+use std::alloc::{AllocError, Global};
+use tt_instance::Instance;
+use tt_stay::{Search, search_in_runs};
+use tt_stay_search::{Guide, Homes};
+use tt_table::Timetable;
+use tt_watch::Watch;
+use tt_wishes::Wish;
+
+/// A timetable, and its weight.
+#[derive(Drop)]
+pub struct Wished {
+    pub table: Timetable,
+    pub weight: WishedWeight,
+}
+
+/// Searches for a timetable that breaks fewer hard rules and wishes, or equally many at a lower total.
+fn search<W: Watch>(
+    alloc: Global,
+    instance: &Instance<'_>,
+    wishes: &[Wish],
+    start: Timetable,
+    search: Search,
+    watch: &mut W,
+) -> Result<Timetable, AllocError>
+    requires { IsTimetable instance.now start }
+    ensures { IfOk result (IsRearranged instance.now start) }
+{
+    let older = start.copy()?;
+    let homes = Homes::new(alloc, instance, older.entries(), search.stay)?;
+    let prices = WishPrices::new(alloc, instance, wishes, &older, homes)?;
+    let guide = Guide {
+        older: older.entries(),
+        prices: &prices,
+    };
+    search_in_runs(alloc, instance, &guide, start, search, watch)
+}
+
+/// Searches from a timetable for one with a lower weight: fewer broken hard rules and wishes, or equally many and a lower total of the cost and of
+/// the prices of the lectures that left their places in it. It keeps each wish that the first timetable keeps. The same seed gives the same
+/// result on every machine, unless the watch ends the search. It is not proved that the result is mostly better.
+pub fn improve_wished<W: Watch>(
+    alloc: Global,
+    instance: &Instance<'_>,
+    wishes: &[Wish],
+    start: Timetable,
+    asked: Search,
+    watch: &mut W,
+) -> Result<Wished, AllocError>
+    requires { IsTimetable instance.now start }
+    ensures { IfOk result (IsWished instance.now wishes.now start asked.stay) }
+{
+    let older = start.copy()?;
+    let first = Wished {
+        weight: weigh_wished(alloc, instance, wishes, &older, &start)?,
+        table: start.copy()?,
+    };
+    let table = search(alloc, instance, wishes, start, asked, watch)?;
+    let found = Wished {
+        weight: weigh_wished(alloc, instance, wishes, &older, &table)?,
+        table,
+    };
+    if found.weight.is_below(first.weight, asked.stay)
+        && keeps_all_kept(&older, &found.table, wishes)
+    {
+        return Ok(found);
+    }
+    Ok(first)
+}
