@@ -9,6 +9,7 @@ use Rattle.tt_stay_search.specs.Rearranged.{IsRearranged}
 use Rattle.tt_stay_search.specs.declared.stay.Stay.{Stay}
 use Rattle.tt_stay.specs.Staying.{IsWeight, total}
 use Rattle.tt_wishes_search.specs.declared.searching.Wished.{Wished}
+use Rattle.tt_wishes_search.specs.declared.weight.Basis.{Basis}
 use Rattle.tt_wishes_search.specs.declared.weight.WishedWeight.{WishedWeight}
 
 -- Whether the second timetable keeps each wish that the first one keeps.
@@ -34,8 +35,8 @@ IsLower s v w = (broken v < broken w) ⊎ ((broken v ≡ broken w) × (total_of 
 
 -- A timetable with its weight: its entries are those of the timetable from which the search started, it keeps each wish that that one keeps, and
 -- that one has no lower weight.
-pub record IsWished (p : Problem) (ws : List Wish) (start : List Cell) (s : Stay) (n : Wished) : Type 0 where
+pub record IsWished (p : Problem) (b : Basis) (start : List Cell) (s : Stay) (n : Wished) : Type 0 where
   pub entries : IsRearranged p start n.table
-  pub kept : stays_kept start n.table ws ≡ true
-  pub weight : IsWishedWeight p ws start n.table n.weight
-  pub no_worse : (first : WishedWeight) → IsWishedWeight p ws start start first → IsLower s first n.weight → ⊥
+  pub kept : stays_kept start n.table b.wishes.now ≡ true
+  pub weight : IsWishedWeight p b.wishes.now b.older.now n.table n.weight
+  pub no_worse : (first : WishedWeight) → IsWishedWeight p b.wishes.now b.older.now start first → IsLower s first n.weight → ⊥

@@ -7,14 +7,13 @@ ghost use Rattle.tt_wishes_search.specs.Wished.{IsWished};
 
 use crate::kept::keeps_all_kept;
 use crate::prices::WishPrices;
-use crate::weight::{WishedWeight, weigh_wished};
+use crate::weight::{Basis, WishedWeight, weigh_wished};
 use std::alloc::{AllocError, Global};
 use tt_instance::Instance;
 use tt_stay::{Search, search_in_runs};
 use tt_stay_search::{Guide, Homes};
 use tt_table::Timetable;
 use tt_watch::Watch;
-use tt_wishes::Wish;
 
 /// A timetable, and its weight.
 #[derive(Drop)]
@@ -24,53 +23,53 @@ pub struct Wished {
 }
 
 /// Searches for a timetable that breaks fewer hard rules and wishes, or equally many at a lower total.
-fn search<W: Watch>(
+fn search_priced<W: Watch>(
     alloc: Global,
     instance: &Instance<'_>,
-    wishes: &[Wish],
+    basis: Basis<'_>,
     start: Timetable,
-    search: Search,
+    asked: Search,
     watch: &mut W,
 ) -> Result<Timetable, AllocError>
     requires { IsTimetable instance.now start }
     ensures { IfOk result (IsRearranged instance.now start) }
 {
-    let older = start.copy()?;
-    let homes = Homes::new(alloc, instance, older.entries(), search.stay)?;
-    let prices = WishPrices::new(alloc, instance, wishes, &older, homes)?;
+    let older = basis.older.entries();
+    let homes = Homes::new(alloc, instance, older, asked.stay)?;
+    let prices = WishPrices::new(alloc, instance, basis.wishes, &start, homes)?;
     let guide = Guide {
-        older: older.entries(),
+        older,
         prices: &prices,
     };
-    search_in_runs(alloc, instance, &guide, start, search, watch)
+    search_in_runs(alloc, instance, &guide, start, asked, watch)
 }
 
 /// Searches from a timetable for one with a lower weight: fewer broken hard rules and wishes, or equally many and a lower total of the cost and of
-/// the prices of the lectures that left their places in it. It keeps each wish that the first timetable keeps. The same seed gives the same
-/// result on every machine, unless the watch ends the search. It is not proved that the result is mostly better.
+/// the prices of the lectures that left their places in the older timetable. It keeps each wish that the first timetable keeps. The same seed
+/// gives the same result on every machine, unless the watch ends the search. It is not proved that the result is mostly better.
 pub fn improve_wished<W: Watch>(
     alloc: Global,
     instance: &Instance<'_>,
-    wishes: &[Wish],
+    basis: Basis<'_>,
     start: Timetable,
     asked: Search,
     watch: &mut W,
 ) -> Result<Wished, AllocError>
-    requires { IsTimetable instance.now start }
-    ensures { IfOk result (IsWished instance.now wishes.now start asked.stay) }
+    requires older { IsTimetable instance.now basis.older.now }
+    requires start { IsTimetable instance.now start }
+    ensures { IfOk result (IsWished instance.now basis start asked.stay) }
 {
-    let older = start.copy()?;
     let first = Wished {
-        weight: weigh_wished(alloc, instance, wishes, &older, &start)?,
+        weight: weigh_wished(alloc, instance, basis, &start)?,
         table: start.copy()?,
     };
-    let table = search(alloc, instance, wishes, start, asked, watch)?;
+    let table = search_priced(alloc, instance, basis, start, asked, watch)?;
     let found = Wished {
-        weight: weigh_wished(alloc, instance, wishes, &older, &table)?,
+        weight: weigh_wished(alloc, instance, basis, &table)?,
         table,
     };
     if found.weight.is_below(first.weight, asked.stay)
-        && keeps_all_kept(&older, &found.table, wishes)
+        && keeps_all_kept(&first.table, &found.table, basis.wishes)
     {
         return Ok(found);
     }

@@ -32,20 +32,26 @@ impl WishedWeight {
     }
 }
 
+/// What a timetable is weighed by: wishes, and an older timetable.
+#[derive(Clone, Copy)]
+pub struct Basis<'a> {
+    pub wishes: &'a [Wish],
+    pub older: &'a Timetable,
+}
+
 /// Returns the weight of a timetable.
 pub fn weigh_wished(
     alloc: Global,
     instance: &Instance<'_>,
-    wishes: &[Wish],
-    older: &Timetable,
+    basis: Basis<'_>,
     table: &Timetable,
 ) -> Result<WishedWeight, AllocError>
-    requires older { IsTimetable instance.now older.now }
+    requires older { IsTimetable instance.now basis.older.now }
     requires table { IsTimetable instance.now table.now }
-    ensures { IfOk result (IsWishedWeight instance.now wishes.now older.now table.now) }
+    ensures { IfOk result (IsWishedWeight instance.now basis.wishes.now basis.older.now table.now) }
 {
     Ok(WishedWeight {
-        weight: weigh(alloc, instance, older, table)?,
-        wishes: broken_wishes(table, wishes),
+        weight: weigh(alloc, instance, basis.older, table)?,
+        wishes: broken_wishes(table, basis.wishes),
     })
 }
