@@ -11,4 +11,5 @@ pub use tt_call_searches::{
 pub use tt_call_texts::{
     PageNames, WeekTimes, calendar, inspect, page, proved_page, report, table,
 };
+pub use tt_call_wished::{WishedFault, WishedFiles, improve_under_wishes};
 pub use tt_call_wishes::{ValidateFault, validate_wishes};

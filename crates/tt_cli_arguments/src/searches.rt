@@ -43,6 +43,8 @@ pub struct ImproveRequest<'a> {
     pub instance: &'a str,
     pub solution: &'a str,
     pub out: &'a str,
+    /// What the timetable is to keep besides the hard rules, if that is given.
+    pub wishes: Option<&'a str>,
     pub search: Search,
     pub showing: Showing,
 }
@@ -173,6 +175,14 @@ const STAY: Argument<'static> = Argument {
     condition: Some(Condition::ConflictsWith(&["keep"])),
 };
 
+/// What the timetable is to keep besides the hard rules.
+const KEPT_WISHES: Argument<'static> = Argument {
+    id: "wishes",
+    form: Form::Value("WISHES"),
+    help: "What the timetable is to keep besides the hard rules, as validate takes it; a broken wish counts as a broken hard rule",
+    condition: Some(Condition::ConflictsWith(&["keep"])),
+};
+
 /// The proof that is written.
 const NEW_PROOF: Argument<'static> = Argument {
     id: "PROOF",
@@ -187,7 +197,19 @@ pub const IMPROVE: Description<'static> = Description {
     about: "Searches from a solution, and writes a timetable that is no worse",
     example: "Example: tt improve week.ctt week.sol better.sol --steps 100000",
     arguments: &[
-        INSTANCE, SOLUTION, OUT, SEED, STEPS, RUNS, TIME, KEEP, COMPLETE, DROP, STAY, PROGRESS,
+        INSTANCE,
+        SOLUTION,
+        OUT,
+        SEED,
+        STEPS,
+        RUNS,
+        TIME,
+        KEEP,
+        COMPLETE,
+        DROP,
+        STAY,
+        KEPT_WISHES,
+        PROGRESS,
         QUIET,
     ],
 };
@@ -228,6 +250,7 @@ pub fn improve_request<'a>(found: &ArgMatches<'a>) -> Option<Request<'a>> {
         instance: found.get_str("INSTANCE")?,
         solution: found.get_str("SOLUTION")?,
         out: found.get_str("OUT")?,
+        wishes: found.get_str("wishes"),
         search: search_of(found)?,
         showing: showing_of(found),
     }))

@@ -6,6 +6,7 @@ use std::io;
 use thiserror::Error;
 use tt_call_answers::AppFault;
 use tt_call_changes::ChangesFault;
+use tt_call_wished::WishedFault;
 use tt_call_wishes::ValidateFault;
 use tt_cli_files::WriteFault;
 
@@ -20,6 +21,8 @@ pub enum CommandFault {
     Changes(ChangesFault),
     #[error("{0}")]
     Wishes(ValidateFault),
+    #[error("{0}")]
+    Wished(WishedFault),
     /// A call was refused since the file of this path couldn't be read.
     #[error("{fault}: {path}: {reason}")]
     Unread {
@@ -60,6 +63,12 @@ impl From<ChangesFault> for CommandFault {
 impl From<ValidateFault> for CommandFault {
     fn from(fault: ValidateFault) -> CommandFault {
         CommandFault::Wishes(fault)
+    }
+}
+
+impl From<WishedFault> for CommandFault {
+    fn from(fault: WishedFault) -> CommandFault {
+        CommandFault::Wished(fault)
     }
 }
 

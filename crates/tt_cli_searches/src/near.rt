@@ -17,7 +17,7 @@ use tt_watch::Watch;
 const ROOM_PART: u32 = 5;
 
 /// Returns the prices for the price of a lecture that leaves its period.
-fn prices(period: u32) -> Stay {
+pub fn prices(period: u32) -> Stay {
     Stay {
         period,
         room: period.div_ceil(ROOM_PART),

@@ -1,5 +1,5 @@
 pub mod Examples
+mod Clocks
 mod Days
 mod Fields
 mod Lines
-mod Times

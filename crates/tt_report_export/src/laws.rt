@@ -1,6 +1,6 @@
 //! What readers of tables and calendars take for names.
 
-ghost use Rattle.std.specs.Prelude.{◌≡◌, ◌×◌, ◌++◌, ◌<◌, ℕ, List, false};
+ghost use Rattle.std.specs.Prelude.{◌≡◌, ◌++◌, ◌<◌, ℕ, List, false};
 ghost use Rattle.std.specs.List.{All};
 ghost use Rattle.tt_report_export.specs.Calendars.{shown};
 ghost use Rattle.tt_report_export.specs.Tables.{begins_with, quoted};

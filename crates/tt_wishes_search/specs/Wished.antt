@@ -1,5 +1,5 @@
 -- Timetables that are better than another one, if broken wishes count as broken hard rules do.
-use Rattle.std.specs.Prelude.{◌≡◌, ◌×◌, ℕ, ◌+◌, ◌<◌, ◌⊎◌, Bool, true, not, ◌||◌, List}
+use Rattle.std.specs.Prelude.{◌≡◌, ℕ, ◌+◌, ◌<◌, ◌⊎◌, Bool, true, not, ◌||◌, List}
 use Rattle.std.specs.List.{list_all}
 use Rattle.tt_instance.specs.Problem.{Problem}
 use Rattle.tt_instance.specs.declared.cell.Cell.{Cell}

@@ -1,23 +1,49 @@
 //! The files of `improve`.
 
 use crate::dropping::drop_and_list;
-use crate::near::improve_priced;
+use crate::near::{improve_priced, prices};
 use crate::saving::kept_table;
+use std::alloc::Global;
 use std::io::Write;
-use tt_call_answers::{Answer, AppFault};
+use tt_call_answers::Answer;
 use tt_call_searches::{ImproveSearch, improve};
+use tt_call_wished::{Search as WishedSearch, WishedFiles, improve_under_wishes};
 use tt_cli_arguments::{ImproveRequest, Search};
 use tt_cli_files::{Batch, Role};
 use tt_cli_saving::{
-    CommandFault, Input, Inputs, Keeper, NoShelf, Prepared, Reply, Target, Ticker, World,
-    reply_with, ticker_of,
+    CommandFault, Input, InputFile, Inputs, Keeper, NoShelf, Prepared, Reply, Target, Ticker,
+    World, reply_with, ticker_of,
 };
+use tt_watch::Watch;
 
-/// The bytes of an instance and of the solution from which a search begins.
+/// The bytes of an instance, of the solution from which a search begins, and of wishes, if there are any.
 #[derive(Clone, Copy)]
 struct Start<'a> {
     instance: &'a [u8],
     solution: &'a [u8],
+    wishes: Option<&'a [u8]>,
+}
+
+/// Improves a timetable under wishes.
+fn improve_wished<W: Watch>(
+    alloc: Global,
+    start: Start<'_>,
+    wishes: &[u8],
+    search: Search,
+    watch: &mut W,
+) -> Result<Answer, CommandFault> {
+    let files = WishedFiles {
+        instance: start.instance,
+        solution: start.solution,
+        wishes,
+    };
+    let asked = WishedSearch {
+        seed: search.seed,
+        steps: search.steps,
+        runs: search.runs,
+        stay: prices(search.stay.unwrap_or(0)),
+    };
+    Ok(improve_under_wishes(alloc, files, asked, search.completes, watch)?)
 }
 
 /// Improves a timetable, shows the progress on standard error, and keeps timetables on the way if the options ask for it.
@@ -27,19 +53,20 @@ fn improve_shown<'k, R: World, E: Write>(
     start: Start<'k>,
     out: &'k mut Prepared<R::File>,
     search: Search,
-) -> Result<Answer, AppFault> {
+) -> Result<Answer, CommandFault> {
     let table = kept_table(rt.alloc(), start.instance, out, search.keeps, false);
     let mut keeper = Keeper::new(rt, ticker, search.seconds, table, NoShelf, false);
     let alloc = rt.alloc();
+    if let Some(wishes) = start.wishes {
+        return improve_wished(alloc, start, wishes, search, &mut keeper);
+    }
     if let Some(period) = search.stay {
-        return improve_priced(
-            alloc,
-            start.instance,
-            start.solution,
-            search,
-            period,
-            &mut keeper,
-        );
+        let Start {
+            instance,
+            solution,
+            ..
+        } = start;
+        return Ok(improve_priced(alloc, instance, solution, search, period, &mut keeper)?);
     }
     let Search {
         seed,
@@ -54,7 +81,18 @@ fn improve_shown<'k, R: World, E: Write>(
         runs,
         completes,
     };
-    improve(alloc, start.instance, start.solution, search, &mut keeper)
+    Ok(improve(alloc, start.instance, start.solution, search, &mut keeper)?)
+}
+
+/// Returns the bytes of a file, if there is one.
+fn read_if_given<R: World>(
+    rt: &R,
+    file: Option<InputFile<'_>>,
+) -> Result<Option<Vec<u8>>, CommandFault> {
+    match file {
+        Some(file) => Ok(Some(file.read(rt)?)),
+        None => Ok(None),
+    }
 }
 
 /// Returns the answer of `improve`, once the timetable is in its file.
@@ -66,6 +104,7 @@ pub fn answer_improve<R: World, E: Write>(
     let mut inputs = Inputs::new(rt.alloc());
     let instance = inputs.add(Input::Instance, request.instance)?;
     let solution = inputs.add(Input::Solution, request.solution)?;
+    let wishes = inputs.add_given(Input::Wishes, request.wishes)?;
     let target = Target {
         role: Role::Solution,
         path: request.out,
@@ -73,6 +112,7 @@ pub fn answer_improve<R: World, E: Write>(
     let out = target.find(rt, &inputs)?;
     let instance = instance.read(rt)?;
     let mut solution = solution.read(rt)?;
+    let wishes = read_if_given(rt, wishes)?;
     let mut out = out.prepare(rt)?;
     if request.search.drops {
         solution = drop_and_list(rt.alloc(), err, &instance, &solution)?;
@@ -80,6 +120,7 @@ pub fn answer_improve<R: World, E: Write>(
     let start = Start {
         instance: &instance,
         solution: &solution,
+        wishes: wishes.as_ref().map(|wishes| wishes.as_slice()),
     };
     let mut ticker = ticker_of(rt, err, "improve", request.showing);
     let answer = improve_shown(rt, &mut ticker, start, &mut out, request.search);
