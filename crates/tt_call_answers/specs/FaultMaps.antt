@@ -22,6 +22,8 @@ use Rattle.tt_report.specs.declared.fault.ReportFault.{ReportFault}
 use Rattle.tt_proof_sum.specs.Faults as sums
 use Rattle.tt_proof_sum.specs.declared.fault.FileFault.{FileFault}
 use Rattle.tt_report.specs.declared.fault.ReportFault.TheVariants as report
+use Rattle.tt_report_export.specs.declared.term.TermFault.{TermFault}
+use Rattle.tt_report_export.specs.declared.term.TermFault.TheVariants as term
 use Rattle.tt_call_answers.specs.declared.fault.AppFault.{AppFault}
 use Rattle.tt_call_answers.specs.declared.fault.AppFault.TheVariants as fault
 use Rattle.tt_proof_sum.specs.declared.fault.SumStop.{SumStop}
@@ -97,8 +99,7 @@ fault_at_file n OutOfMemory = fault.OutOfMemory
 abbrev pub fault_from_sum : SumStop → AppFault
 fault_from_sum s = fault_at_file s.file s.stop
 
--- whether the error is a refusal of dates and times
-abbrev pub IsNoTerm : AppFault → Type 0
-IsNoTerm (fault.Term f) = ⊤
-IsNoTerm fault.OutOfMemory = ⊤
-IsNoTerm _ = ⊥
+-- The fault of a call for a fault of dates and times.
+abbrev pub fault_from_term : TermFault → AppFault
+fault_from_term term.OutOfMemory = fault.OutOfMemory
+fault_from_term f = fault.Term f

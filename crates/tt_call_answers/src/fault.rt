@@ -82,9 +82,10 @@ impl From<CompleteFault> for AppFault {
 }
 
 impl From<TermFault> for AppFault {
-    ghost use Rattle.tt_call_answers.specs.FaultMaps.{IsNoTerm};
+    ghost use Rattle.std.specs.Prelude.{◌≡◌};
+    ghost use Rattle.tt_call_answers.specs.FaultMaps.{fault_from_term};
 
-    ghost from_gives = { λ _ e. IsNoTerm e };
+    ghost from_gives = { λ f e. e ≡ fault_from_term f };
 
     fn from(fault: TermFault) -> AppFault {
         match fault {

@@ -1,18 +1,23 @@
 -- The answers of `table` and `calendar` for the bytes of an instance and of a solution.
 use Rattle.std.specs.Prelude.{◌≡◌, ℕ, Bool, List, None, Some, Err, ⊤, slice_get}
 use Rattle.tt_instance.specs.Problem.{Problem}
+use Rattle.tt_instance.specs.Spelling.{Spells}
 use Rattle.tt_instance_read.specs.Reading.{instance_of}
 use Rattle.tt_instance.specs.declared.cell.Cell.{Cell}
 use Rattle.tt_table.specs.declared.kind.Kind.{Kind as By}
 use Rattle.tt_report_export.specs.Tables.{table_text}
 use Rattle.tt_report_export.specs.Calendars.{Term, calendar_text}
+use Rattle.tt_report_export.specs.Terms.{IsTermFrom}
+use Rattle.tt_report_export.specs.Times.{ExplainsTimes}
 use Rattle.tt_report_export.specs.Weeks.{IsWeekOf, names_by}
+use Rattle.tt_report_export.specs.declared.term.TermFault.{TermFault}
 use Rattle.tt_report_export.specs.declared.week.Week.{Week}
 use Rattle.tt_table.specs.Spelling.{SpellsBoth}
 use Rattle.tt_proof_check.specs.Verdicts.{FailsSolution}
 use Rattle.tt_call_answers.specs.declared.answer.Answer.{Answer}
 use Rattle.tt_call_answers.specs.declared.fault.AppFault.{AppFault}
 use Rattle.tt_call_answers.specs.declared.fault.AppFault.TheVariants as fault
+use Rattle.tt_call_texts.specs.declared.calls.calendar.WeekTimes.{WeekTimes}
 
 -- the answer is the table of the timetable, with formulas barred or not, and no file
 pub record IsTable (bars : Bool) (instance solution : List ℕ) (a : Answer) : Type 0 where
@@ -24,14 +29,19 @@ pub record IsTable (bars : Bool) (instance solution : List ℕ) (a : Answer) : T
   pub no_table : a.table ≡ None
   pub no_proof : a.proof ≡ None
 
--- the answer is the calendar of the week of this name, on the dates of some term, and no file
-pub record IsCalendar (instance solution : List ℕ) (by : By) (name : List ℕ) (a : Answer) : Type 0 where
+-- The term has the dates and times of a week for the instance's days and periods.
+abbrev pub IsTermOf : Problem → WeekTimes → Term → Type 0
+IsTermOf p times term = IsTermFrom times.first_day.now times.times.now p.days p.periods times.minutes times.weeks term
+
+-- the answer is the calendar of the week of this name, on these dates and at these times, and no file
+pub record IsCalendar (instance solution : List ℕ) (by : By) (name : List ℕ) (times : WeekTimes) (a : Answer) : Type 0 where
   pub problem : Problem
   pub table : List Cell
   pub week : Week
   pub term : Term
   pub both : SpellsBoth instance solution problem table
   pub named : IsWeekOf problem by name week
+  pub dated : IsTermOf problem times term
   pub text : a.out.items ≡ calendar_text problem table week term
   pub status : a.status ≡ 0
   pub no_table : a.table ≡ None
@@ -44,11 +54,23 @@ pub record HasNoName (instance solution : List ℕ) (by : By) (name : List ℕ) 
   pub both : SpellsBoth instance solution problem table
   pub unknown : (n : ℕ) → ¬ (slice_get (names_by problem by) n ≡ Some name)
 
+-- A refusal of dates and times: if it is about the times, it is so.
+abbrev pub IsTermFault : Problem → WeekTimes → AppFault → Type 0
+IsTermFault p times (fault.Term f) = ExplainsTimes times.times.now p.periods f
+IsTermFault p times fault.OutOfMemory = ⊤
+IsTermFault p times _ = ⊥
+
+-- the instance is spelled, and the times aren't those of its periods
+pub record HasNoTerm (instance times : List ℕ) (f : TermFault) : Type 0 where
+  pub problem : Problem
+  pub spelled : Spells instance problem
+  pub explained : ExplainsTimes times problem.periods f
+
 -- a refusal reports the first error: the instance's, then the solution's, then that of the name, then that of the dates and times
-abbrev pub IsCalendarRefusal : List ℕ → List ℕ → By → List ℕ → AppFault → Type 0
-IsCalendarRefusal instance solution by name (fault.Instance f) = instance_of instance ≡ Err f
-IsCalendarRefusal instance solution by name (fault.Solution f) = FailsSolution instance solution f
-IsCalendarRefusal instance solution by name fault.UnknownName = HasNoName instance solution by name
-IsCalendarRefusal instance solution by name (fault.Term f) = ⊤
-IsCalendarRefusal instance solution by name fault.OutOfMemory = ⊤
-IsCalendarRefusal instance solution by name _ = ⊥
+abbrev pub IsCalendarRefusal : List ℕ → List ℕ → By → List ℕ → WeekTimes → AppFault → Type 0
+IsCalendarRefusal instance solution by name times (fault.Instance f) = instance_of instance ≡ Err f
+IsCalendarRefusal instance solution by name times (fault.Solution f) = FailsSolution instance solution f
+IsCalendarRefusal instance solution by name times fault.UnknownName = HasNoName instance solution by name
+IsCalendarRefusal instance solution by name times (fault.Term f) = HasNoTerm instance times.times.now f
+IsCalendarRefusal instance solution by name times fault.OutOfMemory = ⊤
+IsCalendarRefusal instance solution by name times _ = ⊥

@@ -1,8 +1,7 @@
 //! The call `calendar`.
 
 ghost use Rattle.std.specs.Prelude.{IfOk, IfErr};
-ghost use Rattle.tt_call_texts.specs.Exported.{IsCalendar, IsCalendarRefusal};
-ghost use Rattle.tt_call_answers.specs.FaultMaps.{IsNoTerm};
+ghost use Rattle.tt_call_texts.specs.Exported.{IsCalendar, IsCalendarRefusal, IsTermFault, IsTermOf};
 
 use std::alloc::Global;
 use tt_call_answers::{Answer, AppFault};
@@ -27,7 +26,8 @@ pub struct WeekTimes<'a> {
 
 /// Returns the dates and times of an instance's days and periods.
 fn term_of(alloc: Global, instance: &Instance<'_>, times: WeekTimes<'_>) -> Result<Term, AppFault>
-    ensures { IfErr result IsNoTerm }
+    ensures term { IfOk result (IsTermOf instance.now times) }
+    ensures fault { IfErr result (IsTermFault instance.now times) }
 {
     let sizes = (instance.days(), instance.periods());
     let WeekTimes {
@@ -50,9 +50,9 @@ pub fn calendar(
     name: &[u8],
     times: WeekTimes<'_>,
 ) -> Result<Answer, AppFault>
-    ensures found { IfOk result (IsCalendar instance.now solution.now by name.now) }
+    ensures found { IfOk result (IsCalendar instance.now solution.now by name.now times) }
     // A refusal reports the first error: that of a file, then an unknown name, then the dates and times.
-    ensures fault { IfErr result (IsCalendarRefusal instance.now solution.now by name.now) }
+    ensures fault { IfErr result (IsCalendarRefusal instance.now solution.now by name.now times) }
 {
     let instance = read_instance(alloc, instance)?;
     let table = read_solution(alloc, &instance, solution)?;
