@@ -4,6 +4,7 @@ use Rattle.std.specs.Prelude.{codes, flat_map, encode_utf8}
 use Rattle.tt_report_export.specs.Tables.{field}
 use Rattle.tt_report_export.specs.Calendars.{escaped}
 use Rattle.tt_report_export.specs.Folding.{folded}
+use Rattle.tt_report_export.specs.Times.{between_commas}
 
 -- a name that tries to end its field
 quote_inside : field false (codes "a\",b") ≡ codes "\"a\"\",b\","
@@ -28,3 +29,7 @@ folded_at_two = refl
 -- a character of two bytes in a line with one byte left
 character_in_one_line : folded 1 (195 ∷ 164 ∷ []) ≡ codes "\r\n " ++ 195 ∷ 164 ∷ []
 character_in_one_line = refl
+
+-- the times between the commas of a text
+two_times : between_commas (codes "8:00,09:15") ≡ codes "8:00" ∷ codes "09:15" ∷ []
+two_times = refl

@@ -1,19 +1,19 @@
 -- Fields in quotes end where their writer ended them.
-use Rattle.std.proofs.Common.{◌≡◌, ◌≢◌, ◌⊎◌, ℕ, ◌==◌, Bool, true, false, List, [], ◌∷◌, ◌++◌, refl, sym, ap, ◌∙◌, subst, inl, inr, ⊎_elim}
-use Rattle.std.specs.Prelude.{flat_map, codes}
+use Rattle.std.proofs.Common.{◌≡◌, ◌≢◌, ◌⊎◌, ℕ, ◌==◌, true, false, List, [], ◌∷◌, ◌++◌, refl, sym, ap, ◌∙◌, subst, inl, inr, ⊎_elim}
+use Rattle.std.specs.Prelude.{flat_map}
 use Rattle.std.proofs.lemmas.Bool.{cases_Bool, cond-true, cond-false, eqb-true, eqb-false}
 use Rattle.std.proofs.lemmas.List.{append_assoc}
 use Rattle.tt_report_export.specs.Tables.{begins_with, doubled, quoted}
 
 -- a name behind the first quote of a field, and what follows the field
-inside : List ℕ → List ℕ → List ℕ
+abbrev inside : List ℕ → List ℕ → List ℕ
 inside n after = flat_map doubled n ++ (34 ∷ after)
 
 -- the first byte of a name is a quote, which is written twice, or another one
 written : (b : ℕ) → ((b ≡ 34) × (doubled b ≡ 34 ∷ 34 ∷ [])) ⊎ ((b ≢ 34) × (doubled b ≡ b ∷ []))
 written b = ⊎_elim
     (λ yes. inl (eqb-true b 34 yes, cond-true (b == 34) (34 ∷ 34 ∷ []) (b ∷ []) yes))
-    (λ no. inr (eqb-false b 34 no, cond-false (b == 34) (34 ∷ 34 ∷ []) (b ∷ []) no))
+    (λ not. inr (eqb-false b 34 not, cond-false (b == 34) (34 ∷ 34 ∷ []) (b ∷ []) not))
     (cases_Bool (b == 34))
 
 begun : (b : ℕ) (n after bytes : List ℕ) → doubled b ≡ bytes → inside (b ∷ n) after ≡ bytes ++ inside n after
@@ -42,26 +42,32 @@ one_more b m after behind none same = ⊎_elim
     (λ w. w.0 (sym (heads 34 b after (inside m behind) (same ∙ w.1))))
     (spelled b m behind)
 
-pub inside_apart : (n m after behind : List ℕ) → begins_with after 34 ≡ false → begins_with behind 34 ≡ false
-    → inside n after ≡ inside m behind → (n ≡ m) × (after ≡ behind)
-inside_apart [] [] after behind none no same = (refl, tails 34 34 after behind same)
-inside_apart [] (b ∷ m) after behind none no same = absurd (one_more b m after behind none same)
-inside_apart (a ∷ n) [] after behind none no same = absurd (one_more a n behind after no (sym same))
-inside_apart (a ∷ n) (b ∷ m) after behind none no same = both (spelled a n after) (spelled b m behind)
-  where
-    rest : a ≡ b → inside n after ≡ inside m behind → ((a ∷ n) ≡ (b ∷ m)) × (after ≡ behind)
-    rest head tail = let r = inside_apart n m after behind none no tail in (rw (head, r.0) refl, r.1)
+-- the same of names with another first byte each
+pieces : (a b : ℕ) (n m after behind : List ℕ) → (inside n after ≡ inside m behind → (n ≡ m) × (after ≡ behind))
+    → ((a ≡ 34) × (inside (a ∷ n) after ≡ 34 ∷ 34 ∷ inside n after)) ⊎ ((a ≢ 34) × (inside (a ∷ n) after ≡ a ∷ inside n after))
+    → ((b ≡ 34) × (inside (b ∷ m) behind ≡ 34 ∷ 34 ∷ inside m behind)) ⊎ ((b ≢ 34) × (inside (b ∷ m) behind ≡ b ∷ inside m behind))
+    → inside (a ∷ n) after ≡ inside (b ∷ m) behind → ((a ∷ n) ≡ (b ∷ m)) × (after ≡ behind)
+pieces a b n m after behind later (inl v) (inl w) same =
+    let r = later (tails 34 34 (inside n after) (inside m behind)
+    (tails 34 34 (34 ∷ inside n after) (34 ∷ inside m behind) (sym v.1 ∙ (same ∙ w.1)))) in
+    let head : a ≡ b = v.0 ∙ sym w.0 in
+    (rw (head, r.0) refl, r.1)
+pieces a b n m after behind later (inl v) (inr w) same =
+    absurd (w.0 (sym (heads 34 b (34 ∷ inside n after) (inside m behind) (sym v.1 ∙ (same ∙ w.1)))))
+pieces a b n m after behind later (inr v) (inl w) same =
+    absurd (v.0 (heads a 34 (inside n after) (34 ∷ inside m behind) (sym v.1 ∙ (same ∙ w.1))))
+pieces a b n m after behind later (inr v) (inr w) same =
+    let r = later (tails a b (inside n after) (inside m behind) (sym v.1 ∙ (same ∙ w.1))) in
+    let head : a ≡ b = heads a b (inside n after) (inside m behind) (sym v.1 ∙ (same ∙ w.1)) in
+    (rw (head, r.0) refl, r.1)
 
-    both : ((a ≡ 34) × (inside (a ∷ n) after ≡ 34 ∷ 34 ∷ inside n after)) ⊎ ((a ≢ 34) × (inside (a ∷ n) after ≡ a ∷ inside n after))
-        → ((b ≡ 34) × (inside (b ∷ m) behind ≡ 34 ∷ 34 ∷ inside m behind)) ⊎ ((b ≢ 34) × (inside (b ∷ m) behind ≡ b ∷ inside m behind))
-        → ((a ∷ n) ≡ (b ∷ m)) × (after ≡ behind)
-    both (inl v) (inl w) = rest (v.0 ∙ sym w.0)
-        (tails 34 34 (inside n after) (inside m behind)
-        (tails 34 34 (34 ∷ inside n after) (34 ∷ inside m behind) (sym v.1 ∙ (same ∙ w.1))))
-    both (inl v) (inr w) = absurd (w.0 (sym (heads 34 b (34 ∷ inside n after) (inside m behind) (sym v.1 ∙ (same ∙ w.1)))))
-    both (inr v) (inl w) = absurd (v.0 (heads a 34 (inside n after) (34 ∷ inside m behind) (sym v.1 ∙ (same ∙ w.1))))
-    both (inr v) (inr w) = rest (heads a b (inside n after) (inside m behind) (sym v.1 ∙ (same ∙ w.1)))
-        (tails a b (inside n after) (inside m behind) (sym v.1 ∙ (same ∙ w.1)))
+inside_apart : (n m after behind : List ℕ) → begins_with after 34 ≡ false → begins_with behind 34 ≡ false
+    → inside n after ≡ inside m behind → (n ≡ m) × (after ≡ behind)
+inside_apart [] [] after behind none other same = (refl, tails 34 34 after behind same)
+inside_apart [] (b ∷ m) after behind none other same = absurd (one_more b m after behind none same)
+inside_apart (a ∷ n) [] after behind none other same = absurd (one_more a n behind after other (sym same))
+inside_apart (a ∷ n) (b ∷ m) after behind none other same = pieces a b n m after behind
+    (inside_apart n m after behind none other) (spelled a n after) (spelled b m behind) same
 
 -- the text of a field and what follows it
 opened : (n after : List ℕ) → quoted n ++ after ≡ 34 ∷ inside n after
@@ -69,5 +75,5 @@ opened n after = ap (λ bs. 34 ∷ bs) (append_assoc (flat_map doubled n) (34 �
 
 pub quoted_apart : (n m after behind : List ℕ) → begins_with after 34 ≡ false → begins_with behind 34 ≡ false
     → quoted n ++ after ≡ quoted m ++ behind → (n ≡ m) × (after ≡ behind)
-quoted_apart n m after behind none no same = inside_apart n m after behind none no
+quoted_apart n m after behind none other same = inside_apart n m after behind none other
     (tails 34 34 (inside n after) (inside m behind) (sym (opened n after) ∙ (same ∙ opened m behind)))

@@ -1,16 +1,16 @@
 -- Names in a calendar end no line.
-use Rattle.std.proofs.Common.{◌≡◌, ℕ, zero, suc, ◌+◌, ◌/◌, ◌%◌, ◌<◌, ◌≤◌, lit<, ◌==◌, ◌||◌, Bool, true, false, cond, List, [], ◌∷◌, ◌++◌, length, get_or, refl, subst, sym, inl, inr, ⊎_elim, arith, rules, tests}
-use Rattle.std.specs.Prelude.{flat_map, chars, codes, encode_utf8, nat_lt}
+use Rattle.std.proofs.Common.{◌≡◌, ℕ, zero, suc, ◌+◌, ◌/◌, ◌%◌, ◌<◌, lit<, ◌==◌, ◌||◌, Bool, true, false, cond, List, [], ◌∷◌, ◌++◌, subst, sym, ⊎_elim, arith, rules, tests}
+use Rattle.std.specs.Prelude.{flat_map, chars, codes, encode_utf8, nat_lt, ⊤}
 use Rattle.std.specs.Char.{is_control}
 use Rattle.std.specs.List.{All}
 use Rattle.std.specs.Str.Lossy.{utf8_lossy}
 use lib.Utf8.{encode}
-use Rattle.std.proofs.lemmas.Bool.{cases_Bool, cases_lt, cond-true, cond-false, ltb-true, ltb-false}
+use Rattle.std.proofs.lemmas.Bool.{cases_Bool, cases_lt, cond-true, cond-false}
 use Rattle.tt_report.specs.Names.{letter_text}
 use Rattle.tt_report_export.specs.Calendars.{escaped, shown}
 
 -- all bytes are above the control characters
-AreAbove : List ℕ → Type 0
+abbrev AreAbove : List ℕ → Type 0
 AreAbove [] = ⊤
 AreAbove (byte ∷ bytes) = (31 < byte) × AreAbove bytes
 
@@ -29,7 +29,7 @@ above_each text each (c ∷ cs) = above_both (text c) (flat_map text cs) (each c
 
 -- the bytes of a letter that is no control character
 plain : (c : ℕ) → is_control c ≡ false → 31 < c
-plain c no = ⊎_elim (λ above. above) (λ below. absurd (search (rules, tests, no, below))) (cases_lt 31 c)
+plain c not = ⊎_elim (λ above. above) (λ below. absurd (search (rules, tests, not, below))) (cases_lt 31 c)
 
 encoded : (c : ℕ) → 31 < c → AreAbove (encode_utf8 c)
 unfolding encode
@@ -39,14 +39,14 @@ encoded c above = by_size (nat_lt c 128) (nat_lt c 2048) (nat_lt c 65536)
         (cond three ((224 + c / 4096) ∷ (128 + c / 64 % 64) ∷ (128 + c % 64) ∷ [])
         ((240 + c / 262144) ∷ (128 + c / 4096 % 64) ∷ (128 + c / 64 % 64) ∷ (128 + c % 64) ∷ []))))
     by_size true two three = (above, tt)
-    by_size false true three = (omega arith, omega arith, tt)
-    by_size false false true = (omega arith, omega arith, omega arith, tt)
-    by_size false false false = (omega arith, omega arith, omega arith, omega arith, tt)
+    by_size false true three = (omega arith, (omega arith, tt))
+    by_size false false true = (omega arith, (omega arith, (omega arith, tt)))
+    by_size false false false = (omega arith, (omega arith, (omega arith, (omega arith, tt))))
 
 letter_above : (c : ℕ) → AreAbove (letter_text c)
 letter_above c = ⊎_elim
     (λ yes. subst AreAbove (sym (cond-true (is_control c) (codes "?") (encode_utf8 c) yes)) (lit< tt, tt))
-    (λ no. subst AreAbove (sym (cond-false (is_control c) (codes "?") (encode_utf8 c) no)) (encoded c (plain c no)))
+    (λ not. subst AreAbove (sym (cond-false (is_control c) (codes "?") (encode_utf8 c) not)) (encoded c (plain c not)))
     (cases_Bool (is_control c))
 
 escaped_above : (c : ℕ) → AreAbove (escaped c)

@@ -1,5 +1,5 @@
 -- The times at which periods begin, as a text gives them.
-use Rattle.std.specs.Prelude.{◌≡◌, ◌⊎◌, ℕ, ◌+◌, ◌*◌, ◌/◌, ◌%◌, ◌<◌, ◌==◌, List, [], ◌∷◌, length, slice_index_or}
+use Rattle.std.specs.Prelude.{◌≡◌, ◌⊎◌, ℕ, ◌+◌, ◌*◌, ◌/◌, ◌%◌, ◌<◌, ◌==◌, List, [], ◌∷◌, length, slice_index_or, ⊤}
 use Rattle.std.specs.List.{slice_split}
 use Rattle.tt_report_export.specs.declared.term.TermFault.{TermFault}
 use Rattle.tt_report_export.specs.declared.term.TermFault.TheVariants.{NoTime, TooFewTimes, TooManyTimes}
@@ -7,8 +7,8 @@ use Rattle.tt_report_export.specs.declared.term.TermFault.TheVariants.{NoTime, T
 -- Two bytes are the digits of a number below 100.
 pub record AreDigitsOf (n tens units : ℕ) : Type 0 where
   pub below : n < 100
-  pub tens : tens ≡ 48 + n / 10
-  pub units : units ≡ 48 + n % 10
+  pub first : tens ≡ 48 + n / 10
+  pub last : units ≡ 48 + n % 10
 
 -- The bytes are two digits of an hour below 24 and two of a minute below 60, and this is the minute of the day.
 pub record IsClock (a b c d n : ℕ) : Type 0 where
@@ -20,6 +20,10 @@ pub record IsClock (a b c d n : ℕ) : Type 0 where
   pub minute_digits : AreDigitsOf minute c d
   pub number : n ≡ hour * 60 + minute
 
+-- The bytes of a text are two, a sign, and two more; the first one may be left out if it is 0.
+abbrev pub AreBytesOf : List ℕ → ℕ → ℕ → ℕ → ℕ → ℕ → Type 0
+AreBytesOf text a b sign c d = (text ≡ a ∷ b ∷ sign ∷ c ∷ d ∷ []) ⊎ ((a ≡ 48) × (text ≡ b ∷ sign ∷ c ∷ d ∷ []))
+
 -- The text gives a time of the day, and this is its minute of the day: two digits of an hour, the first of which may be left out if it is 0, a
 -- colon, and two digits of a minute.
 pub record IsTimeText (text : List ℕ) (n : ℕ) : Type 0 where
@@ -27,8 +31,8 @@ pub record IsTimeText (text : List ℕ) (n : ℕ) : Type 0 where
   pub b : ℕ
   pub c : ℕ
   pub d : ℕ
+  pub spelled : AreBytesOf text a b 58 c d
   pub clock : IsClock a b c d n
-  pub spelled : (text ≡ a ∷ b ∷ 58 ∷ c ∷ d ∷ []) ⊎ ((a ≡ 48) × (text ≡ b ∷ 58 ∷ c ∷ d ∷ []))
 
 -- The texts between the commas of a text.
 abbrev pub between_commas : List ℕ → List (List ℕ)
@@ -51,3 +55,10 @@ ExplainsTimes text periods NoTime = HasNoTime text
 ExplainsTimes text periods TooFewTimes = length (between_commas text) < periods
 ExplainsTimes text periods TooManyTimes = periods < length (between_commas text)
 ExplainsTimes text periods f = ⊤
+
+-- The fault isn't about times.
+abbrev pub IsOfNoTime : TermFault → Type 0
+IsOfNoTime NoTime = ⊥
+IsOfNoTime TooFewTimes = ⊥
+IsOfNoTime TooManyTimes = ⊥
+IsOfNoTime f = ⊤

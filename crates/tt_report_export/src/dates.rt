@@ -1,7 +1,8 @@
 //! The dates of a term.
 
-ghost use Rattle.std.specs.Prelude.{◌≡◌, ℤ, ◌-◌, length, pos, ◌+ℤ◌, IfOk};
+ghost use Rattle.std.specs.Prelude.{◌≡◌, ℤ, ◌-◌, length, pos, ◌+ℤ◌, IfErr, IfOk};
 ghost use Rattle.jiff.specs.Words.{epoch_day};
+ghost use Rattle.tt_report_export.specs.Times.{IsOfNoTime};
 ghost use Rattle.tt_report_export.specs.Terms.{number_of, AreDaysFrom, IsDateText};
 
 use crate::term::TermFault;
@@ -29,7 +30,8 @@ fn number_of(date: Date) -> u32
 
 /// Returns the date of a day, from the first date if it is day 0, and otherwise from that of the day before.
 fn date_of_day(before: Date, day: u32) -> Result<Date, TermFault>
-    ensures { IfOk result (λ d. (first : ℤ) → epoch_day before ≡ first +ℤ pos (day - 1) → epoch_day d ≡ first +ℤ pos day) }
+    ensures day { IfOk result (λ d. (first : ℤ) → epoch_day before ≡ first +ℤ pos (day - 1) → epoch_day d ≡ first +ℤ pos day) }
+    ensures fault { IfErr result (λ f. f ≡ TermFault.NoDate) }
 {
     if day == 0 {
         return Ok(before);
@@ -44,6 +46,7 @@ fn date_of_day(before: Date, day: u32) -> Result<Date, TermFault>
 pub fn dates_from(alloc: Global, first: Date, days: u32) -> Result<Vec<u32>, TermFault>
     ensures dates { IfOk result (λ dates. AreDaysFrom first dates.items) }
     ensures count { IfOk result (λ dates. length dates.items ≡ days) }
+    ensures fault { IfErr result IsOfNoTime }
 {
     let mut dates = Vec::new(alloc);
     let mut date = first;
@@ -56,7 +59,8 @@ pub fn dates_from(alloc: Global, first: Date, days: u32) -> Result<Vec<u32>, Ter
 
 /// Returns the date that a text such as `2027-02-01` gives, with a year of four digits.
 pub fn date_of(text: &str) -> Result<Date, TermFault>
-    ensures { IfOk result (IsDateText text.now) }
+    ensures text { IfOk result (IsDateText text.now) }
+    ensures fault { IfErr result (λ f. f ≡ TermFault.NoDate) }
 {
     // A sign, hyphens left out and a time behind the date give another length.
     if text.len() != DATE_BYTES {

@@ -48,12 +48,22 @@ pub enum TermFault {
 }
 
 impl From<AllocError> for TermFault {
+    ghost use Rattle.std.specs.Prelude.{◌≡◌};
+    ghost use Rattle.tt_report_export.specs.declared.term.TermFault.TheVariants as fault;
+
+    ghost from_gives = { λ _ e. e ≡ fault.OutOfMemory };
+
     fn from(_e: AllocError) -> TermFault {
         TermFault::OutOfMemory
     }
 }
 
 impl<T: Drop> From<AllocFailed<T>> for TermFault {
+    ghost use Rattle.std.specs.Prelude.{◌≡◌};
+    ghost use Rattle.tt_report_export.specs.declared.term.TermFault.TheVariants as fault;
+
+    ghost from_gives = { λ _ e. e ≡ fault.OutOfMemory };
+
     fn from(_e: AllocFailed<T>) -> TermFault {
         TermFault::OutOfMemory
     }

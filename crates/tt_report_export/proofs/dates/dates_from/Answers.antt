@@ -9,4 +9,4 @@ pub loop-day-preserved : goal.loop-day-preserved
 loop-day-preserved c =
     rw c.in_ok-push.ensures.items
     (day_made c.args.first c.loop-day.date c.in_ok-date.date c.loop-day.day c.number_of.result c.loop-day.dates.items c.loop-day.invariant
-    (c.in_ok-date.ensures (epoch_day c.args.first) c.loop-day.invariant.before) c.number_of.ensures)
+    (c.in_ok-date.ensures.day (epoch_day c.args.first) c.loop-day.invariant.before) c.number_of.ensures)
