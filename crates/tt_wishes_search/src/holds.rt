@@ -111,7 +111,8 @@ impl Holds {
     /// Returns a place of an entry's course with the free parts of the entry, if there is one.
     pub fn wanted(&self, entry: Entry, dice: &mut Dice) -> Option<Entry> {
         let holds = self.of(entry.course);
-        let hold = holds.get(dice.below(holds.len() as u32) as usize)?;
+        let count = u32::try_from(holds.len()).unwrap_or(u32::MAX);
+        let hold = holds.get(dice.below(count) as usize)?;
         Some(Entry {
             course: entry.course,
             room: hold.place.room.unwrap_or(entry.room),

@@ -57,7 +57,7 @@ pub fn improve_wished<W: Watch>(
 ) -> Result<Wished, AllocError>
     requires older { IsTimetable instance.now basis.older.now }
     requires start { IsTimetable instance.now start }
-    ensures { IfOk result (IsWished instance.now basis start asked.stay) }
+    ensures { IfOk result (IsWished instance.now basis.entry start asked.stay) }
 {
     let first = Wished {
         weight: weigh_wished(alloc, instance, basis, &start)?,

@@ -1,8 +1,8 @@
 //! What a timetable breaks and costs, if broken wishes count as broken hard rules do.
 
-ghost use Rattle.std.specs.Prelude.{◌↔◌, IfOk, IsTrue};
+ghost use Rattle.std.specs.Prelude.{◌≡◌, ◌↔◌, IfOk, IsTrue};
 ghost use Rattle.tt_table.specs.Table.{IsTimetable};
-ghost use Rattle.tt_wishes_search.specs.Wished.{IsLower, IsWishedWeight};
+ghost use Rattle.tt_wishes_search.specs.Wished.{IsLower, IsWishedWeight, broken};
 
 use std::alloc::{AllocError, Global};
 use tt_instance::Instance;
@@ -19,7 +19,9 @@ pub struct WishedWeight {
 
 impl WishedWeight {
     /// Returns the number of broken hard rules and wishes.
-    fn broken(self) -> u128 {
+    fn broken(self) -> u128
+        ensures { result ≡ broken self }
+    {
         u128::from(self.weight.hard) + u128::from(self.wishes)
     }
 
@@ -48,7 +50,7 @@ pub fn weigh_wished(
 ) -> Result<WishedWeight, AllocError>
     requires older { IsTimetable instance.now basis.older.now }
     requires table { IsTimetable instance.now table.now }
-    ensures { IfOk result (IsWishedWeight instance.now basis.wishes.now basis.older.now table.now) }
+    ensures { IfOk result (IsWishedWeight instance.now basis.entry.wishes.now basis.entry.older.now table.now) }
 {
     Ok(WishedWeight {
         weight: weigh(alloc, instance, basis.older, table)?,
