@@ -10,11 +10,15 @@ pub sequences_same : (p : Problem) (g : Group) (cs : List ℕ) → cs ≡ course
     → p.days * sequences_of (sets_count p cs) p.periods ≡ most_sequences p g
 sequences_same p g cs e = ap (λ (l : List ℕ). p.days * sequences_of (sets_count p l) p.periods) e
 
+-- the price of the tables
+pub least_same : (all states days count : ℕ) → days ≡ all → count ≡ states → 32 * (days * count) ≡ 32 * (all * states)
+least_same all states days count d e = ap (λ n. 32 * (n * count)) d ∙ ap (λ n. 32 * (all * n)) e
+
 -- the price of the tables, and a relaxation for each place and each of as many moves on each day
 pub relaxations_same : (all states days count lists : ℕ) → days ≡ all → lists ≡ all → count ≡ states
     → 32 * (days * count) + lists * (count * count) ≡ all * (states * (32 + states))
 relaxations_same all states days count lists d l e =
     let here : 32 * (all * states) + all * (states * states) ≡ all * (states * (32 + states)) = omega arith in
-    let prices : 32 * (days * count) ≡ 32 * (all * states) = ap (λ n. 32 * (n * count)) d ∙ ap (λ n. 32 * (all * n)) e in
+    let prices = least_same all states days count d e in
     let moves : lists * (count * count) ≡ all * (states * states) = ap (λ n. n * (count * count)) l ∙ ap (λ n. all * (n * n)) e in
     omega (arith, here, prices, moves)

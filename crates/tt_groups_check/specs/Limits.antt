@@ -54,3 +54,7 @@ most_sequences p g = p.days * sequences_of (sets_of p g) p.periods
 -- move of the day. There are no more moves than places.
 abbrev pub most_relaxations : Problem → Group → ℕ
 most_relaxations p g = p.days * (states_of p g * (32 + states_of p g))
+
+-- The relaxations that the tables of the group take at least: 32 for each place of the table of each day.
+abbrev pub least_relaxations : Problem → Group → ℕ
+least_relaxations p g = 32 * (p.days * states_of p g)

@@ -4,7 +4,7 @@ ghost use Rattle.std.specs.Prelude.{◌≡◌, ◌+◌, ◌*◌, ◌<◌, ◌≤
 ghost use Rattle.tt_groups_day.specs.Work.{IsUsedUp};
 ghost use Rattle.tt_groups.specs.Group.{group_cost, IsRelaxedTimetable, IsGroupBound};
 ghost use Rattle.tt_instance.specs.declared.cell.Cell.{Cell};
-ghost use Rattle.tt_groups_check.specs.Limits.{IsGroupOf, is_too_wide, states_of, sets_of, MakesTables, most_sequences, most_relaxations};
+ghost use Rattle.tt_groups_check.specs.Limits.{IsGroupOf, is_too_wide, states_of, sets_of, MakesTables, most_sequences, most_relaxations, least_relaxations};
 ghost use Rattle.tt_groups_check.specs.declared.fault.GroupFault.TheVariants as fault;
 
 use crate::courses::{courses_of, sizes_of};
@@ -107,7 +107,7 @@ pub fn check_group(
     ensures sets_only { result ≡ Err fault.TooManySets → MakesTables instance.now group.now value × (MAX_SETS < sets_of instance.now group.now) }
     ensures sets { MakesTables instance.now group.now value → MAX_SETS < sets_of instance.now group.now →
         IsErrAnd result (λ e. (e ≡ fault.TooManySets) ⊎ (e ≡ fault.OutOfMemory)) }
-    // It is too much work only if all sequences of the group, all tries of the file or all its relaxations are used up.
+    // It is too much work only if a count of the work is 0 afterwards.
     ensures work_only { result ≡ Err fault.TooMuchWork → MakesTables instance.now group.now value × (sets_of instance.now group.now ≤ MAX_SETS) ×
         (IsUsedUp work.new.days ⊎ (work.new.relaxations ≡ 0)) }
     // It is too much work only if less is left than the days or the tables can take.
@@ -119,6 +119,10 @@ pub fn check_group(
     ensures relaxations { work.new.relaxations ≤ work.old.relaxations }
     ensures tries_taken { work.old.days.tries ≤ work.new.days.tries + most_sequences instance.now group.now }
     ensures relaxations_taken { work.old.relaxations ≤ work.new.relaxations + most_relaxations instance.now group.now }
+    // Tables that are made are paid for.
+    ensures paid { OnOk result (MakesTables instance.now group.now value →
+        work.new.relaxations + least_relaxations instance.now group.now ≤ work.old.relaxations) }
+    ensures cheap_paid { result ≡ Err fault.TooCheap → work.new.relaxations + least_relaxations instance.now group.now ≤ work.old.relaxations }
 {
     if is_too_wide(instance, group, value) {
         return Err(GroupFault::TooWide);

@@ -1,13 +1,14 @@
 //! Searching for proofs over disjoint targets.
 
-ghost use Rattle.std.specs.Prelude.{IfOk, IfSome};
+ghost use Rattle.std.specs.Prelude.{IfNone, IfOk, IfSome};
 ghost use Rattle.tt_instance.specs.Problem.{Problem};
-ghost use Rattle.tt_parts.specs.Found.{AreFound};
+ghost use Rattle.tt_parts.specs.Found.{AreFound, AreRefused, texts_of};
 
 use crate::known::{cost_of, is_greatest};
 use crate::prices::find_priced;
 use crate::rooms::find_rooms;
 use crate::stronger::{better_of, is_far_above};
+use crate::strongest::add_up_or_best;
 use crate::together::sum_of;
 use std::alloc::{AllocError, Global};
 use tt_instance::Instance;
@@ -49,13 +50,15 @@ impl Parts {
     }
 }
 
-/// Returns proofs with the sum of their bounds, if each is right and no two claim the same target.
+/// Returns proofs with the sum of their bounds, if each is right and no two claim the same target, and `None` otherwise, or if the check of a
+/// claim isn't finished.
 pub fn add_up(
     alloc: Global,
     instance: &Instance<'_>,
     proofs: Vec<Vec<u8>>,
 ) -> Result<Option<Parts>, AllocError>
-    ensures { IfOk result (λ found. IfSome found (AreFound instance.now)) }
+    ensures found { IfOk result (λ found. IfSome found (AreFound instance.now)) }
+    ensures none { IfOk result (λ found. IfNone found (AreRefused instance.now (texts_of proofs.items))) }
 {
     let Some(bound) = sum_of(alloc, instance, proofs.as_slice())? else {
         return Ok(None);
@@ -85,15 +88,15 @@ fn find_texts<W: Watch>(
     write_all(alloc, &claims, known)
 }
 
-/// Returns proofs with the sum of their bounds; no proofs if they don't add up.
+/// Returns proofs with the sum of their bounds; the strongest one if they don't add up, and no proofs if none is right.
 fn sum_or_none(
     alloc: Global,
     instance: &Instance<'_>,
-    proofs: Vec<Vec<u8>>,
+    proofs: &[Vec<u8>],
 ) -> Result<Parts, AllocError>
     ensures { IfOk result (AreFound instance.now) }
 {
-    match add_up(alloc, instance, proofs)? {
+    match add_up_or_best(alloc, instance, proofs)? {
         Some(parts) => Ok(parts),
         None => Ok(Parts::none(alloc)),
     }
@@ -110,7 +113,7 @@ fn find_by_groups<W: Watch>(
     ensures { IfOk result (AreFound instance.now) }
 {
     let proofs = find_texts(alloc, instance, effort, guide, watch)?;
-    sum_or_none(alloc, instance, proofs)
+    sum_or_none(alloc, instance, &proofs)
 }
 
 /// Searches for a file of groups with prices. `known` is the cost of a known timetable.
@@ -127,7 +130,7 @@ fn find_by_prices<W: Watch>(
     if let Some(text) = find_priced(alloc, instance, effort, known, watch)? {
         proofs.push(text)?;
     }
-    sum_or_none(alloc, instance, proofs)
+    sum_or_none(alloc, instance, &proofs)
 }
 
 /// Searches for proofs that claim distinct targets: claims about groups, and one proof about the rooms, which is a tree of one leaf or a file of

@@ -1,16 +1,16 @@
 //! Checking proofs together.
 
-ghost use Rattle.std.specs.Prelude.{◌≡◌, IfOk, IfSome};
+ghost use Rattle.std.specs.Prelude.{◌≡◌, IfNone, IfOk, IfSome, None, OnOk};
 ghost use Rattle.tt_proof_check.specs.Derives.{HoldsOfAll};
 ghost use Rattle.tt_proof_sum.specs.Sums.{IsSum};
-ghost use Rattle.tt_parts.specs.Found.{texts_of};
+ghost use Rattle.tt_parts.specs.Found.{AreRefused, texts_of};
 
 use std::alloc::{AllocError, Global};
 use tt_instance::Instance;
 use tt_leaf::Bound;
 use tt_proof_sum::{SumStop, sum_proofs};
 use tt_stop::Stop;
-use tt_text::Pieces;
+use tt_text_memory::Memory;
 use tt_text_peek::Peeked;
 
 /// The number of bytes of a proof that are read at once.
@@ -27,7 +27,20 @@ pub fn copy_texts(alloc: Global, texts: &[Vec<u8>]) -> Result<Vec<Vec<u8>>, Allo
     Ok(copies)
 }
 
-/// Returns the sum of the bounds of proofs, if each is right and no two claim the same target.
+/// Returns no sum after a stop, unless memory ran out.
+fn no_sum(stop: SumStop) -> Result<Option<Bound>, AllocError>
+    ensures none { IfOk result (λ found. found ≡ None) }
+    ensures memory { OnOk result (¬ (stop.stop ≡ Stop.OutOfMemory)) }
+{
+    match stop.stop {
+        Stop::Fault(_) => Ok(None),
+        Stop::ReadFailed => Ok(None),
+        Stop::OutOfMemory => Err(AllocError),
+    }
+}
+
+/// Returns the sum of the bounds of proofs, if each is right and no two claim the same target. Reads of memory don't fail, so that `None` always
+/// has a fault of one of the proofs as its reason.
 pub fn sum_of(
     alloc: Global,
     instance: &Instance<'_>,
@@ -35,20 +48,16 @@ pub fn sum_of(
 ) -> Result<Option<Bound>, AllocError>
     ensures found { IfOk result (λ found. IfSome found (IsSum instance.now (texts_of proofs.now))) }
     ensures holds { IfOk result (λ found. IfSome found (HoldsOfAll instance.now)) }
+    // There is no sum only if a proof has a fault, or the check of its claims wasn't finished.
+    ensures none { IfOk result (λ found. IfNone found (AreRefused instance.now (texts_of proofs.now))) }
 {
     let mut sources = Vec::new(alloc);
     for proof in proofs {
-        let pieces = Pieces::new(proof.as_slice(), PIECE, 0);
+        let pieces = Memory::new(proof.as_slice(), PIECE);
         sources.push(Peeked::new(alloc, pieces))?;
     }
     match sum_proofs(alloc, instance, sources.as_mut_slice()) {
         Ok(bound) => Ok(Some(bound)),
-        Err(
-            SumStop {
-                stop: Stop::OutOfMemory,
-                ..
-            },
-        ) => Err(AllocError),
-        Err(_) => Ok(None),
+        Err(stop) => no_sum(stop),
     }
 }

@@ -84,6 +84,21 @@ fn groups_cost_no_more_than_the_guide(rt: HostRuntime) -> Result<(), Fail> {
     ];
     let groups = found(alloc, &instance, EFFORT, &guide)?;
     assert!(rt; groups.starts_with(b"CTTG 1 bound 8\n".as_slice()));
+    // Beside each lecture of the first course its helper has one, which is two too many: so the first curriculum costs nothing there.
+    let broken = [
+        entry(0, 0, 0),
+        entry(1, 0, 1),
+        entry(0, 1, 0),
+        entry(1, 1, 1),
+        entry(0, 2, 0),
+        entry(1, 2, 1),
+        entry(2, 0, 0),
+        entry(3, 0, 1),
+        entry(2, 1, 0),
+        entry(2, 2, 0),
+    ];
+    let groups = found(alloc, &instance, EFFORT, &broken)?;
+    assert!(rt; groups.starts_with(b"CTTG 1 bound 4\n".as_slice()));
     Ok(())
 }
 

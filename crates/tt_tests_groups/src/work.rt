@@ -17,27 +17,76 @@ const APART: &str =
 /// All curricula together: each lecture is isolated.
 const ALL: &str = "CTTG 1 bound 24\nG 24 q0 q1 q2 q3 q4 q5 q6 q7 q8 q9 q10 q11 / ;\nend\n";
 
-fn sum_of(alloc: Global, file: &str) -> Result<Result<Bound, SumStop>, Fail> {
-    let instance = read_instance(alloc, APART.as_bytes())?;
+/// Returns the sum of a file of groups for an instance.
+fn sum_of(alloc: Global, text: &str, file: &str) -> Result<Result<Bound, SumStop>, Fail> {
+    let instance = read_instance(alloc, text.as_bytes())?;
     let mut sources = Vec::new(alloc);
     sources.push(Peeked::new(alloc, Pieces::new(file.as_bytes(), 64, 0)))?;
     Ok(sum_proofs(alloc, &instance, sources.as_mut_slice()))
 }
 
-#[test]
-fn too_many_tries_end_soon(rt: HostRuntime) -> Result<(), Fail> {
-    let fault = FileFault::Groups(GroupsFault::Group(0, GroupFault::TooMuchWork));
-    let too_much = SumStop {
+/// Returns the refusal of the first group of a file.
+fn refused(fault: GroupFault) -> SumStop {
+    let fault = FileFault::Groups(GroupsFault::Group(0, fault));
+    SumStop {
         file: 1,
         stop: Stop::Fault(fault),
-    };
-    assert_eq!(rt; sum_of(rt.alloc(), ALL)?, Err(too_much));
+    }
+}
+
+#[test]
+fn too_many_tries_end_soon(rt: HostRuntime) -> Result<(), Fail> {
+    let too_much = refused(GroupFault::TooMuchWork);
+    assert_eq!(rt; sum_of(rt.alloc(), APART, ALL)?, Err(too_much));
     Ok(())
 }
 
 #[test]
 fn few_courses_are_little_work(rt: HostRuntime) -> Result<(), Fail> {
     let two = "CTTG 1 bound 4\nG 2 q0 / ;\nG 2 q1 / ;\nend\n";
-    assert_eq!(rt; sum_of(rt.alloc(), two)?, Ok(Bound::AtLeast(4)));
+    assert_eq!(rt; sum_of(rt.alloc(), APART, two)?, Ok(Bound::AtLeast(4)));
+    Ok(())
+}
+
+/// Returns an instance of sixteen courses of one lecture each, which never conflict and are to be spread over so many days.
+fn sixteen(alloc: Global, days: u64) -> Result<String, Fail> {
+    let mut text = String::new(alloc);
+    text.push_str(
+        "Name: Sixteen Courses: 16 Rooms: 1 Days: 1 Periods_per_day: 1 Curricula: 0 Constraints: 0 COURSES:",
+    )?;
+    for course in 0u64..16 {
+        write!(text, " x{course} t{course} 1 {days} 1")?;
+    }
+    text.push_str(" ROOMS: R 1 CURRICULA: UNAVAILABILITY_CONSTRAINTS: END.")?;
+    Ok(text)
+}
+
+/// Returns the sum of a file with one group, which lists the first of those courses and claims a value.
+fn sum_of_first(
+    alloc: Global,
+    days: u64,
+    courses: u64,
+    value: u64,
+) -> Result<Result<Bound, SumStop>, Fail> {
+    let mut file = format!(in alloc; "CTTG 1 bound {value}\nG {value} /")?;
+    for course in 0..courses {
+        write!(file, " c{course}")?;
+    }
+    file.push_str(" ;\nend\n")?;
+    sum_of(alloc, sixteen(alloc, days)?.as_str(), file.as_str())
+}
+
+#[test]
+fn limits_of_states_and_sets(rt: HostRuntime) -> Result<(), Fail> {
+    // Each course on no day has four places in the table, and each on one day has two.
+    for (days, courses, value, found) in [
+        (1, 13, 0, Ok(Bound::AtLeast(0))),
+        (1, 13, 1, Err(refused(GroupFault::TooManySets))),
+        (0, 16, 0, Err(refused(GroupFault::TooManyStates))),
+        (1, 16, 0, Ok(Bound::AtLeast(0))),
+    ] {
+        let sum = sum_of_first(rt.alloc(), days, courses, value)?;
+        assert_eq!(rt; sum, found, "{courses} courses, {days} days");
+    }
     Ok(())
 }

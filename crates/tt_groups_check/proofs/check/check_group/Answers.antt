@@ -15,7 +15,7 @@ use Rattle.tt_groups_check.specs.Lists.{AreOfDays}
 use Rattle.tt_groups_week.specs.declared.moves.Move.{Move}
 use Rattle.tt_groups_check.proofs.CoursesAndSizes.{narrow_from, courses_below, digits_between, digits_few, base_bound}
 use Rattle.tt_groups_check.proofs.Reported.{work_of_week}
-use Rattle.tt_groups_check.proofs.Taken.{sequences_same, relaxations_same}
+use Rattle.tt_groups_check.proofs.Taken.{sequences_same, relaxations_same, least_same}
 use Rattle.tt_groups.proofs.Built.{built, is_relaxed, built_cost}
 use Rattle.tt_groups_check.proofs.check.check_group.Goals as goal
 
@@ -295,3 +295,27 @@ returns-in_err-holds-clause-work_short c = λ is.
     let fault_is : fault_from_week c.in_err-holds.field-0.0 ≡ fault.TooMuchWork = cc (e.1, e.2, is) in
     let few = c.in_err-holds.ensures.too_few (ap Err (work_of_week c.in_err-holds.field-0.0 fault_is)) d.count short in
     inr (inr (omega (arith, few, c.in_ok-pay_tables.ensures.paid, most)))
+
+pub returns-then-holds-clause-paid : goal.returns-then-holds-clause-paid
+returns-then-holds-clause-paid c = λ _.
+    let p = c.args.instance.now in
+    let g = c.args.group.now in
+    let d = c.in-Some.digits in
+    let made = rw c.in-Some.is at c.in_ok-digits.ensures.made in
+    let sized : d.sizes.items ≡ group_sizes p g (courses_of p g) =
+    made.0 ∙ c.in_ok-sizes.ensures ∙ ap (group_sizes p g) (c.deref.ensures.value ∙ c.in_ok-courses.ensures.value) in
+    let count : d.count ≡ states_of p g = sym d.are.counted ∙ ap places sized in
+    let least = least_same p.days (states_of p g) c.days.result d.count c.days.ensures.value count in
+    omega (arith, c.in_ok-holds.ensures.fewer, c.in_ok-pay_tables.ensures.paid, least)
+
+pub returns-clause-cheap_paid : goal.returns-clause-cheap_paid
+returns-clause-cheap_paid c = λ _.
+    let p = c.args.instance.now in
+    let g = c.args.group.now in
+    let d = c.in-Some.digits in
+    let made = rw c.in-Some.is at c.in_ok-digits.ensures.made in
+    let sized : d.sizes.items ≡ group_sizes p g (courses_of p g) =
+    made.0 ∙ c.in_ok-sizes.ensures ∙ ap (group_sizes p g) (c.deref.ensures.value ∙ c.in_ok-courses.ensures.value) in
+    let count : d.count ≡ states_of p g = sym d.are.counted ∙ ap places sized in
+    let least = least_same p.days (states_of p g) c.days.result d.count c.days.ensures.value count in
+    omega (arith, c.in_ok-holds.ensures.fewer, c.in_ok-pay_tables.ensures.paid, least)

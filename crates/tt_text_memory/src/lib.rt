@@ -1,0 +1,6 @@
+//! Texts in memory as sources.
+#![tactic(auto)]
+
+mod memory;
+
+pub use memory::Memory;
