@@ -1,22 +1,23 @@
 //! The timetable and the bound with which a search begins.
 
-ghost use Rattle.std.specs.Prelude.{IfOk, IfSome, IsTrue, ◌↔◌};
+ghost use Rattle.std.specs.Prelude.{IfOk, IfSome, IsTrue, None, ◌≡◌, ◌↔◌};
 ghost use Rattle.tt_table.specs.Table.{IsTimetable};
+ghost use Rattle.tt_rules.specs.Score.{IsFeasible};
 ghost use Rattle.tt_moves.specs.Changes.{IsBelow};
+ghost use Rattle.tt_branch.specs.Outcomes as branch;
 ghost use Rattle.tt_parts.specs.Found.{AreFound};
-ghost use Rattle.tt_best.specs.Weeks.{IsWeek, IsNoWorseThan};
+ghost use Rattle.tt_best.specs.Weeks.{IsWeek, IsNoWorseThan, BeginsWell};
 
-use crate::bounds::sum_of_given;
 use crate::week::Week;
 use std::alloc::{AllocError, Global};
-use tt_branch::{Outcome, solve};
+use tt_branch::{FIRST_STEPS, Outcome, solve};
 use tt_instance::Instance;
 use tt_leaf::Bound;
-use tt_parts::{Parts, add_up};
+use tt_parts::{Parts, add_up, add_up_or_best};
 use tt_proof_read::Node;
 use tt_proof_write::{WriteFault, write_proof};
 use tt_rules::score;
-use tt_search::construct;
+use tt_search::{construct, descend};
 use tt_table::Timetable;
 use tt_watch::Watch;
 
@@ -53,6 +54,7 @@ fn better_table(instance: &Instance<'_>, given: Option<Timetable>, found: Timeta
     requires found { IsTimetable instance.now found }
     ensures table { IsTimetable instance.now result }
     ensures no_worse { IsNoWorseThan instance.now given result }
+    ensures found { given ≡ None → result ≡ found }
 {
     let Some(table) = given else {
         return found;
@@ -64,7 +66,22 @@ fn better_table(instance: &Instance<'_>, given: Option<Timetable>, found: Timeta
     }
 }
 
-/// Returns the given timetable, or else a constructed one.
+/// Returns the result of a descent from a constructed timetable.
+#[tactic(auto, using(crate::proofs::Comparing::begun_descent))]
+fn descended_table(
+    alloc: Global,
+    instance: &Instance<'_>,
+    seed: u64,
+) -> Result<Timetable, AllocError>
+    ensures table { IfOk result (IsTimetable instance.now) }
+    ensures begun { IfOk result (BeginsWell instance.now) }
+{
+    let start = construct(alloc, instance, seed)?;
+    let descent = descend(alloc, instance, start, FIRST_STEPS)?;
+    Ok(descent.table)
+}
+
+/// Returns the given timetable, or else the result of a descent from a constructed one.
 fn first_table(
     alloc: Global,
     instance: &Instance<'_>,
@@ -74,14 +91,16 @@ fn first_table(
     requires { IfSome given (IsTimetable instance.now) }
     ensures table { IfOk result (IsTimetable instance.now) }
     ensures no_worse { IfOk result (IsNoWorseThan instance.now given) }
+    ensures begun { given ≡ None → IfOk result (BeginsWell instance.now) }
 {
     match given {
         Some(table) => Ok(table),
-        None => construct(alloc, instance, seed),
+        None => descended_table(alloc, instance, seed),
     }
 }
 
 /// Returns the timetable after the search of a tree.
+#[tactic(auto, using(crate::proofs::Comparing::begun_found))]
 fn table_after(
     alloc: Global,
     instance: &Instance<'_>,
@@ -90,9 +109,11 @@ fn table_after(
     seed: u64,
 ) -> Result<Timetable, AllocError>
     requires given { IfSome given (IsTimetable instance.now) }
-    requires found { IfSome found (IsTimetable instance.now) }
+    requires found { IfSome found (IsFeasible instance.now) }
+    requires begun { branch.BeginsWell instance.now found }
     ensures table { IfOk result (IsTimetable instance.now) }
     ensures no_worse { IfOk result (IsNoWorseThan instance.now given) }
+    ensures begun { given ≡ None → IfOk result (BeginsWell instance.now) }
 {
     match found {
         Some(table) => Ok(better_table(instance, given, table)),
@@ -133,6 +154,7 @@ fn search_tree<W: Watch>(
     requires { IfSome given (IsTimetable instance.now) }
     ensures week { IfOk result (IsWeek instance.now) }
     ensures no_worse { IfOk result (λ w. IsNoWorseThan instance.now given w.table) }
+    ensures begun { given ≡ None → IfOk result (λ w. BeginsWell instance.now w.table) }
 {
     let Outcome {
         best,
@@ -158,9 +180,10 @@ pub fn first_week<W: Watch>(
     requires { IfSome start.table (IsTimetable instance.now) }
     ensures week { IfOk result (IsWeek instance.now) }
     ensures no_worse { IfOk result (λ w. IsNoWorseThan instance.now start.entry.table w.table) }
+    ensures begun { start.entry.table ≡ None → IfOk result (λ w. BeginsWell instance.now w.table) }
 {
     let Start { table, proofs } = start;
-    if let Some(parts) = sum_of_given(alloc, instance, proofs)? {
+    if let Some(parts) = add_up_or_best(alloc, instance, proofs)? {
         let table = first_table(alloc, instance, table, seed)?;
         return Ok(Week { table, parts });
     }

@@ -2,7 +2,9 @@
 
 use crate::week::Week;
 use tt_instance::Instance;
-use tt_watch::{Unwatched, Watch};
+use tt_leaf::Bound;
+use tt_table::Entry;
+use tt_watch::{Progress, Unwatched, Watch};
 
 /// Watches a search in rounds, and may take its results on the way. Nothing is promised about when it is asked.
 pub trait WatchRounds: Watch {
@@ -27,4 +29,49 @@ impl WatchRounds for Unwatched {
     }
 
     fn keep(&mut self, _instance: &Instance<'_>, _week: &Week) {}
+}
+
+/// Ends a search for a timetable once the best one breaks no hard rule and its cost is a bound.
+pub struct Aiming<'w, W: Watch> {
+    bound: Bound,
+    is_met: bool,
+    watch: &'w mut W,
+}
+
+impl<'w, W: Watch> Drop for Aiming<'w, W> {
+    fn drop(self) {
+        let Aiming {
+            bound: _,
+            is_met: _,
+            watch: _,
+        } = self;
+    }
+}
+
+impl<'w, W: Watch> Aiming<'w, W> {
+    /// Returns a watch that ends a search by this bound, or when the given watch ends it.
+    pub fn new(bound: Bound, watch: &'w mut W) -> Aiming<'w, W> {
+        Aiming {
+            bound,
+            is_met: false,
+            watch,
+        }
+    }
+}
+
+impl<'w, W: Watch> Watch for Aiming<'w, W> {
+    ghost use Rattle.std.specs.Prelude.{⊤};
+
+    ghost has_ended = { λ _. ⊤ };
+
+    fn see(&mut self, progress: Progress, best: &[Entry]) {
+        if let Some(pair) = progress.best {
+            self.is_met = pair.hard == 0 && self.bound == Bound::AtLeast(pair.cost);
+        }
+        self.watch.see(progress, best);
+    }
+
+    fn is_over(&mut self) -> bool {
+        self.is_met || self.watch.is_over()
+    }
 }

@@ -38,6 +38,35 @@ const NODES_OF_A_TURN: u32 = 65_536;
 
 const MOST_LAST_STEPS: u64 = 1_000_000;
 
+/// The maximum number of steps of a turn for each node of the limit, so that a search of few nodes ends soon.
+const STEPS_OF_A_NODE: u64 = 1_000;
+
+/// The turns of the improvement after the descent.
+#[derive(Clone, Copy, Debug)]
+pub struct Turns {
+    count: u32,
+    /// The maximum number of steps of each.
+    most_steps: u64,
+}
+
+impl Turns {
+    /// No turn.
+    pub const NONE: Turns = Turns {
+        count: 0,
+        most_steps: 0,
+    };
+
+    /// Returns the turns for a limit of nodes.
+    pub fn within(nodes: u32) -> Turns {
+        Turns {
+            count: (nodes / NODES_OF_A_TURN).saturating_add(FIRST_TURNS),
+            most_steps: u64::from(nodes)
+                .saturating_mul(STEPS_OF_A_NODE)
+                .max(LEAST_STEPS),
+        }
+    }
+}
+
 /// A timetable that breaks no hard rule.
 #[derive(Drop)]
 pub struct Best {
@@ -64,11 +93,6 @@ fn if_feasible(instance: &Instance<'_>, table: Timetable) -> Option<Best>
     })
 }
 
-/// Returns the maximum number of turns of the improvement, for a limit of nodes.
-pub fn turns_for(nodes: u32) -> u32 {
-    (nodes / NODES_OF_A_TURN).saturating_add(FIRST_TURNS)
-}
-
 /// Returns the number of a timetable's entries times the number of cells of a room and a period.
 fn size_of(instance: &Instance<'_>, table: &Timetable) -> u64 {
     let periods = u64::from(instance.days()).saturating_mul(u64::from(instance.periods()));
@@ -84,7 +108,7 @@ fn is_at_goal(instance: &Instance<'_>, table: &Timetable, goal: u64) -> bool
     counts.feasible() && counts.cost() <= goal
 }
 
-/// Returns the steps of a turn.
+/// Returns the steps of a turn for a timetable of this size.
 fn steps_of(turn: u32, size: u64) -> u64 {
     if turn >= FIRST_TURNS {
         size.saturating_mul(LONG_STEPS_OF_A_CELL)
@@ -115,7 +139,7 @@ fn improve_to<W: Watch>(
     table: Timetable,
     seed: u64,
     goal: u64,
-    turns: u32,
+    turns: Turns,
     watch: &mut W,
 ) -> Result<Timetable, AllocError>
     requires { IsTimetable instance.now table }
@@ -124,7 +148,7 @@ fn improve_to<W: Watch>(
     let size = size_of(instance, &table);
     let start = table.copy()?;
     let mut best = table;
-    for turn in 0..turns {
+    for turn in 0..turns.count {
         if watch.is_over() || is_at_goal(instance, &best, goal) {
             break;
         }
@@ -134,7 +158,7 @@ fn improve_to<W: Watch>(
             instance,
             start.copy()?,
             turn_seed,
-            steps_of(turn, size),
+            steps_of(turn, size).min(turns.most_steps),
             watch,
         )?;
         if is_cheaper(instance, &found, &best) {
@@ -152,7 +176,7 @@ pub fn first_best<W: Watch>(
     instance: &Instance<'_>,
     seed: u64,
     goal: u64,
-    turns: u32,
+    turns: Turns,
     watch: &mut W,
 ) -> Result<Option<Best>, AllocError>
     ensures best { IfOk result (IsBestSoFar instance.now) }

@@ -8,7 +8,7 @@ ghost use Rattle.tt_branch.specs.Proofs.{shown_bound};
 ghost use Rattle.tt_branch.specs.Inner.State.{IsUnderWay, EndsAt};
 ghost use Rattle.tt_branch.specs.declared.limit.TheConstants.{MAX_OPENED};
 
-use crate::best::{Best, bound_of, first_best, turns_for};
+use crate::best::{Best, Turns, bound_of, first_best};
 use crate::nodes::{Written, write_nodes};
 use crate::rounds::{Ending, grow};
 use crate::search::Search;
@@ -112,13 +112,13 @@ fn solve_over<'i, P: Path<'i>, W: Watch>(
     conclude(alloc, path, search, ending)
 }
 
-/// Returns the maximum number of turns of the improvement: none if there is a plain reason why no feasible timetable exists.
-fn turns_in(alloc: Global, instance: &Instance<'_>, nodes: u32) -> Result<u32, AllocError> {
+/// Returns the turns of the improvement: none if there is a plain reason why no feasible timetable exists.
+fn turns_in(alloc: Global, instance: &Instance<'_>, nodes: u32) -> Result<Turns, AllocError> {
     let reason = find_reason(alloc, instance)?;
     Ok(if reason.is_some() {
-        0
+        Turns::NONE
     } else {
-        turns_for(nodes)
+        Turns::within(nodes)
     })
 }
 

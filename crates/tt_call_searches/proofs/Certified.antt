@@ -1,5 +1,6 @@
 -- The answer of `best`, from the results of its steps.
-use Rattle.std.proofs.Common.{◌≡◌, ◌≤◌, ℕ, List, Option, Some, None, Ok, sym, subst, arith}
+use Rattle.std.proofs.Common.{◌≡◌, ◌≤◌, ℕ, List, Option, Some, None, Ok, refl, sym, subst, arith}
+use Rattle.std.proofs.lemmas.Option.{none-some}
 use Rattle.std.specs.Prelude.{Vec}
 use Rattle.tt_instance.specs.Problem.{Problem}
 use Rattle.tt_instance.specs.Spelling.{Spells}
@@ -19,8 +20,9 @@ use Rattle.tt_page_text.specs.Labelled.{Labelled}
 use Rattle.tt_proof_check.specs.Derives.{HoldsOfAll}
 use Rattle.tt_proof_check.specs.Headline.{BoundsAll}
 use Rattle.tt_proof_sum.specs.Sums.{IsSum}
+use Rattle.tt_best.specs.Weeks as week
 use Rattle.tt_best.specs.Weeks.{IsNoHigher, IsNoWorseThan}
-use Rattle.tt_call_searches.specs.Best.{ShowsPage, CostsAtMost, CostsNoMore}
+use Rattle.tt_call_searches.specs.Best.{BeginsWell, ShowsPage, CostsAtMost, CostsNoMore}
 use Rattle.tt_call_searches.specs.Given.{IsGiven}
 use Rattle.tt_call_searches.specs.declared.calls.best.BestAnswer.{BestAnswer}
 use Rattle.tt_call_names.specs.Names.{labels_for}
@@ -104,3 +106,31 @@ costs_no_more i (Some s) names style p (Some t) w a spells is fits kept costs =
     let found = no_worse_found p t w fits feasible kept in
     let answer = costs found.0 in
     record { found = answer.found; within = omega (arith, answer.within, found.1, costs_given) }
+
+-- ---- the beginning of a search
+
+-- without a given solution there is no given timetable
+none_given : (p : Problem) (given : Option (List ℕ)) (table : Option (List Cell)) → IsGiven p given table → given ≡ None → table ≡ None
+none_given p None None is none = refl
+none_given p None (Some t) is none = absurd is
+none_given p (Some s) table is none = absurd (none-some s (sym none))
+
+-- the answer costs no more than a feasible timetable with which the search began
+pub begins_well : (i : List ℕ) (given : Option (List ℕ)) (names : PageNames) (style : List ℕ) (p : Problem) (table : Option (List Cell))
+    (w : List Cell) (a : BestAnswer) → Spells i p → IsGiven p given table → IsTimetable p w → (table ≡ None → week.BeginsWell p w)
+    → (IsFeasible p w → CostsAtMost i names style (cost p w) a) → given ≡ None → BeginsWell i names style a
+begins_well i given names style p table w a spells is fits begun costs none =
+    let b = begun (none_given p given table is none) in
+    record {
+      problem = p;
+      spelled = spells;
+      start = b.start;
+      constructed = b.constructed;
+      end = b.end;
+      settled = b.settled;
+      descent = b.descent;
+      kept = λ feasible.
+          let found = no_worse_found p b.end w fits feasible (b.kept feasible) in
+          let answer = costs found.0 in
+          record { found = answer.found; within = omega (arith, answer.within, found.1) };
+    }

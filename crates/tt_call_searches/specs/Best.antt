@@ -1,11 +1,14 @@
 -- The answer of `best` for the bytes of an instance.
-use Rattle.std.specs.Prelude.{◌≡◌, ◌≤◌, ◌⊎◌, ℕ, List, Vec, Option, Some, None, Ok, Err, IsSomeAnd, IfSome}
+use Rattle.std.specs.Prelude.{◌≡◌, ◌≤◌, ◌⊎◌, ℕ, Bool, List, Vec, Option, Some, None, Ok, Err, IsSomeAnd, IfSome}
 use Rattle.tt_instance.specs.Problem.{Problem}
 use Rattle.tt_instance.specs.Spelling.{Spells}
 use Rattle.tt_instance.specs.declared.cell.Cell.{Cell}
 use Rattle.tt_table.specs.Spelling.{solution_text}
 use Rattle.tt_table.specs.Table.{IsTimetable}
-use Rattle.tt_rules.specs.Score.{IsFeasible}
+use Rattle.tt_rules.specs.Score.{IsFeasible, cost}
+use Rattle.tt_search.specs.Constructed.{IsConstructed}
+use Rattle.tt_search.specs.Descent.{IsDescent}
+use Rattle.tt_branch.specs.declared.limit.TheConstants.{FIRST_STEPS}
 use Rattle.tt_leaf.specs.declared.leaf.Bound.{Bound}
 use Rattle.tt_page.specs.Limits.{IsWithinLimit}
 use Rattle.tt_page.specs.Pages.{page_text}
@@ -85,6 +88,17 @@ pub record CostsAtMost (instance : List ℕ) (names : PageNames) (style : List �
 -- If a solution is given that breaks no hard rule of the instance, the answer has a timetable that costs no more.
 abbrev pub CostsNoMore : List ℕ → Option (List ℕ) → PageNames → List ℕ → BestAnswer → Type 0
 CostsNoMore instance given names style a = IfSome given (λ solution. (c : ℕ) → Solves instance solution c → CostsAtMost instance names style c a)
+
+-- A descent of at most 10,000 steps from a constructed timetable: if it leads to a feasible one, the answer has a timetable that costs no more.
+pub record BeginsWell (instance : List ℕ) (names : PageNames) (style : List ℕ) (a : BestAnswer) : Type 0 where
+  pub problem : Problem
+  pub spelled : Spells instance problem
+  pub start : List Cell
+  pub constructed : IsConstructed problem start
+  pub end : List Cell
+  pub settled : Bool
+  pub descent : IsDescent problem start FIRST_STEPS end settled
+  pub kept : IsFeasible problem end → CostsAtMost instance names style (cost problem end) a
 
 -- The files are spelled, but the names don't fit.
 pub record FailsGivenNames (instance : List ℕ) (given : Option (List ℕ)) (names : PageNames) (f : LabelsFault) : Type 0 where

@@ -21,6 +21,9 @@ const DEARER_CLASHES: i64 = 29 * POINT;
 /// The amount that a clash costs less in the plan whose homes are searched alone next, in quarters of a point.
 const CHEAPER_CLASHES: i64 = POINT / 2;
 
+/// The amount that a clash costs less in the plan from which warm parts go on, in quarters of a point.
+const PROMISED_CLASHES: i64 = 3;
+
 /// The number of steps of such a search at each temperature.
 const HOME_STEPS: u64 = 3_000;
 
@@ -53,9 +56,12 @@ pub struct Annealing {
     clearest: Draft,
     /// The plan of least cost with cheaper clashes since homes were last searched alone, if that costs less than the best timetable.
     barest: Draft,
+    /// The plan of least cost with cheaper clashes so far, from which warm parts go on.
+    promise: Draft,
     /// The plan whose homes are searched alone.
     homed: Plan,
     is_melted: bool,
+    is_warm: bool,
     rounds: u64,
     settled: u64,
 }
@@ -131,9 +137,11 @@ impl Annealing {
         let mut cheapest = Draft::new(alloc, &facts)?;
         let mut clearest = Draft::new(alloc, &facts)?;
         let mut barest = Draft::new(alloc, &facts)?;
+        let mut promise = Draft::new(alloc, &facts)?;
         cheapest.cost = start.cost;
         clearest.cost = start.cost;
         barest.cost = start.cost;
+        promise.cost = i64::MAX;
         Ok(Annealing {
             dice: Dice::new(alloc, seed)?,
             stepper: Stepper::new(alloc, &facts)?,
@@ -146,9 +154,11 @@ impl Annealing {
             cheapest,
             clearest,
             barest,
+            promise,
             homed: Plan::new(alloc, &facts)?,
             facts,
             is_melted: false,
+            is_warm: false,
             rounds: 0,
             settled: 0,
         })
@@ -239,11 +249,23 @@ impl Annealing {
         self.is_melted = true;
     }
 
+    /// Sets the temperature of the next rounds. A warm part goes on from the most promising plan so far.
+    fn set_heat(&mut self) {
+        let part = self.schedule.part();
+        if part.is_warm && !self.is_warm && self.promise.cost < i64::MAX {
+            let promise = &self.promise;
+            self.plan.read(&self.facts, &promise.slots, &promise.homes);
+        }
+        self.is_warm = part.is_warm;
+        self.stepper.warm(part.is_warm);
+        self.heat = self.cooling.heat(&self.dice, part);
+        self.plan.weigh_days(self.cooling.day_cost(self.heat));
+    }
+
     /// Makes the steps of a round, and keeps the cheapest plans.
     fn make_round(&mut self) {
         if self.rounds % ROUNDS == 0 {
-            self.heat = self.cooling.heat(&self.dice, self.schedule);
-            self.plan.weigh_days(self.cooling.day_cost(self.heat));
+            self.set_heat();
         }
         for _ in 0..ROUND {
             if self
@@ -263,6 +285,8 @@ impl Annealing {
         let clashes = self.plan.clashes;
         let dearer = cost.wrapping_add(clashes.wrapping_mul(DEARER_CLASHES));
         let cheaper = cost.wrapping_sub(clashes.wrapping_mul(CHEAPER_CLASHES));
+        let promised = cost.wrapping_sub(clashes.wrapping_mul(PROMISED_CLASHES));
+        self.promise.keep(&self.plan, promised);
         self.cheapest.keep(&self.plan, cost);
         self.clearest.keep(&self.plan, dearer);
         self.barest.keep(&self.plan, cheaper);

@@ -1,7 +1,7 @@
 //! The temperature of a plan.
 
 use crate::scale::Load;
-use crate::schedule::Schedule;
+use crate::schedule::Part;
 use tt_plans::DAY_COST;
 use tt_plans_odds::{CERTAIN, Dice, Heat, NAT, POINT, logarithm};
 
@@ -15,11 +15,26 @@ const DEARER_DAYS: i64 = 3 * POINT;
 /// The part of the way from the coldest temperature to the hottest one from which on it is hot, in hundredths.
 const DEARER_WAY: i64 = 40;
 
-/// The temperatures at which a cycle begins and ends.
+/// The temperatures at which the hot part of a cycle begins and ends.
 #[derive(Clone, Copy)]
 pub struct Cooling {
     hottest: i64,
     coldest: i64,
+}
+
+/// Returns the temperature after the steps of a part that were made: it falls by the same factor in the same time, from one level to
+/// another.
+fn fall(dice: &Dice, part: Part, from: i64, to: i64) -> Heat {
+    let height = logarithm(from.cast_unsigned())
+        .saturating_sub(logarithm(to.cast_unsigned()))
+        .saturating_add(NAT / 100);
+    let fallen = height
+        .saturating_mul(part.made)
+        .checked_div(part.steps)
+        .unwrap_or(0);
+    let chance = dice.chance(i64::try_from(fallen).unwrap_or(i64::MAX));
+    let level = from.saturating_mul(chance) / CERTAIN;
+    Heat::new(level.max(to))
 }
 
 impl Cooling {
@@ -31,18 +46,12 @@ impl Cooling {
         }
     }
 
-    /// Returns the temperature after the steps of a cycle that were made: it falls by the same factor in the same time.
-    pub fn heat(self, dice: &Dice, schedule: Schedule) -> Heat {
-        let hottest = logarithm(self.hottest.cast_unsigned());
-        let coldest = logarithm(self.coldest.cast_unsigned());
-        let height = hottest.saturating_sub(coldest).saturating_add(NAT / 100);
-        let fallen = height
-            .saturating_mul(schedule.made_in_cycle())
-            .checked_div(schedule.cycle)
-            .unwrap_or(0);
-        let chance = dice.chance(i64::try_from(fallen).unwrap_or(i64::MAX));
-        let level = self.hottest.saturating_mul(chance) / CERTAIN;
-        Heat::new(level.max(self.coldest))
+    /// Returns the temperature after the steps of a part of a cycle that were made.
+    pub fn heat(self, dice: &Dice, part: Part) -> Heat {
+        if part.is_warm {
+            return fall(dice, part, Load::warm(), Load::cool());
+        }
+        fall(dice, part, self.hottest, self.coldest)
     }
 
     /// Returns the cost of a missing day at a temperature.

@@ -9,8 +9,14 @@ const UNIT: u64 = 1_024;
 /// The number of curricula of a course whose load is 1.
 const CURRICULA: u64 = 3;
 
-/// The temperature at the end of a cycle, in hundredths of a point.
+/// The temperature at the end of the hot part of a cycle, in hundredths of a point.
 const COLDEST: i64 = 23;
+
+/// The temperatures at which the warm part begins and ends, in hundredths of a point: periods change little there, so that lectures come
+/// home.
+const WARM: i64 = 26;
+
+const COOL: i64 = 18;
 
 /// The temperature at the beginning of a cycle at a load of 1, in hundredths of a point.
 const HOTTEST: i64 = 90;
@@ -56,9 +62,19 @@ impl Load {
         self.units.saturating_mul(UNIT).isqrt()
     }
 
-    /// Returns the level at the end of a cycle.
+    /// Returns the level at the end of the hot part of a cycle.
     pub fn coldest() -> i64 {
         level(COLDEST, UNIT)
+    }
+
+    /// Returns the level at the beginning of the warm part of a cycle.
+    pub fn warm() -> i64 {
+        level(WARM, UNIT)
+    }
+
+    /// Returns the level at the end of the warm part of a cycle.
+    pub fn cool() -> i64 {
+        level(COOL, UNIT)
     }
 
     /// Returns the level at the beginning of a cycle: it grows with the load to the power of 1.75.

@@ -10,6 +10,9 @@ const CYCLE: u64 = 160;
 
 const LEAST_CYCLE: u64 = 3_000_000;
 
+/// The part of a cycle, at its end, that is warm: it goes on from the most promising plan so far. In hundredths. A single cycle has none.
+const WARM: u64 = 15;
+
 /// The maximum number of lectures with which each lecture makes a pair: from there on, a cycle grows with the lectures.
 const PARTNERS: u64 = 280;
 
@@ -29,6 +32,16 @@ const PLACES_WEIGHED: u64 = 8;
 
 /// The minimum number of steps between two searches for homes alone.
 const BETWEEN_HOMES: u64 = 12_000;
+
+/// The hot or the warm part of a cycle.
+#[derive(Clone, Copy)]
+pub struct Part {
+    pub is_warm: bool,
+    /// The steps of it that were made.
+    pub made: u64,
+    /// All its steps.
+    pub steps: u64,
+}
 
 /// The steps of a search.
 #[derive(Clone, Copy)]
@@ -70,8 +83,34 @@ impl Schedule {
     }
 
     /// Returns the number of steps that were made in the present cycle.
-    pub fn made_in_cycle(self) -> u64 {
+    fn made_in_cycle(self) -> u64 {
         self.made.checked_rem(self.cycle).unwrap_or(0)
+    }
+
+    /// Returns the number of steps of the hot part of a cycle.
+    fn hot(self) -> u64 {
+        if self.cycle >= self.steps {
+            return self.cycle;
+        }
+        let warm = self.cycle.saturating_mul(WARM) / 100;
+        self.cycle.saturating_sub(warm)
+    }
+
+    /// Returns the part of the present cycle, the steps of it that were made, and all its steps.
+    pub fn part(self) -> Part {
+        let (made, hot) = (self.made_in_cycle(), self.hot());
+        match made.checked_sub(hot) {
+            Some(made) => Part {
+                is_warm: true,
+                made,
+                steps: self.cycle.saturating_sub(hot),
+            },
+            None => Part {
+                is_warm: false,
+                made,
+                steps: hot,
+            },
+        }
     }
 
     /// Checks whether all steps are made.

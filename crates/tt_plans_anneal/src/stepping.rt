@@ -6,12 +6,14 @@ use tt_plans_chain::{Chain, change_home};
 use tt_plans_odds::{Dice, Heat};
 use tt_plans_redraw::Redrawer;
 
-/// Of this many steps so many are redraws, and so many are new homes; all others are chains.
+/// Of this many steps so many are redraws, and so many are new homes, which are more in a warm part; all others are chains.
 const ALL: u32 = 100;
 
 const REDRAWS: u32 = 5;
 
 const HOMES: u32 = 10;
+
+const WARM_HOMES: u32 = 60;
 
 /// The tables for steps.
 #[derive(Drop)]
@@ -20,6 +22,8 @@ pub struct Stepper {
     redrawer: Redrawer,
     lectures: u32,
     rooms: u32,
+    /// The number of new homes among `ALL` steps.
+    homes: u32,
 }
 
 impl Stepper {
@@ -30,7 +34,13 @@ impl Stepper {
             redrawer: Redrawer::new(alloc, facts)?,
             lectures: u32::try_from(facts.sizes.lectures).unwrap_or(u32::MAX),
             rooms: u32::try_from(facts.sizes.rooms).unwrap_or(u32::MAX),
+            homes: HOMES,
         })
+    }
+
+    /// Sets the share of new homes for a hot or a warm part of a cycle.
+    pub fn warm(&mut self, is_warm: bool) {
+        self.homes = if is_warm { WARM_HOMES } else { HOMES };
     }
 
     /// Gives a random course a random home, if the cost of it is accepted. Returns whether it did.
@@ -64,7 +74,7 @@ impl Stepper {
         if kind < REDRAWS {
             let course = facts.course_of(dice.below(self.lectures));
             self.redrawer.redraw(facts, plan, dice, heat, course)
-        } else if kind < REDRAWS + HOMES {
+        } else if kind < REDRAWS.wrapping_add(self.homes) {
             self.settle(facts, plan, dice, heat)
         } else {
             self.turn(facts, plan, dice, heat)

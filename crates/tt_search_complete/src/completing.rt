@@ -59,8 +59,8 @@ fn add_all(
     Ok(())
 }
 
-/// Adds entries until each course has its lectures: at free places where they conflict with the fewest entries. The existing entries remain
-/// unchanged, at the front.
+/// Adds entries until each course has its lectures, each in a free room, if there is one, in a period where it conflicts with the fewest
+/// entries. The existing entries remain unchanged, at the front.
 pub fn complete(
     alloc: Global,
     instance: &Instance<'_>,

@@ -1,6 +1,6 @@
 //! The call `best`.
 
-ghost use Rattle.std.specs.Prelude.{◌≡◌, ℕ, List, Ok, IfOk, IfErr, MatchResult, ⊤};
+ghost use Rattle.std.specs.Prelude.{◌≡◌, ℕ, List, None, Ok, IfOk, IfErr, MatchResult, ⊤};
 ghost use Rattle.std.specs.Option.{option_copied};
 ghost use Rattle.tt_instance.specs.Problem.{Problem};
 ghost use Rattle.tt_instance.specs.Spelling.{Spells};
@@ -14,7 +14,7 @@ ghost use Rattle.tt_parts.specs.Found.{AreFound};
 ghost use Rattle.tt_best.specs.Weeks.{IsWeek};
 ghost use Rattle.tt_call_names.specs.Names.{labels_for};
 ghost use Rattle.tt_call_names.specs.declared.names.PageNames.{PageNames};
-ghost use Rattle.tt_call_searches.specs.Best.{IsBest, IsBestRefusal, IsNoneFound, CostsAtMost, CostsNoMore, ShowsPage};
+ghost use Rattle.tt_call_searches.specs.Best.{BeginsWell, IsBest, IsBestRefusal, IsNoneFound, CostsAtMost, CostsNoMore, ShowsPage};
 ghost use Rattle.tt_call_searches.specs.Given.{SpellsGiven};
 ghost use Rattle.tt_call_answers.specs.Lines.{best_line, none_line};
 ghost use Rattle.tt_call_answers.specs.declared.fault.AppFault.TheVariants as fault;
@@ -271,7 +271,7 @@ fn answer_of(
 
 /// Searches for a best timetable and for proofs of a lower bound, in rounds, until they meet or the watch ends the search. It starts from a
 /// solution and from proofs of an earlier search, if there are any. The page that shows the results has names and a style. Nothing is promised
-/// about how good they are, except that no given solution is better.
+/// about how good they are, except that no given solution is better, or no descent from a constructed timetable if none is given.
 pub fn best<W: WatchBest>(
     alloc: Global,
     instance: &[u8],
@@ -285,6 +285,8 @@ pub fn best<W: WatchBest>(
     ensures found { IfOk result (IsBest instance.now names.entry style.now) }
     // If a solution is given that breaks no hard rule, there is a timetable that costs no more.
     ensures no_more { IfOk result (CostsNoMore instance.now (option_copied search.entry.start) names.entry style.now) }
+    // If no solution is given, no timetable that a descent from a constructed one leads to is better.
+    ensures begun { option_copied search.entry.start ≡ None → IfOk result (BeginsWell instance.now names.entry style.now) }
     // A refusal reports the first error.
     ensures fault { IfErr result (IsBestRefusal instance.now (option_copied search.entry.start) names.entry) }
     // If the files are spelled and the names fit, there is an answer, unless memory runs out.

@@ -1,6 +1,6 @@
 use Rattle.std.proofs.lemmas.Result.{err_from_is_err_and}
 use Rattle.std.specs.Option.{option_copied}
-use Rattle.tt_call_searches.proofs.Certified.{costs_no_more}
+use Rattle.tt_call_searches.proofs.Certified.{begins_well, costs_no_more}
 use Rattle.tt_call_names.proofs.Fitting.{names_memory}
 use Rattle.tt_call_searches.proofs.Given.{tells_first, tells_given, tells_memory, given_memory, given_fits}
 use Rattle.tt_call_searches.proofs.GivenNames.{before_names, names_told}
@@ -83,4 +83,12 @@ returns-clause-no_more g c =
     c.in_ok-table.table
     c.in_ok-week.week.table _
     c.in_ok-instance.ensures.found c.in_ok-table.ensures.found c.in_ok-week.ensures.week.table c.in_ok-week.ensures.no_worse
+    (c.in_ok-answer_of.ensures.costs c.args.instance.now c.args.names c.in_ok-instance.ensures.found c.in_ok-labels.ensures)
+
+pub returns-clause-begun : goal.returns-clause-begun
+returns-clause-begun g c =
+    begins_well c.args.instance.now (option_copied c.args.search.start) c.args.names c.args.style.now c.in_ok-instance.instance
+    c.in_ok-table.table
+    c.in_ok-week.week.table _
+    c.in_ok-instance.ensures.found c.in_ok-table.ensures.found c.in_ok-week.ensures.week.table c.in_ok-week.ensures.begun
     (c.in_ok-answer_of.ensures.costs c.args.instance.now c.args.names c.in_ok-instance.ensures.found c.in_ok-labels.ensures)

@@ -1,6 +1,0 @@
-use Rattle.std.proofs.Common.{IfSome}
-use Rattle.tt_parts.specs.Found.{AreFound}
-use Rattle.tt_best.proofs.bounds.best_alone.Given as goal
-
-abbrev pub invariant-loop-text : goal.invariant-loop-text
-invariant-loop-text l = IfSome l.best (AreFound l.instance)
