@@ -41,8 +41,8 @@ StartsFrom false p t start = start ≡ t
 StartsFrom true p t start = IsCompleted p t start
 
 -- The answer is that of a timetable whose entries are those of the one from which the search starts. It keeps each wish that that one keeps, and
--- that one has no lower weight: not fewer broken hard rules and wishes, or equally many at a lower total of the cost and of the prices of the
--- lectures that left the solution's places.
+-- that one has no lower weight: it doesn't break hard rules and wishes less often, or equally often at a lower total of the cost and of the prices
+-- of the lectures that left the solution's places.
 pub record IsImprovedWished (f : WishedFiles) (completes : Bool) (s : Stay) (a : Answer) : Type 0 where
   pub problem : Problem
   pub older : List Cell

@@ -43,8 +43,8 @@ fn start_of(
     Ok(complete(alloc, instance, start)?)
 }
 
-/// Searches from a solution of an instance, completed if that is asked for, for one that breaks fewer hard rules and wishes, or equally many and
-/// has a lower total of its cost and of the prices of the lectures that left their places. The status is 1 if a hard rule or a wish is broken.
+/// Searches from a solution of an instance, completed if that is asked for, for one that breaks hard rules and wishes less often, or equally often
+/// and has a lower total of its cost and of the prices of the lectures that left their places. The status is 1 if a hard rule or a wish is broken.
 pub fn improve_under_wishes<W: Watch>(
     alloc: Global,
     files: WishedFiles<'_>,

@@ -8,7 +8,7 @@ use Rattle.tt_wishes.specs.Wishes.{is_kept}
 use Rattle.tt_wishes.specs.declared.wish.Wish.{Wish}
 use Rattle.tt_stay_search.specs.declared.stay.Stay.{Stay}
 use Rattle.tt_stay_search.proofs.Rearranging.{rearranged_self}
-use Rattle.tt_wishes_search.specs.Wished.{IsLower, IsWished, IsWishedWeight, broken, stays_kept, total_of}
+use Rattle.tt_wishes_search.specs.Wished.{IsLower, IsWished, IsWishedWeight, stays_kept, total_of}
 use Rattle.tt_wishes_search.specs.declared.weight.Basis.{Basis}
 use Rattle.tt_wishes_search.specs.declared.weight.WishedWeight.{WishedWeight}
 
@@ -27,11 +27,8 @@ module _ (p : Problem) (ws : List Wish) (old t : List Cell) (v w : WishedWeight)
   same_hard : v.weight.hard ≡ w.weight.hard
   same_hard = one.weight.hard_is ∙ sym other.weight.hard_is
 
-  same_wishes : v.wishes ≡ w.wishes
-  same_wishes = one.wishes ∙ sym other.wishes
-
-  same_broken : broken v ≡ broken w
-  same_broken = omega (arith, same_hard, same_wishes)
+  same_broken : v.broken ≡ w.broken
+  same_broken = omega (arith, same_hard, one.broken, other.broken)
 
   same_total : (s : Stay) → total_of s v ≡ total_of s w
   same_total s =
@@ -41,10 +38,10 @@ module _ (p : Problem) (ws : List Wish) (old t : List Cell) (v w : WishedWeight)
       rw (costs, moved, rooms) refl
 
 -- none is lower than itself
-not_lower : (s : Stay) (v w : WishedWeight) → broken v ≡ broken w → total_of s v ≡ total_of s w → IsLower s v w → ⊥
+not_lower : (s : Stay) (v w : WishedWeight) → v.broken ≡ w.broken → total_of s v ≡ total_of s w → IsLower s v w → ⊥
 not_lower s v w equal totals low = ⊎_elim
-    (λ (less : broken v < broken w). absurd (omega (arith, less, equal)))
-    (λ (e : (broken v ≡ broken w) × (total_of s v < total_of s w)). absurd (omega (arith, e.1, totals)))
+    (λ (less : v.broken < w.broken). absurd (omega (arith, less, equal)))
+    (λ (e : (v.broken ≡ w.broken) × (total_of s v < total_of s w)). absurd (omega (arith, e.1, totals)))
     low
 
 -- the timetable from which a search starts

@@ -1,6 +1,7 @@
 //! Timetables that are better if broken wishes count as broken hard rules do.
 #![tactic(auto)]
 
+mod breaks;
 mod holds;
 mod kept;
 mod places;

@@ -22,7 +22,7 @@ pub struct Wished {
     pub weight: WishedWeight,
 }
 
-/// Searches for a timetable that breaks fewer hard rules and wishes, or equally many at a lower total.
+/// Searches for a timetable that breaks hard rules and wishes less often, or equally often at a lower total.
 fn search_priced<W: Watch>(
     alloc: Global,
     instance: &Instance<'_>,
@@ -44,8 +44,8 @@ fn search_priced<W: Watch>(
     search_in_runs(alloc, instance, &guide, start, asked, watch)
 }
 
-/// Searches from a timetable for one with a lower weight: fewer broken hard rules and wishes, or equally many and a lower total of the cost and of
-/// the prices of the lectures that left their places in the older timetable. It keeps each wish that the first timetable keeps. The same seed
+/// Searches from a timetable for one with a lower weight: hard rules and wishes are broken less often, or equally often at a lower total of the
+/// cost and of the prices of the lectures that left their places in the older timetable. It keeps each wish that the first timetable keeps. The same seed
 /// gives the same result on every machine, unless the watch ends the search. It is not proved that the result is mostly better.
 pub fn improve_wished<W: Watch>(
     alloc: Global,

@@ -1,36 +1,33 @@
 //! What a timetable breaks and costs, if broken wishes count as broken hard rules do.
 
-ghost use Rattle.std.specs.Prelude.{◌≡◌, ◌↔◌, IfOk, IsTrue};
+ghost use Rattle.std.specs.Prelude.{◌↔◌, IfOk, IsTrue};
 ghost use Rattle.tt_table.specs.Table.{IsTimetable};
-ghost use Rattle.tt_wishes_search.specs.Wished.{IsLower, IsWishedWeight, broken};
+ghost use Rattle.tt_wishes_search.specs.Wished.{IsLower, IsWishedWeight};
 
+use crate::breaks::count_all_breaks;
 use std::alloc::{AllocError, Global};
 use tt_instance::Instance;
 use tt_stay::{Stay, Weight, weigh};
 use tt_table::Timetable;
 use tt_wishes::{Wish, broken_wishes};
 
-/// The weight of a timetable near an older one, and the number of wishes that it breaks.
+/// The weight of a timetable near an older one, and the wishes that it breaks.
 #[derive(Clone, Copy, Debug, PartialEq, Eq)]
 pub struct WishedWeight {
     pub weight: Weight,
+    /// The number of wishes that it breaks.
     pub wishes: u64,
+    /// How often it breaks hard rules and wishes: a wish once for each lecture that has to leave a place, and for one that is missing there.
+    pub broken: u128,
 }
 
 impl WishedWeight {
-    /// Returns the number of broken hard rules and wishes.
-    fn broken(self) -> u128
-        ensures { result ≡ broken self }
-    {
-        u128::from(self.weight.hard) + u128::from(self.wishes)
-    }
-
-    /// Returns whether fewer hard rules and wishes are broken, or equally many at a lower total.
+    /// Returns whether hard rules and wishes are broken less often, or equally often at a lower total.
     pub fn is_below(self, other: WishedWeight, stay: Stay) -> bool
         ensures { IsTrue result ↔ IsLower stay self other }
     {
-        let (one, two) = (self.broken(), other.broken());
-        one < two || (one == two && self.weight.total(stay) < other.weight.total(stay))
+        self.broken < other.broken
+            || (self.broken == other.broken && self.weight.total(stay) < other.weight.total(stay))
     }
 }
 
@@ -52,8 +49,10 @@ pub fn weigh_wished(
     requires table { IsTimetable instance.now table.now }
     ensures { IfOk result (IsWishedWeight instance.now basis.entry.wishes.now basis.entry.older.now table.now) }
 {
+    let weight = weigh(alloc, instance, basis.older, table)?;
     Ok(WishedWeight {
-        weight: weigh(alloc, instance, basis.older, table)?,
+        weight,
         wishes: broken_wishes(table, basis.wishes),
+        broken: u128::from(weight.hard) + count_all_breaks(table, basis.wishes),
     })
 }
