@@ -70,7 +70,7 @@ const ONLY: Argument<'static> = Argument {
 const WEEK: Argument<'static> = Argument {
     id: "week",
     form: Form::Value("NAME"),
-    help: "Shows the weeks of the room, the teacher and the curriculum of this name and no more, as a sheet to hand out",
+    help: "Shows the weeks of the room, the teacher and the curriculum of this name and no more, as a sheet to hand out; --week=NAME if it begins with a hyphen",
     condition: Some(Condition::ConflictsWith(&["only", "proof"])),
 };
 

@@ -89,7 +89,7 @@ const NO_FORMULAS: Argument<'static> = Argument {
 const ICS: Argument<'static> = Argument {
     id: "ics",
     form: Form::Value("NAME"),
-    help: "Prints the week of the room, teacher or curriculum of this name as a calendar",
+    help: "Prints the week of the room, teacher or curriculum of this name as a calendar; --ics=NAME if it begins with a hyphen",
     condition: Some(Condition::Requires(&["by", "first-day", "times"])),
 };
 

@@ -56,8 +56,8 @@ fn read_listed<R: Source>(
     listed(feed.token(), at, form, before)
 }
 
-/// Reads different numbers up to the end of the list. The time grows as the square of their count, which the checker of groups limits to a
-/// small number.
+/// Reads different numbers up to the end of the list. The time grows as the square of their count, which is at
+/// most that of the instance's curricula or courses.
 pub fn read_list<R: Source>(
     alloc: Global,
     feed: &mut Feed,

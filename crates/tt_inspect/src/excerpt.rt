@@ -2,35 +2,43 @@
 
 use crate::place::{is_line_feed, place_of};
 use crate::shown::Shown;
+use bstr::ByteSlice;
 use std::alloc::AllocError;
 use std::fmt;
 
-/// The maximum number of bytes of a line that are shown, and the maximum of these before the mark.
-const MAX_SHOWN: usize = 120;
-
+/// The maximum number of letters of a line that are shown before the mark.
 const MAX_BEFORE: usize = 60;
 
-/// A part of a line, and how many of its bytes come before the marked place.
+/// A line, and how many of its letters come before the marked place.
 #[derive(Clone, Copy)]
 struct Excerpt<'a> {
     line: &'a [u8],
     before: usize,
 }
 
-/// Returns the part that is shown of the line of an offset.
-fn shown_part(bytes: &[u8], offset: usize) -> Excerpt<'_> {
+/// Counts the letters of a text, read as UTF-8.
+fn letters(bytes: &[u8]) -> usize {
+    let mut letters: usize = 0;
+    for _ in bytes.chars() {
+        letters = letters.saturating_add(1);
+    }
+    letters
+}
+
+/// Returns the line of an offset.
+fn line_at(bytes: &[u8], offset: usize) -> Excerpt<'_> {
     let at = offset.min(bytes.len());
     let column = place_of(bytes, at).column;
-    let before = column.saturating_sub(1).min(MAX_BEFORE);
-    let rest = &bytes[at.saturating_sub(before)..];
+    let start = at.saturating_sub(column.saturating_sub(1));
+    let rest = &bytes[start..];
     let end = match rest.iter().position(is_line_feed) {
         Some(end) => end.min(rest.len()),
         None => rest.len(),
     };
-    let line = &rest[..end.min(MAX_SHOWN)];
+    let line = &rest[..end];
     Excerpt {
         line: line.strip_suffix(b"\r").unwrap_or(line),
-        before,
+        before: letters(&bytes[start..at]),
     }
 }
 
@@ -51,15 +59,15 @@ impl fmt::Display for Mark {
 
 /// Appends the line of an offset, with a mark below the offset; nothing if the line is empty.
 pub fn put_excerpt(text: &mut String, bytes: &[u8], offset: usize) -> Result<(), AllocError> {
-    let excerpt = shown_part(bytes, offset);
+    let excerpt = line_at(bytes, offset);
     if excerpt.line.is_empty() {
         return Ok(());
     }
+    let spaces = excerpt.before.min(MAX_BEFORE);
     let line = Shown {
         bytes: excerpt.line,
+        skipped: excerpt.before.saturating_sub(spaces),
     };
-    let mark = Mark {
-        spaces: excerpt.before,
-    };
+    let mark = Mark { spaces };
     writeln!(text, "  {line}\n  {mark}")
 }

@@ -18,11 +18,12 @@ fn put_places(
     if lectures <= places {
         return Ok(());
     }
+    let verb = if lectures == 1 { "is" } else { "are" };
     let lectures = Counted(lectures, Noun::Lecture);
     let places = Counted(places, Noun::Place);
     writeln!(
         text,
-        "can't be: there are {lectures}, the rooms have {places} in the week"
+        "can't be: there {verb} {lectures}, the rooms have {places} in the week"
     )
 }
 

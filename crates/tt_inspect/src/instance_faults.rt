@@ -1,7 +1,7 @@
 //! Why bytes are not an instance, in words.
 
+use crate::before::{Before, look_before};
 use crate::faulty_place::{encoding_fault, put_place, word_at};
-use crate::place::place_of;
 use crate::reason::Reason;
 use crate::rows::{Section, line_named};
 use crate::survey::{Survey, look_at, missing_word, other_format};
@@ -90,24 +90,25 @@ fn reason_of_lines(seen: &Survey) -> Option<Reason> {
 }
 
 /// Returns the likely reason for a fault.
-fn reason(bytes: &[u8], fault: InstanceFault, seen: &Survey, offset: usize) -> Reason {
+fn reason(bytes: &[u8], fault: InstanceFault, before: Before, offset: usize) -> Reason {
     if let Some(other) = encoding_fault(bytes).or(other_format(bytes)) {
         return Reason::Plain(other);
     }
     if let Some(word) = missing_word(bytes) {
         return Reason::Missing(word);
     }
+    let seen = look_at(bytes, before.words);
     if can_come_from_lines(fault)
-        && let Some(reason) = reason_of_lines(seen)
+        && let Some(reason) = reason_of_lines(&seen)
     {
         return reason;
     }
     if matches!(fault, InstanceFault::Repeated(_))
-        && let Some(line) = earlier_line(bytes, seen, offset)
+        && let Some(line) = earlier_line(bytes, &seen, offset)
     {
         return Reason::Earlier(line);
     }
-    Reason::Plain(usual_reason(fault, seen.section))
+    Reason::Plain(usual_reason(fault, before.section))
 }
 
 /// Explains why bytes are not an instance: the fault as each command prints it, its line and column, the word found there, what was expected,
@@ -120,9 +121,9 @@ pub fn explain_instance(
     let mut text = String::new(alloc);
     writeln!(text, "instance: {fault}")?;
     if let Some(offset) = offset_of(fault) {
-        let seen = look_at(bytes, place_of(bytes, offset).line);
-        let expected = expected(fault, seen.section);
-        let reason = reason(bytes, fault, &seen, offset);
+        let before = look_before(bytes, offset);
+        let expected = expected(fault, before.section);
+        let reason = reason(bytes, fault, before, offset);
         put_place(&mut text, bytes, offset, expected, reason)?;
     }
     Ok(text)

@@ -3,6 +3,7 @@
 
 mod advice;
 mod alike;
+mod before;
 mod counts;
 mod course_names;
 mod excerpt;
@@ -21,6 +22,7 @@ mod shown;
 mod solution_faults;
 mod summary;
 mod survey;
+mod tally;
 
 pub use explained::{explain_shortages, explain_tree};
 pub use inspected::{Inspected, inspect_instance, inspect_solution};

@@ -45,6 +45,28 @@ impl Section {
         }
     }
 
+    /// Returns the part that follows, and the word that begins it.
+    pub fn following(self) -> Option<(Section, Word)> {
+        match self {
+            Section::Head => Some((Section::Courses, Word::CoursesPart)),
+            Section::Courses => Some((Section::Rooms, Word::RoomsPart)),
+            Section::Rooms => Some((Section::Curricula, Word::CurriculaPart)),
+            Section::Curricula => Some((Section::Unavailabilities, Word::UnavailabilityPart)),
+            Section::Unavailabilities => Some((Section::End, Word::End)),
+            Section::End => None,
+        }
+    }
+
+    /// Returns how many words each line of the part has; `None` if they differ.
+    pub fn words_of_line(self) -> Option<u64> {
+        match self {
+            Section::Courses => Some(5),
+            Section::Rooms => Some(2),
+            Section::Unavailabilities => Some(3),
+            Section::Head | Section::Curricula | Section::End => None,
+        }
+    }
+
     /// Returns the contents of a line of the part, in words.
     pub fn line_words(self) -> &'static str {
         match self {
@@ -123,13 +145,10 @@ impl<'a> Row<'a> {
 
     /// Returns how many words a line of a part must have; `None` if any number is right.
     pub fn wanted_words(&self, section: Section) -> Option<u64> {
-        match section {
-            Section::Courses => Some(5),
-            Section::Rooms => Some(2),
-            Section::Unavailabilities => Some(3),
-            Section::Curricula => Some(self.number()?.saturating_add(2)),
-            Section::Head | Section::End => None,
+        if section == Section::Curricula {
+            return Some(self.number()?.saturating_add(2));
         }
+        section.words_of_line()
     }
 }
 

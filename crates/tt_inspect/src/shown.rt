@@ -3,27 +3,10 @@
 use bstr::ByteSlice;
 use std::fmt;
 
-/// The maximum number of letters of a name that are shown.
+/// The maximum number of letters of a line that are shown, and of a name.
+const MAX_LINE: usize = 120;
+
 const MAX_NAME: usize = 60;
-
-/// Bytes of a line; each that is not a printable letter of ASCII is shown as `?`, so that columns are counted by bytes.
-#[derive(Clone, Copy)]
-pub struct Shown<'a> {
-    pub bytes: &'a [u8],
-}
-
-impl<'a> fmt::Display for Shown<'a> {
-    fn fmt<W: fmt::Write>(&self, f: &mut fmt::Formatter<W>) -> fmt::Result {
-        for byte in self.bytes {
-            let letter = match *byte {
-                b' '..=b'~' => char::from(*byte),
-                _ => '?',
-            };
-            f.write_char(letter)?;
-        }
-        Ok(())
-    }
-}
 
 /// Checks whether a letter may be on a terminal: it neither controls it nor turns the direction of a text, and it isn't invisible.
 fn is_harmless(letter: char) -> bool {
@@ -34,6 +17,34 @@ fn is_harmless(letter: char) -> bool {
         | '\u{2060}'..='\u{206F}'
         | '\u{FEFF}' => false,
         _ => !letter.is_control(),
+    }
+}
+
+/// Returns what is shown of a letter: `?` if it may not be on a terminal.
+fn harmless(letter: char) -> char {
+    if is_harmless(letter) { letter } else { '?' }
+}
+
+/// A line of a file without its first letters, read as UTF-8, and cut if it is long. A letter that may not be on a terminal is shown as `?`, so
+/// that each has a column.
+#[derive(Clone, Copy)]
+pub struct Shown<'a> {
+    pub bytes: &'a [u8],
+    pub skipped: usize,
+}
+
+impl<'a> fmt::Display for Shown<'a> {
+    fn fmt<W: fmt::Write>(&self, f: &mut fmt::Formatter<W>) -> fmt::Result {
+        let end = self.skipped.saturating_add(MAX_LINE);
+        for (index, letter) in self.bytes.chars().enumerate() {
+            if index >= end {
+                return Ok(());
+            }
+            if index >= self.skipped {
+                f.write_char(harmless(letter))?;
+            }
+        }
+        Ok(())
     }
 }
 
@@ -49,8 +60,7 @@ impl<'a> fmt::Display for Name<'a> {
             if index == MAX_NAME {
                 return f.write_str("..");
             }
-            let shown = if is_harmless(letter) { letter } else { '?' };
-            f.write_char(shown)?;
+            f.write_char(harmless(letter))?;
         }
         Ok(())
     }

@@ -50,17 +50,24 @@ fn usual_reason(fault: SolutionFault) -> &'static str {
     }
 }
 
-/// Returns the first line up to this one that doesn't consist of whole lectures, and how many words it has.
+/// Returns the first line up to this one that doesn't consist of whole lectures, and how many words it has. Lines before a place where a
+/// lecture ends are right, since lines may end anywhere.
 fn odd_line(bytes: &[u8], asked: usize) -> Option<(usize, usize)> {
     let mut number: usize = 0;
+    let mut before: usize = 0;
+    let mut odd: Option<(usize, usize)> = None;
     for line in bytes.split(is_line_feed) {
         number = number.saturating_add(1);
-        if number > asked {
-            return None;
-        }
         let words = Row::of(line).words;
-        if words % WORDS_OF_LECTURE != 0 {
-            return Some((number, words));
+        if odd.is_none() && words % WORDS_OF_LECTURE != 0 {
+            odd = Some((number, words));
+        }
+        if number >= asked {
+            return odd;
+        }
+        before = before.saturating_add(words);
+        if before % WORDS_OF_LECTURE == 0 {
+            odd = None;
         }
     }
     None

@@ -41,17 +41,32 @@ fn put_content(
     )
 }
 
+/// How full the week is: the end of a line, empty if there is no place.
+#[derive(Clone, Copy)]
+struct Full {
+    lectures: u64,
+    places: u64,
+}
+
+impl fmt::Display for Full {
+    fn fmt<W: fmt::Write>(&self, f: &mut fmt::Formatter<W>) -> fmt::Result {
+        let Full { lectures, places } = *self;
+        if places == 0 {
+            return Ok(());
+        }
+        let share = percent(lectures, places);
+        write!(f, ", {share} percent full")
+    }
+}
+
 /// Appends the line that says how full the week is.
 fn put_week(text: &mut String, instance: &Instance<'_>, lectures: u64) -> Result<(), AllocError> {
     let places = places(instance);
-    let full = percent(lectures, places);
+    let full = Full { lectures, places };
     let days = Counted(u64::from(instance.days()), Noun::Day);
     let periods = Counted(u64::from(instance.periods()), Noun::Period);
     let places = Counted(places, Noun::Place);
-    writeln!(
-        text,
-        "{days} of {periods}, {places} in all rooms, {full} percent full"
-    )
+    writeln!(text, "{days} of {periods}, {places} in all rooms{full}")
 }
 
 /// Counts the pairs of courses that conflict.

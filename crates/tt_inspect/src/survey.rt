@@ -2,15 +2,9 @@
 
 use crate::place::is_line_feed;
 use crate::rows::{Row, SECTIONS, Section, WORDS_OF_LECTURE};
+use crate::tally::Tally;
 use tt_instance_read::Word;
 use tt_text::Tokens;
-
-/// How many lines a part should have, and how many it has.
-#[derive(Clone, Copy)]
-pub struct Tally {
-    pub said: Option<u64>,
-    pub lines: u64,
-}
 
 /// A line with too few words or too many.
 #[derive(Clone, Copy)]
@@ -24,10 +18,21 @@ pub struct OddLine {
 #[derive(Clone, Copy)]
 pub struct Survey {
     tallies: [Tally; SECTIONS],
-    /// The part that contains the line asked for.
+    /// The part that contains the line of the fault.
     pub section: Section,
-    /// The first line with too few or too many words, up to the line asked for.
+    /// The first line with too few or too many words from which the word of the fault is read.
     pub odd: Option<OddLine>,
+}
+
+/// Returns how many words are read from the first word of a line on: those of the line, and those that fill up its last row.
+fn words_read(words: u64, wanted: u64) -> u64 {
+    if wanted == 0 {
+        return words;
+    }
+    match words % wanted {
+        0 => words,
+        over => words.saturating_add(wanted.saturating_sub(over)),
+    }
 }
 
 impl Survey {
@@ -48,18 +53,27 @@ impl Survey {
         }
     }
 
-    /// Records a line of a part; `early` says whether it is at or before the line asked for.
-    fn take_row(&mut self, row: &Row<'_>, section: Section, number: usize, early: bool) {
+    /// Records the line that begins a part.
+    fn take_begin(&mut self, row: &Row<'_>, section: Section) {
+        if let Some(tally) = self.tallies.get_mut(section.index()) {
+            tally.take_begin(row);
+        }
+    }
+
+    /// Records a line of a part; the fault comes `words` words after its first word, or before it if that is `None`.
+    fn take_row(&mut self, row: &Row<'_>, section: Section, number: usize, words: Option<usize>) {
         if row.words == 0 {
             return;
         }
         if let Some(tally) = self.tallies.get_mut(section.index()) {
-            tally.lines = tally.lines.saturating_add(1);
+            tally.take_row(row, section);
         }
-        let Some(wanted) = row.wanted_words(section) else {
-            return;
-        };
-        if early && self.odd.is_none() && row.words as u64 != wanted {
+        if let Some(wanted) = row.wanted_words(section)
+            && let Some(words) = words
+            && self.odd.is_none()
+            && row.words as u64 != wanted
+            && (words as u64) < words_read(row.words as u64, wanted)
+        {
             self.odd = Some(OddLine {
                 number,
                 words: row.words,
@@ -69,7 +83,8 @@ impl Survey {
     }
 
     /// Returns the first part whose number of lines differs from the number that the header gives: one with too few, up to the one with the line
-    /// asked for, or that one itself. An earlier part with too many was read whole, so its lines end elsewhere.
+    /// of the fault, or that one itself. An earlier part with too many was read whole, so its lines end elsewhere, as those of a part with the
+    /// right number of words do.
     pub fn miscounted(&self) -> Option<(Section, u64, u64)> {
         for section in [
             Section::Courses,
@@ -83,6 +98,7 @@ impl Survey {
             if let Some(tally) = self.tallies.get(section.index())
                 && let Some(said) = tally.said
                 && (tally.lines < said || (said < tally.lines && section == self.section))
+                && !tally.has_words_of(section, said)
             {
                 return Some((section, said, tally.lines));
             }
@@ -91,32 +107,31 @@ impl Survey {
     }
 }
 
-/// Surveys a file, both up to a line and after it.
-pub fn look_at(bytes: &[u8], asked: usize) -> Survey {
-    let none = Tally {
-        said: None,
-        lines: 0,
-    };
+/// Surveys a file with a fault, which so many words come before.
+pub fn look_at(bytes: &[u8], before: usize) -> Survey {
     let mut seen = Survey {
-        tallies: [none; SECTIONS],
+        tallies: [Tally::new(); SECTIONS],
         section: Section::Head,
         odd: None,
     };
     let mut here = Section::Head;
     let mut number: usize = 0;
+    let mut first: usize = 0;
     for line in bytes.split(is_line_feed) {
         number = number.saturating_add(1);
         let row = Row::of(line);
         if let Some(begun) = row.begun() {
             here = begun;
+            seen.take_begin(&row, here);
         } else if here == Section::Head {
             seen.take_head(&row);
         } else {
-            seen.take_row(&row, here, number, number <= asked);
+            seen.take_row(&row, here, number, before.checked_sub(first));
         }
-        if number <= asked {
+        if first <= before {
             seen.section = here;
         }
+        first = first.saturating_add(row.words);
     }
     seen
 }
@@ -161,7 +176,7 @@ pub fn missing_word(bytes: &[u8]) -> Option<Word> {
 /// The word of the header by which the extended format is known.
 const EXTENDED: &[u8] = b"UnavailabilityConstraints:";
 
-/// Checks whether a file that has none of the words of an instance begins with the line of a lecture.
+/// Checks whether a file that has none of the words of an instance begins with a line of whole lectures.
 fn is_solution(bytes: &[u8]) -> bool {
     for word in WORDS {
         if has_word(bytes, word.text()) {
@@ -171,7 +186,7 @@ fn is_solution(bytes: &[u8]) -> bool {
     for line in bytes.split(is_line_feed) {
         let words = Row::of(line).words;
         if words != 0 {
-            return words == WORDS_OF_LECTURE;
+            return words % WORDS_OF_LECTURE == 0;
         }
     }
     false

@@ -64,8 +64,8 @@ next_token token = codes "-" ++ shown token
 abbrev pub instance_name : Problem → List ℕ
 instance_name p = flat_map next_token p.name
 
--- The text that distinguishes an event from all others, and stays the same if the lecture moves: the number of the lecture, its course behind the
--- length of the course's name, and the instance.
+-- The text that distinguishes an event from those of other lectures and of instances with another name, and stays the same if the lecture
+-- moves: the number of the lecture, its course behind the length of the course's name, and the instance's name.
 abbrev pub identity : Problem → ℕ → Cell → List ℕ
 identity p number e =
     decimal number ++ (codes "." ++ (decimal (length (course_name p e)) ++ (codes "."

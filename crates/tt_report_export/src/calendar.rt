@@ -62,7 +62,7 @@ fn put_instance_name(text: &mut Vec<u8>, instance: &Instance<'_>) -> Result<(), 
     Ok(())
 }
 
-/// Appends the text that distinguishes an event from all others.
+/// Appends the text that distinguishes an event from those of other lectures and of instances with another name.
 fn put_identity(
     text: &mut Vec<u8>,
     instance: &Instance<'_>,
@@ -82,7 +82,7 @@ fn put_identity(
     put_instance_name(text, instance)
 }
 
-/// Appends the line with the text that distinguishes an event from all others.
+/// Appends the line with the text that distinguishes an event from those of other lectures and of instances with another name.
 fn put_identity_line(
     out: &mut Vec<u8>,
     instance: &Instance<'_>,

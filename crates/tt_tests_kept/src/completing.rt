@@ -3,8 +3,8 @@
 use std::alloc::Global;
 use std::test::Fail;
 use tt_testing_files::{MemoryFiles, Refusal};
-use tt_testing_runs::{Outcome, run_on};
-use tt_testing_samples::{GAP, MINI, edited};
+use tt_testing_runs::{Outcome, run_on, validated};
+use tt_testing_samples::{GAP, MINI, TRIO, edited};
 
 /// Returns the outcome of `improve` for a solution, and the file that it writes.
 fn completed(
@@ -59,6 +59,17 @@ fn added_lectures_keep_apart(rt: HostRuntime) -> Result<(), Fail> {
         let lines = written.map_or(0, |text| text.lines().count());
         assert_eq!(rt; lines, 2);
     }
+    Ok(())
+}
+
+#[test]
+fn completing_can_break_more_rules(rt: HostRuntime) -> Result<(), Fail> {
+    // Two lectures are missing. In the one period of the week each pair of the three conflicts, and the room has two too many.
+    let solution = "x A 0 0\n";
+    let before = validated(rt.alloc(), TRIO, solution)?;
+    assert!(rt; before.out.as_str().contains("\nhard 2\n"));
+    let (outcome, _) = completed(rt.alloc(), TRIO, solution, "0")?;
+    assert!(rt; outcome.out.as_str().starts_with("hard 5 "));
     Ok(())
 }
 

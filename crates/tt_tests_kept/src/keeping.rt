@@ -1,5 +1,6 @@
 //! Searches that end in time, and what they store on the way.
 
+use crate::solving::CIRCLE;
 use std::alloc::Global;
 use std::test::Fail;
 use tt_testing_files::{MemoryFiles, Refusal};
@@ -58,6 +59,8 @@ fn times_that_are_refused(rt: HostRuntime) -> Result<(), Fail> {
             (2, ""),
             "{seconds}"
         );
+        // A number below 0 is a value, and not a word to be quoted.
+        assert!(rt; !outcome.err.as_str().contains("tip:"), "{seconds}");
         assert_eq!(rt; memory.count(), 2, "{seconds}");
     }
     Ok(())
@@ -90,6 +93,26 @@ fn what_is_kept_is_what_is_written(rt: HostRuntime) -> Result<(), Fail> {
         ] {
             assert_eq!(rt; memory.text(path)?, plain.text(path)?, "{words:?} {path}");
         }
+    }
+    Ok(())
+}
+
+#[test]
+fn what_breaks_hard_rules_is_not_kept(rt: HostRuntime) -> Result<(), Fail> {
+    for words in [
+        [
+            "solve", "a.ctt", "b.sol", "b.proof", "--nodes", "1", "--keep",
+        ]
+        .as_slice(),
+        ["best", "a.ctt", "found", "--rounds", "1", "--keep"].as_slice(),
+    ] {
+        let memory = filled(rt.alloc(), CIRCLE, LONG)?;
+        memory.put("b.sol", "older")?;
+        let outcome = run_on(rt.alloc(), words, &memory)?;
+        assert_eq!(rt; outcome.status, 1, "{words:?}");
+        let older = memory.text("b.sol")?;
+        assert_eq!(rt; older.as_deref(), Some("older"), "{words:?}");
+        assert_eq!(rt; memory.text("found/best.sol")?, None, "{words:?}");
     }
     Ok(())
 }

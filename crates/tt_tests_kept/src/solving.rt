@@ -58,7 +58,7 @@ fn searches_that_end(rt: HostRuntime) -> Result<(), Fail> {
 }
 
 /// Five courses in a circle, of which neighbours conflict, in two periods.
-const CIRCLE: &str =
+pub const CIRCLE: &str =
     "Name: circle\nCourses: 5\nRooms: 3\nDays: 1\nPeriods_per_day: 2\nCurricula: 5\nConstraints: 0\n\nCOURSES:\na s 1 1 1\nb t 1 1 1\nc u 1 1 1\nd v 1 1 1\ne w 1 1 1\n\nROOMS:\nR 1\nS 1\nT 1\n\nCURRICULA:\nq 2 a b\nr 2 b c\ns 2 c d\nt 2 d e\nu 2 e a\n\nUNAVAILABILITY_CONSTRAINTS:\n\nEND.\n";
 
 #[test]

@@ -4,6 +4,7 @@ use std::alloc::Global;
 use std::test::Fail;
 use tt_testing_files::StoredFile;
 use tt_testing_runs::{Outcome, run_with};
+use tt_testing_samples::edited;
 
 /// Three courses, three rooms and two days of two periods.
 const WEEK: &str =
@@ -54,6 +55,24 @@ fn added_and_gone(rt: HostRuntime) -> Result<(), Fail> {
         "algebra hall 0 0 algebra hall 0 1 algebra hall 1 0 logic lab 0 1 optics attic 1 1 optics hall 1 1";
     let outcome = changes(rt.alloc(), newer, OLDER)?;
     let out = "gone logic lab 0 0\nadded optics hall 1 1\nmoved 0 rooms 0\n";
+    assert_eq!(rt; outcome.answer(), (0, out, ""));
+    Ok(())
+}
+
+#[test]
+fn names_that_would_control_a_terminal(rt: HostRuntime) -> Result<(), Fail> {
+    let alloc = rt.alloc();
+    let name = "o\u{1b}]0;ü\u{7}";
+    let week = edited(alloc, WEEK, "optics", name)?;
+    let solution = format!(in alloc; "{name} hall 0 0")?;
+    let files = [
+        StoredFile::new("a.ctt", week.as_bytes()),
+        StoredFile::new("a.sol", solution.as_bytes()),
+        StoredFile::new("b.sol", b"".as_slice()),
+    ];
+    let words = ["report", "a.ctt", "a.sol", "--changes", "b.sol"];
+    let outcome = run_with(alloc, &words, &files)?;
+    let out = "added o?]0;ü? hall 0 0\nmoved 0 rooms 0\n";
     assert_eq!(rt; outcome.answer(), (0, out, ""));
     Ok(())
 }

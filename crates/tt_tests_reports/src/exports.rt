@@ -120,10 +120,19 @@ fn a_calendar(rt: HostRuntime) -> Result<(), Fail> {
         "--minutes",
         "90",
     ];
-    let outcome = exported(rt.alloc(), MINI, "b R 0 1", &words)?;
-    let out =
-        "BEGIN:VCALENDAR\r\nVERSION:2.0\r\nPRODID:-//tt//course timetable//EN\r\nBEGIN:VEVENT\r\nUID:1.1.b@tt-Mini\r\nDTSTAMP:20270228T000000Z\r\nDTSTART:20270228T090500\r\nDURATION:PT90M\r\nSUMMARY:b\r\nLOCATION:R\r\nDESCRIPTION:t2\r\nEND:VEVENT\r\nEND:VCALENDAR\r\n";
-    assert_eq!(rt; outcome.answer(), (0, out, ""));
+    for (solution, out) in [
+        (
+            "b R 0 1",
+            "BEGIN:VCALENDAR\r\nVERSION:2.0\r\nPRODID:-//tt//course timetable//EN\r\nBEGIN:VEVENT\r\nUID:1.1.b@tt-Mini\r\nDTSTAMP:20270228T000000Z\r\nDTSTART:20270228T090500\r\nDURATION:PT90M\r\nSUMMARY:b\r\nLOCATION:R\r\nDESCRIPTION:t2\r\nEND:VEVENT\r\nEND:VCALENDAR\r\n",
+        ),
+        (
+            "",
+            "BEGIN:VCALENDAR\r\nVERSION:2.0\r\nPRODID:-//tt//course timetable//EN\r\nEND:VCALENDAR\r\n",
+        ),
+    ] {
+        let outcome = exported(rt.alloc(), MINI, solution, &words)?;
+        assert_eq!(rt; outcome.answer(), (0, out, ""), "{solution}");
+    }
     Ok(())
 }
 
@@ -207,7 +216,7 @@ fn long_names_are_folded(rt: HostRuntime) -> Result<(), Fail> {
 }
 
 /// The names, first days and times of calendars that are refused, and why.
-const REFUSED: [(&str, &str, &str, &str); 9] = [
+const REFUSED: [(&str, &str, &str, &str); 12] = [
     (
         "S",
         "2027-02-01",
@@ -217,6 +226,25 @@ const REFUSED: [(&str, &str, &str, &str); 9] = [
     (
         "R",
         "2027-02-30",
+        "8:00,9:00,10:00",
+        "refused: the first day is no date of the form 2027-02-01\n",
+    ),
+    (
+        "R",
+        "0999-01-01",
+        "8:00,9:00,10:00",
+        "refused: the first day is no date of the form 2027-02-01\n",
+    ),
+    (
+        "R",
+        "-002027-02-01",
+        "8:00,9:00,10:00",
+        "refused: the first day is no date of the form 2027-02-01\n",
+    ),
+    // The week has three days, and a date of the last two has no year of four digits.
+    (
+        "R",
+        "9999-12-31",
         "8:00,9:00,10:00",
         "refused: the first day is no date of the form 2027-02-01\n",
     ),
@@ -266,18 +294,19 @@ const REFUSED: [(&str, &str, &str, &str); 9] = [
 
 #[test]
 fn calendars_that_are_refused(rt: HostRuntime) -> Result<(), Fail> {
+    let instance = edited(rt.alloc(), MINI, "Days: 1", "Days: 3")?;
     for (name, day, times, err) in REFUSED {
+        let first_day = format!(in rt.alloc(); "--first-day={day}")?;
         let words = [
             "--by",
             "room",
             "--ics",
             name,
-            "--first-day",
-            day,
+            first_day.as_str(),
             "--times",
             times,
         ];
-        let outcome = exported(rt.alloc(), MINI, SOLUTION, &words)?;
+        let outcome = exported(rt.alloc(), &instance, SOLUTION, &words)?;
         assert_eq!(rt; outcome.answer(), (2, "", err), "{name} {day} {times}");
     }
     Ok(())

@@ -4,7 +4,7 @@ use std::alloc::Global;
 use std::test::Fail;
 use tt_testing_files::StoredFile;
 use tt_testing_runs::{Outcome, run_with};
-use tt_testing_samples::{MINI, SAME, TRIO, edited};
+use tt_testing_samples::{MINI, SAME, TRIO, edited, repeated};
 
 /// Returns the outcome of `inspect` for an instance.
 fn inspected(alloc: Global, instance: &str) -> Result<Outcome, Fail> {
@@ -120,6 +120,48 @@ fn letters_of_names(rt: HostRuntime) -> Result<(), Fail> {
     Ok(())
 }
 
+/// Ten courses in no curriculum, whose teachers have one letter each, which is the same.
+const TEN: &str =
+    "Name: Ten\nCourses: 10\nRooms: 1\nDays: 5\nPeriods_per_day: 3\nCurricula: 0\nConstraints: 0\n\nCOURSES:\na t 1 1 1\nb T 1 1 1\nc t. 1 1 1\nd T. 1 1 1\ne t- 1 1 1\nf T- 1 1 1\ng t_ 1 1 1\nh T_ 1 1 1\ni t+ 1 1 1\nj T+ 1 1 1\n\nROOMS:\nR 1\n\nCURRICULA:\n\nUNAVAILABILITY_CONSTRAINTS:\n\nEND.\n";
+
+/// One course of one lecture, and no room.
+const ROOMLESS: &str =
+    "Name: Roomless\nCourses: 1\nRooms: 0\nDays: 1\nPeriods_per_day: 3\nCurricula: 0\nConstraints: 0\n\nCOURSES:\na t1 1 1 1\n\nROOMS:\n\nCURRICULA:\n\nUNAVAILABILITY_CONSTRAINTS:\n\nEND.\n";
+
+#[test]
+fn one_thing_none_and_many(rt: HostRuntime) -> Result<(), Fail> {
+    let week = edited(rt.alloc(), MINI, "Days: 1", "Days: 3")?;
+    let lacking = edited(rt.alloc(), &week, "a t1 1 1 10", "a t1 2 3 10")?;
+    for (instance, status, line) in [
+        (
+            ROOMLESS,
+            1,
+            "1 day of 3 periods, 0 places in all rooms\n0 of 0 pairs of courses can't meet at the same time, 0 percent\nthere is no room\ncan't be: there is 1 lecture, the rooms have 0 places in the week\n",
+        ),
+        (
+            lacking.as_str(),
+            0,
+            "\ncosts 5 at least: course a wants 3 days and has 2 lectures\n",
+        ),
+        (
+            TEN,
+            0,
+            "\nlook at: 10 courses are in no curriculum: a b c d e f g h ..\n",
+        ),
+        (
+            TEN,
+            0,
+            "\nlook at: alike: \"t\", \"t+\"\nlook at: more teachers are alike\n",
+        ),
+    ] {
+        let outcome = inspected(rt.alloc(), instance)?;
+        let (found, out, _) = outcome.answer();
+        assert_eq!(rt; found, status, "{line}");
+        assert!(rt; out.contains(line), "{out}");
+    }
+    Ok(())
+}
+
 #[test]
 fn nothing_to_look_at(rt: HostRuntime) -> Result<(), Fail> {
     let instance = edited(rt.alloc(), MINI, "R 11", "R 12")?;
@@ -161,7 +203,7 @@ fn faults_of_counts_and_headers_in_words(rt: HostRuntime) -> Result<(), Fail> {
         (
             "Name: Mini",
             "\u{FEFF}Name: Mini",
-            "instance: Expected Name: at byte 0\nline 1, column 1: ?Name: is there, Name: was expected\n  ???Name: Mini\n  ^\nlikely: the file begins with a byte order mark; save it as UTF-8 without one\n",
+            "instance: Expected Name: at byte 0\nline 1, column 1: ?Name: is there, Name: was expected\n  ?Name: Mini\n  ^\nlikely: the file begins with a byte order mark; save it as UTF-8 without one\n",
         ),
     ] {
         let instance = edited(rt.alloc(), MINI, old, new)?;
@@ -196,6 +238,11 @@ fn likely_reasons(rt: HostRuntime) -> Result<(), Fail> {
             "the file is in the extended format; examples/ectt_to_ctt.py makes an instance of it",
         ),
         (
+            "Courses: 2\nRooms: 1\n",
+            "Rooms: 1\nCourses: 2\n",
+            "a line is missing, or the lines are in another order",
+        ),
+        (
             "CURRICULA:\nq 2 a b\n\nUNAVAILABILITY_CONSTRAINTS:\n",
             "CURRICULA:\nq 2\na b\n\nUNAVAILABILITY_CONSTRAINTS:\na 1 0\n",
             "the header says Constraints: 0, and 1 line follows UNAVAILABILITY_CONSTRAINTS:",
@@ -210,26 +257,92 @@ fn likely_reasons(rt: HostRuntime) -> Result<(), Fail> {
 }
 
 #[test]
-fn layouts_that_are_not_blamed(rt: HostRuntime) -> Result<(), Fail> {
-    let instance = edited(rt.alloc(), MINI, "Constraints: 0", "Constraints: 1")?;
-    let instance = edited(rt.alloc(), &instance, "q 2 a b", "q 2\na b")?;
-    let instance = edited(
-        rt.alloc(),
-        &instance,
-        "UNAVAILABILITY_CONSTRAINTS:\n",
-        "UNAVAILABILITY_CONSTRAINTS:\na 1 0\n",
-    )?;
+fn files_of_other_kinds(rt: HostRuntime) -> Result<(), Fail> {
+    for solution in ["a R 0 0\nb R 0 1\n", "a R 0 0 b R 0 1\n"] {
+        let outcome = inspected(rt.alloc(), solution)?;
+        let end = "likely: this is a solution; the instance comes before it\n";
+        assert!(rt; outcome.answer().1.ends_with(end), "{solution}");
+    }
+    // The word that ends a file is there, but as the name of a teacher.
+    let instance = edited(rt.alloc(), MINI, "\nEND.\n", "")?;
+    let instance = edited(rt.alloc(), &instance, "a t1", "a END.")?;
     let outcome = inspected(rt.alloc(), &instance)?;
-    let end =
+    assert!(rt;
+        outcome
+            .answer()
+            .1
+            .ends_with("likely: the end of the file is missing\n")
+    );
+    let files = [StoredFile::new("a.ctt", b"\xFF\xFEN\x00a\x00".as_slice())];
+    let outcome = run_with(rt.alloc(), &["inspect", "a.ctt"], &files)?;
+    assert!(rt;
+        outcome
+            .answer()
+            .1
+            .ends_with("likely: the file is in UTF-16; save it as UTF-8\n")
+    );
+    Ok(())
+}
+
+/// Mini with a curriculum over two lines, two rooms in one line, and an unavailability that is to be put in.
+const LINES: &str =
+    "Name: Mini\nCourses: 2\nRooms: 3\nDays: 1\nPeriods_per_day: 3\nCurricula: 2\nConstraints: 2\n\nCOURSES:\na t1 1 1 10\nb t2 1 1 12\n\nROOMS:\nR 11 S 12\nT 9\n\nCURRICULA:\nq 2\na b\nr 1 a\n\nUNAVAILABILITY_CONSTRAINTS:\na 0 1\nb 0 2\n\nEND.\n";
+
+#[test]
+fn layouts_that_are_not_blamed(rt: HostRuntime) -> Result<(), Fail> {
+    let from_0 =
         "likely: days and periods count from 0, so the last is one less than the header says\n";
-    assert!(rt; outcome.answer().1.ends_with(end));
-    let outcome = mini_inspected(rt.alloc(), "a R 0 0 b S 0 1\n")?;
-    let end =
+    let other_name =
+        "likely: the name is spelled otherwise under COURSES:, where capital letters count\n";
+    for (old, new, end) in [
+        ("a 0 1", "a 1 0", from_0),
+        ("a 0 1", "c 0 1", other_name),
+        ("r 1 a", "r 1 c", other_name),
+        ("T 9", "T x", "likely: a number has digits alone\n"),
+        (
+            "a 0 1\n",
+            "",
+            "likely: the header says Constraints: 2, and 1 line follows UNAVAILABILITY_CONSTRAINTS:\n",
+        ),
+        (
+            "q 2\na b",
+            "q 2 a",
+            "likely: line 18 has 3 words; a curriculum has its name, how many courses it has, and their names; no name has a space\n",
+        ),
+    ] {
+        let instance = edited(rt.alloc(), LINES, old, new)?;
+        let outcome = inspected(rt.alloc(), &instance)?;
+        assert!(rt; outcome.answer().1.ends_with(end), "{new}");
+    }
+    // On one line, as a reader takes it.
+    let instance = edited(rt.alloc(), LINES, "a 0 1", "a 1 0")?;
+    let line = instance.as_str().replace(rt.alloc(), "\n", " ")?;
+    let outcome = inspected(rt.alloc(), &line)?;
+    assert!(rt;
+        outcome
+            .answer()
+            .1
+            .contains(", a smaller number was expected\n")
+    );
+    assert!(rt; outcome.answer().1.ends_with(from_0));
+    Ok(())
+}
+
+#[test]
+fn layouts_of_solutions(rt: HostRuntime) -> Result<(), Fail> {
+    let other_name =
         "likely: the name is spelled otherwise in the instance, where capital letters count\n";
-    assert!(rt; outcome.answer().1.ends_with(end));
-    let outcome = inspected(rt.alloc(), "a R 0 0\nb R 0 1\n")?;
-    let end = "likely: this is a solution; the instance comes before it\n";
-    assert!(rt; outcome.answer().1.ends_with(end));
+    for (solution, end) in [
+        ("a R 0 0 b S 0 1\n", other_name),
+        ("a R\n0 0\nb S 0 1\n", other_name),
+        (
+            "a R\n0\nb S 0 1\n",
+            "likely: line 1 has 2 words; a lecture has 4: course, room, day, period; no name has a space\n",
+        ),
+    ] {
+        let outcome = mini_inspected(rt.alloc(), solution)?;
+        assert!(rt; outcome.answer().1.ends_with(end), "{solution}");
+    }
     Ok(())
 }
 
@@ -240,6 +353,11 @@ fn faults_of_names_and_numbers_in_words(rt: HostRuntime) -> Result<(), Fail> {
             "a t1 1 1 10",
             "a t1 one 1 10",
             "instance: NotANumber at byte 101\nline 10, column 6: one is there, a number was expected\n  a t1 one 1 10\n       ^\nlikely: a number has digits alone\n",
+        ),
+        (
+            "a t1 1 1 10",
+            "Prüfung t1 eins 1 10",
+            "instance: NotANumber at byte 108\nline 10, column 13: eins is there, a number was expected\n  Prüfung t1 eins 1 10\n             ^\nlikely: a number has digits alone\n",
         ),
         (
             "b t2 1 1 12",
@@ -296,9 +414,32 @@ fn faults_of_solutions_in_words(rt: HostRuntime) -> Result<(), Fail> {
             "a R 0",
             "solution: Ended at byte 5\nline 1, column 6: the file ends there, more was expected\n  a R 0\n       ^\nlikely: line 1 has 3 words; a lecture has 4: course, room, day, period; no name has a space\n",
         ),
+        (
+            "c R 0 0",
+            "solution: UnknownCourse at byte 0\nline 1, column 1: c is there, the name of a course was expected\n  c R 0 0\n  ^\nlikely: the name is spelled otherwise in the instance, where capital letters count\n",
+        ),
+        (
+            "a R x 0",
+            "solution: NotANumber at byte 4\nline 1, column 5: x is there, a number was expected\n  a R x 0\n      ^\nlikely: a number has digits alone\n",
+        ),
+        (
+            "a R 1 0",
+            "solution: OutOfRange at byte 4\nline 1, column 5: 1 is there, a smaller number was expected\n  a R 1 0\n      ^\nlikely: days and periods count from 0, so the last is one less than the instance says\n",
+        ),
     ] {
         let outcome = mini_inspected(rt.alloc(), solution)?;
         assert_eq!(rt; outcome.answer(), (2, lines, ""));
+    }
+    let many = repeated(rt.alloc(), "a R 0 0\n", 16_385)?;
+    for (solution, end) in [
+        (many.as_str(), "likely: at most 16384 lectures\n"),
+        (
+            MINI,
+            "likely: this is an instance; the solution comes after it\n",
+        ),
+    ] {
+        let outcome = mini_inspected(rt.alloc(), solution)?;
+        assert!(rt; outcome.answer().1.ends_with(end), "{end}");
     }
     Ok(())
 }

@@ -2,7 +2,7 @@
 
 use tt_call_changes::changes;
 use tt_cli_arguments::ChangesRequest;
-use tt_cli_saving::{CommandFault, Input, Inputs, Reply, World};
+use tt_cli_saving::{CommandFault, Input, Inputs, Reply, ShownLines, World};
 
 /// Returns what changed from an older solution to a newer one.
 pub fn answer_changes<R: World>(
@@ -17,5 +17,6 @@ pub fn answer_changes<R: World>(
     let solution = solution.read(rt)?;
     let older = older.read(rt)?;
     let text = changes(rt.alloc(), &instance, &solution, &older)?;
-    Ok(Reply::of(rt.alloc(), 0, text)?)
+    let shown = format!(in rt.alloc(); "{}", ShownLines { bytes: &text })?;
+    Ok(Reply::of(rt.alloc(), 0, shown.into_bytes())?)
 }
