@@ -41,6 +41,39 @@ MISTAKES = [
      "unavailability.csv, line 4, column day: 'Fridya' is neither a day of the week nor a number from 0 to 4"),
     ("unavailability.csv", "Friday,3", "Friday,4", "unavailability.csv, line 5, column period: 4 is too large; at most 3 is allowed"),
 ]
+# Sheets whose empty cells stand for each room, day or period, the constraints of the first, and the wishes of the others.
+OFF = "teacher,day,period\nHilbert,Mo,\nCurie,,8:00\n"
+OFF_BARS = [f"{course} 0 {period}" for course in ("Linear_algebra", "Logic") for period in range(4)]
+OFF_BARS += [f"{course} {day} 0" for course in ("Mechanics", "Optics") for day in range(5)]
+WISHES = {
+    "closed.csv": "room,day,period\nHall,Fr,\n,,14:00\n",
+    "holds.csv": "course,room,day,period\nLogic,,Di,10:00\nOptics,Room 1.07,,\n",
+    "course_rooms.csv": "course,room\nMechanics,Hall\nOptics,Room 1.07\nMechanics,Room 1.07\n",
+}
+WISHES_MADE = """closed Hall 4 *
+closed * * 3
+hold Logic * 1 1
+hold Optics Room_1.07 * *
+room Mechanics Hall Room_1.07
+room Optics Room_1.07
+"""
+WRONG_WISHES = {
+    "closed.csv": "room,day,period,why\n,,,holiday\nHal,7,,\n",
+    "holds.csv": "course,room,day,period\nOptik,,Di,9:00\n",
+    "course_rooms.csv": "course,room\nOptics,\n",
+}
+WISHES_SAID = """closed.csv, line 2: has no room, no day and no period
+closed.csv, line 3, column room: there is no room 'Hal' in rooms.csv
+closed.csv, line 3, column day: 7 is too large; at most 4 is allowed
+holds.csv, line 2, column course: there is no course 'Optik' in courses.csv
+holds.csv, line 2, column period: '9:00' is not a whole number, such as 3
+course_rooms.csv, line 2, column room: is empty
+"""
+WRONG_OFF = "course,teacher,day,period\nOptics,Curie,0,0\n,Bohr,0,0\nOptics,,,\n"
+OFF_SAID = """unavailability.csv, line 2: has to name a course or a teacher, not both
+unavailability.csv, line 3, column teacher: there is no teacher 'Bohr' in courses.csv
+unavailability.csv, line 4: has neither a day nor a period
+"""
 # The text of a solution, and what from_solution.py has to say of it.
 WRONG_SOLUTIONS = [
     ("Optics Hall 0 0 Optics", "lecture 2: a lecture has four words: course, room, day, period"),
@@ -169,6 +202,43 @@ def table_checks(folder):
         check("tables with names of days and periods make department.ctt", (done.stdout, done.stderr) == (file.read(), ""), done.stderr)
 
 
+def sheets_with(tables, folder, name):
+    """A copy of the sheets with these tables in place of theirs."""
+    sheets = f"{folder}/{name}"
+    shutil.copytree(SHEETS, sheets)
+    for file, text in tables.items():
+        with open(f"{sheets}/{file}", "w", encoding="utf-8") as opened:
+            opened.write(text)
+    return sheets
+
+
+def wish_checks(folder):
+    """Looks whether rows of teachers become constraints, and tables wishes."""
+    sheets = sheets_with({**WISHES, "unavailability.csv": OFF}, folder, "wishes")
+    done = script("to_instance.py", sheets, *NAMES, folder=folder)
+    bars = done.stdout.partition("UNAVAILABILITY_CONSTRAINTS:\n")[2].partition("\n\nEND.")[0].split("\n")
+    check("a row stands for a teacher's day, or for a period of each day", bars == OFF_BARS, done.stdout + done.stderr)
+    with open(folder + "/wished.ctt", "w", encoding="utf-8") as file:
+        file.write(done.stdout)
+    done = script("to_wishes.py", sheets, *NAMES, folder=folder)
+    check("tables make wishes", (done.stdout, done.stderr, done.returncode) == (WISHES_MADE, "", 0), done.stdout + done.stderr)
+    with open(folder + "/made.wishes", "w", encoding="utf-8") as file:
+        file.write(done.stdout)
+    with open(folder + "/few.sol", "w", encoding="utf-8") as file:
+        file.write(FEW)
+    done = run([TT, "validate", "wished.ctt", "few.sol", "--wishes", "made.wishes"], folder)
+    check("tt reads them", done.stdout.endswith("\nwishes 4\n"), done.stdout + done.stderr)
+    sheets = sheets_with({**WRONG_WISHES, "unavailability.csv": WRONG_OFF}, folder, "wrong_wishes")
+    done = script("to_wishes.py", sheets, *NAMES, folder=folder)
+    check("mistakes in tables of wishes", (done.stdout, done.stderr, done.returncode) == ("", WISHES_SAID, 2), done.stderr)
+    done = script("to_instance.py", sheets, folder=folder)
+    check("mistakes in rows of teachers", (done.stdout, done.stderr, done.returncode) == ("", OFF_SAID, 2), done.stderr)
+    decomposed = sheets_with({"curricula.csv": "curriculum,course\nq,Me\u0301canique\n", "courses.csv":
+                              "course,teacher,lectures,days,students\nM\u00e9canique,Curie,1,1,9\n", "unavailability.csv": OFF[:19]}, folder, "decomposed")
+    done = script("to_instance.py", decomposed, folder=folder)
+    check("letters with accents are the same however they are coded", done.returncode == 0 and "M\u00e9canique Curie" in done.stdout, done.stderr)
+
+
 def lectures_of(solution):
     """The lectures of a solution file, in the order of the week: day, period, course, room."""
     with open(solution, encoding="utf-8") as file:
@@ -196,6 +266,34 @@ def events_of(text):
 def folding_holds(text):
     lines = text.split("\r\n")
     return lines[-1] == "" and "\n" not in text.replace("\r\n", "") and all(len(line.encode("utf-8")) <= 75 for line in lines)
+
+
+def hall_week(solution, folder):
+    """The program's calendar of the hall, as text; a line keeps its own end."""
+    words = ["report", "department.ctt", solution, "--by", "room", "--ics", "Hall", "--first-day", FIRST_DAY, "--times", TIMES, "--minutes", "90"]
+    done = subprocess.run([TT, *words], cwd=folder, capture_output=True)
+    return done.stdout.decode("utf-8")
+
+
+def hall_checks(folder, events):
+    """Looks whether the program's calendar of the hall has what the script's has, and keeps its identities if a lecture moves."""
+    text = hall_week("department/best.sol", folder)
+    found = events_of(text)
+    seen = sorted((event["SUMMARY"].replace("_", " "), event["LOCATION"], event["DTSTART"], event["DURATION"]) for event in found)
+    wanted = sorted((event["SUMMARY"], "Hall", event["DTSTART"], "PT90M") for event in events if event["LOCATION"] == "Hall")
+    check("the program's calendar of a room has the script's events", seen == wanted and len(seen) > 0, seen[:2])
+    identities = sorted(event["UID"] for event in found)
+    check("its events have names of their own", len(set(identities)) == len(found))
+    check("its lines end in CRLF and have at most 75 octets", folding_holds(text))
+    with open(folder + "/department/best.sol", encoding="utf-8") as file:
+        lines = file.read().splitlines()
+    number = next(number for number, line in enumerate(lines) if line.split()[1] == "Hall")
+    course, room, day, period = lines[number].split()
+    lines[number] = f"{course} {room} {(int(day) + 1) % 5} {period}"
+    with open(folder + "/moved.sol", "w", encoding="utf-8") as file:
+        file.write("\n".join(lines) + "\n")
+    moved = events_of(hall_week("moved.sol", folder))
+    check("a lecture that moves keeps its name", identities == sorted(event["UID"] for event in moved) and moved != found)
 
 
 def calendar(instance, solution, folder):
@@ -237,6 +335,7 @@ def week_checks(folder):
     check("the events have names of their own", len({event["UID"] for event in events}) == len(events))
     check("the calendar's lines end in CRLF and have at most 75 octets", folding_holds(text))
     check("the calendar is the same each time", calendar("department.ctt", "department/best.sol", folder) == text)
+    hall_checks(folder, events)
 
 
 def hard_name_checks(folder):
@@ -400,7 +499,8 @@ def calling_checks(_folder):
         check(f"CALLING's imports are those of {re.search(r'crates/[^]]*', line)[0]}", not missing, missing)
 
 
-GROUPS = [instance_checks, mistake_checks, solution_mistake_checks, table_checks, hard_name_checks, extended_checks, calling_checks, week_checks, no_parallel_checks, many_checks]
+GROUPS = [instance_checks, mistake_checks, solution_mistake_checks, table_checks, wish_checks, hard_name_checks, extended_checks, calling_checks, week_checks,
+          no_parallel_checks, many_checks]
 
 
 def main():

@@ -30,7 +30,7 @@ COURSES = r"(?P<names>.+)"
 NEEDS = r"have (?P<lectures>\d+) lectures?, and together (?P<periods>\d+) periods?(?P<slots>.*?)"
 LACK = r"; (?:they lack|it lacks) (?P<lack>\d+) (?:period|place)s?"
 SHAPES = {
-    "rooms": r"there are (?P<lectures>\d+) lectures?, the rooms have (?P<places>\d+) places? in the week",
+    "rooms": r"there (?:is|are) (?P<lectures>\d+) lectures?, the rooms have (?P<places>\d+) places? in the week",
     "group": r"(?P<kind>curriculum|teacher) (?P<group>\S+) has (?P<lectures>\d+) lectures?, the week has (?P<periods>\d+) periods?",
     "course": rf"course {COURSES} has (?P<lectures>\d+) lectures? and can meet in (?P<periods>\d+) periods?(?P<slots>.*?){LACK}",
     "clique": rf"no two of {COURSES} can meet at the same time; they {NEEDS}{LACK}",

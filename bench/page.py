@@ -3,8 +3,8 @@
 
     python3 bench/page.py [FOLDER]
 
-writes the page of some timetables (good, broken, with names that are markup or no text, two weeks long, with names of days and
-periods, some weeks alone) and says of each whether it is, byte for byte, what this second program derives from the two files; its tags are
+writes the page of some timetables (good, broken, with names that are markup or no text, two weeks, 16 days and 64 days long, with
+names of days and periods, some weeks alone) and says of each whether it is, byte for byte, what this second program derives from the two files; its tags are
 balanced, its ids are unique, each link lands, nothing comes from outside, the marks and the items of the lists add up to the
 counts, the colours of bars are no paler than WCAG asks, and it is below 2 MB where the instance is of realistic size. The last
 line counts what passed and failed. Where Chromium is there, pictures at three widths and on paper are put into FOLDER, beside the
@@ -36,6 +36,7 @@ CASES = [
     ("like02.curricula", EXAMPLES + "/like02.ctt", EXAMPLES + "/like02.sol", [], [], ("--only", "curricula")),
     ("like02.days", EXAMPLES + "/like02.ctt", EXAMPLES + "/like02.sol", [], [], ("--only", "days")),
 ]
+LONG_WEEKS = [16, 64]
 MOST_BYTES = 2_000_000
 HUES = 12
 LEAST_CONTRAST = 3  # of a bar, by WCAG
@@ -580,6 +581,21 @@ def look(name, instance, solution, folder, days=(), periods=(), sheet=()):
     return faults
 
 
+def long_week(days, folder):
+    """The case of a week of so many days, which breaks rules on the first day and the last; its files are put into the folder."""
+    last = days - 1
+    head = f"Name: {days} days Courses: 3 Rooms: 2 Days: {days} Periods_per_day: 3 Curricula: 1 Constraints: 1"
+    courses = f"COURSES: a s {days} {days} 12 b t {days} {days} 9 c s 2 2 9"
+    lectures = [f"a R {day} 0\nb S {day} {2 if day % 2 else 1}\n" for day in range(days)]
+    name = f"days{days}"
+    path = os.path.join(folder, name)
+    with open(path + ".ctt", "w", encoding="utf-8") as file:
+        file.write(f"{head} {courses} ROOMS: R 10 S 9 CURRICULA: q 2 a b UNAVAILABILITY_CONSTRAINTS: b {last} 2 END.\n")
+    with open(path + ".sol", "w", encoding="utf-8") as file:
+        file.write("".join(lectures) + f"c S 0 0\nc S {last} 0\n")
+    return name, path + ".ctt", path + ".sol"
+
+
 # ---- pictures
 
 
@@ -602,7 +618,8 @@ def main():
     os.makedirs(folder, exist_ok=True)
     failed = 0
     browser = shutil.which("chromium") or shutil.which("chromium-browser") or shutil.which("google-chrome")
-    for name, instance, solution, *named in CASES:
+    cases = CASES + [long_week(days, folder) for days in LONG_WEEKS]
+    for name, instance, solution, *named in cases:
         faults = look(name, instance, solution, folder, *named)
         if browser and os.path.exists(os.path.join(folder, name + ".html")):
             faults += [f"no picture {it}" for it in take_pictures(browser, name, folder)]
@@ -611,7 +628,7 @@ def main():
             print(f"  {name}: {fault}")
     if not browser:
         print("no Chromium: no pictures were taken")
-    print(f"{len(CASES) - failed} passed, {failed} failed")
+    print(f"{len(cases) - failed} passed, {failed} failed")
     return 1 if failed else 0
 
 

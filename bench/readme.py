@@ -12,7 +12,7 @@ import tempfile
 
 HERE = os.path.dirname(os.path.abspath(__file__))
 TOP = os.path.dirname(HERE)
-COMMANDS = ("./tt ", "cp ", "sed ", "head ", "python3 examples/")
+COMMANDS = ("./tt ", "cp ", "sed ", "python3 examples/")
 
 
 def commands_of(text):

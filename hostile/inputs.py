@@ -186,6 +186,7 @@ def values_of_groups(desk):
         (b"CTTG 3 bound 0 end", refused(b"proof 1: Expected 1 at byte 5")),
         (b"CTTX 1 bound 0 end", refused(b"proof 1: Expected CTTP at byte 0")),
         (b" " * 4_092 + b"CTTG 1 bound 0 end", (0, b"bound 0\n", b"")),
+        (b" " * 4_092 + b"CTTGx", refused(b"proof 1: Expected CTTG at byte 4092")),
         (b" " * 4_093 + b"CTTG 1 bound 0 end", refused(b"proof 1: Expected CTTP at byte 4093")),
     ]:
         desk.put(instance=GAP, groups=text)

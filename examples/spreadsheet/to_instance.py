@@ -4,21 +4,32 @@
     python3 to_instance.py FOLDER [--name NAME] [--days 5] [--periods 4] > INSTANCE
 
 FOLDER has courses.csv, rooms.csv, curricula.csv and unavailability.csv, as a spreadsheet program saves them. The first line of
-each names the columns; unavailability.csv may be missing. In place of their numbers --days and --periods may have the names that the tables give
-to days and periods, as --days Montag,Dienstag,Mittwoch --periods 8:00,10:00. If something is wrong, nothing is written: each problem is one line
-on standard error, with its file, line and column, and how many more lines have it, and the exit status is 2.
+each names the columns; unavailability.csv may be missing. A row of it has a course or a teacher, which stands for all courses of that teacher;
+without a period it stands for the whole day, and without a day for the period of each day. In place of their numbers --days and --periods may
+have the names that the tables give to days and periods, as --days Montag,Dienstag,Mittwoch --periods 8:00,10:00. If something is wrong, nothing
+is written: each problem is one line on standard error, with its file, line and column, and how many more lines have it, and the exit status is 2.
 """
 import argparse
 import csv
 import io
 import os
 import sys
+import unicodedata
 
 COLUMNS = {
     "courses.csv": ("course", "teacher", "lectures", "days", "students"),
     "rooms.csv": ("room", "seats"),
     "curricula.csv": ("curriculum", "course"),
-    "unavailability.csv": ("course", "day", "period"),
+    "unavailability.csv": ("day", "period"),
+    "closed.csv": ("room", "day", "period"),
+    "holds.csv": ("course", "room", "day", "period"),
+    "course_rooms.csv": ("course", "room"),
+}
+# Of these tables the columns may be empty that a row need not have.
+FREE = {
+    "unavailability.csv": ("day", "period"),
+    "closed.csv": ("room", "day", "period"),
+    "holds.csv": ("room", "day", "period"),
 }
 WEEKDAYS = ("monday", "tuesday", "wednesday", "thursday", "friday", "saturday", "sunday")
 MOST = {"lectures": 4_096, "days": 512, "students": 1_000_000, "seats": 1_000_000}
@@ -41,8 +52,8 @@ def problem_lines():
 
 
 def word(text):
-    """A name as one word, since an instance file separates words by spaces."""
-    return "_".join(text.split())
+    """A name as one word, since an instance file separates words by spaces; letters with accents are the same however they are coded."""
+    return unicodedata.normalize("NFC", "_".join(text.split()))
 
 
 def read_rows(folder, file):
@@ -68,7 +79,7 @@ def read_rows(folder, file):
         cells = {column: word(row[at]) if at < len(row) else "" for at, column in enumerate(header)}
         if any(cells.values()):
             for column in COLUMNS[file]:
-                if not cells[column]:
+                if not cells[column] and column not in FREE.get(file, ()):
                     report(file, line, column, "is empty")
             yield line, cells
         line = rows.line_num + 1
@@ -157,16 +168,42 @@ def period_of(file, line, text, periods, period_names):
     return number(file, line, "period", text, periods - 1)
 
 
-def read_unavailability(folder, courses, days, periods):
-    """The periods in which courses can't meet; days and periods are each a number and their names."""
+def courses_of_row(file, line, cells, teachers):
+    """The courses for which a row stands: that of its course, or all of its teacher."""
+    course, teacher = cells.get("course", ""), cells.get("teacher", "")
+    if bool(course) == bool(teacher):
+        report(file, line, None, "has to name a course or a teacher" + (", not both" if course else ""))
+        return []
+    if course:
+        check_course(file, line, course, teachers)
+        return [course]
+    courses = [name for name, its in teachers.items() if its == teacher]
+    if not courses and teachers:
+        report(file, line, "teacher", f"there is no teacher '{teacher}' in courses.csv")
+    return courses
+
+
+def numbers_of(number, count):
+    """A number, or all below a count if there is none."""
+    return range(count) if number is None else [number]
+
+
+def read_unavailability(folder, teachers, days, periods):
+    """The periods in which courses can't meet; days and periods are each a number and their names. Each course has its teacher in teachers."""
     file, found = "unavailability.csv", {}
     if not os.path.lexists(os.path.join(folder, file)):
         return []
     for line, cells in read_rows(folder, file):
-        check_course(file, line, cells["course"], courses)
+        courses = courses_of_row(file, line, cells, teachers)
+        if not cells["day"] and not cells["period"]:
+            report(file, line, None, "has neither a day nor a period")
+            continue
         day = day_of(file, line, cells["day"], *days)
         period = period_of(file, line, cells["period"], *periods)
-        found[cells["course"], day, period] = None
+        for course in courses:
+            for each_day in numbers_of(day, days[0]):
+                for each_period in numbers_of(period, periods[0]):
+                    found[course, each_day, each_period] = None
     return list(found)
 
 
@@ -197,22 +234,34 @@ def counted(text):
     return len(names), names
 
 
-def main():
-    parser = argparse.ArgumentParser(description="Writes an instance file from the four tables of a spreadsheet.")
+def parser_of(description):
+    """A parser of a folder and the week's days and periods."""
+    parser = argparse.ArgumentParser(description=description)
     parser.add_argument("folder")
-    parser.add_argument("--name", help="the name of the instance; that of the folder if none is given")
     parser.add_argument("--days", type=counted, default="5", help="how many days the week has, 1 to 7, or their names (default: 5)")
     parser.add_argument("--periods", type=counted, default="4", help="how many periods a day has, 1 to 64, or their names (default: 4)")
+    return parser
+
+
+def options_of(parser):
+    """The options that were given, with days and periods within their limits."""
     options = parser.parse_args()
     for option, (count, _), most in (("--days", options.days, 7), ("--periods", options.periods, 64)):
         if not 1 <= count <= most:
             parser.error(f"{option}: {count} is not from 1 to {most}")
+    return options
+
+
+def main():
+    parser = parser_of("Writes an instance file from the four tables of a spreadsheet.")
+    parser.add_argument("--name", help="the name of the instance; that of the folder if none is given")
+    options = options_of(parser)
     name = word(options.name or os.path.basename(os.path.abspath(options.folder)))
     courses = read_records(options.folder, "courses.csv")
     rooms = read_records(options.folder, "rooms.csv")
-    names = {words[0] for words in courses}
-    curricula = read_curricula(options.folder, names)
-    bars = read_unavailability(options.folder, names, options.days, options.periods)
+    teachers = {words[0]: words[1] for words in courses}
+    curricula = read_curricula(options.folder, teachers)
+    bars = read_unavailability(options.folder, teachers, options.days, options.periods)
     check_sizes(courses, rooms, curricula, bars)
     if problems:
         print("\n".join(problem_lines()), file=sys.stderr)
