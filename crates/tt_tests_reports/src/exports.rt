@@ -292,21 +292,26 @@ const REFUSED: [(&str, &str, &str, &str); 12] = [
     ),
 ];
 
+/// Returns the outcome of `report` for the calendar of a room of Mini on three days, from a first day on.
+fn calendar_from(alloc: Global, name: &str, day: &str, times: &str) -> Result<Outcome, Fail> {
+    let instance = edited(alloc, MINI, "Days: 1", "Days: 3")?;
+    let first_day = format!(in alloc; "--first-day={day}")?;
+    let words = [
+        "--by",
+        "room",
+        "--ics",
+        name,
+        first_day.as_str(),
+        "--times",
+        times,
+    ];
+    exported(alloc, &instance, SOLUTION, &words)
+}
+
 #[test]
 fn calendars_that_are_refused(rt: HostRuntime) -> Result<(), Fail> {
-    let instance = edited(rt.alloc(), MINI, "Days: 1", "Days: 3")?;
     for (name, day, times, err) in REFUSED {
-        let first_day = format!(in rt.alloc(); "--first-day={day}")?;
-        let words = [
-            "--by",
-            "room",
-            "--ics",
-            name,
-            first_day.as_str(),
-            "--times",
-            times,
-        ];
-        let outcome = exported(rt.alloc(), &instance, SOLUTION, &words)?;
+        let outcome = calendar_from(rt.alloc(), name, day, times)?;
         assert_eq!(rt; outcome.answer(), (2, "", err), "{name} {day} {times}");
     }
     Ok(())
