@@ -1,12 +1,13 @@
 """Cut files, numbers at their limits, and files that aren't there or are something else, through the program."""
 
+import json
 import re
 import subprocess
 from dataclasses import dataclass
 
 from program import PROGRAM
 from refusing import READ_ERROR, Refusal
-from samples import APART, CROWDED, GAP, GAP_GROUPS, GAP_PRICES, GAP_PROOF, MINI, NEXT_TO_EACH_OTHER
+from samples import APART, CROWDED, GAP, GAP_GROUPS, GAP_PRICES, GAP_PROOF, MINI, NEXT_TO_EACH_OTHER, SAME
 
 SPACES = b" " * 65_536
 SPLIT = b"S c0 * d0 p0\n"
@@ -356,6 +357,31 @@ def weeks_by_name(desk):
         same(desk.told([*words, name + name]), refused(f"--week: unknown name: {name}{name}".encode()))
 
 
+# How the lines of `inspect` begin whose kind isn't `text` or `cost`.
+FRONTS = {"impossible": "can't be: ", "remark": "look at: ", "advice": "likely: "}
+
+
+def json_says_the_same(desk):
+    """With --json `validate` and `inspect` say what they say without, whatever the names are."""
+    named = [MINI.replace(b" t1 ", b" " + name + b" ") for name in (b'"', b"\\", b"\xff", "é\u2028".encode(), b"\x1b[2J\x00", b"can't")]
+    desk.put(solution=NEXT_TO_EACH_OTHER, wishes=b"hold a R 0 2\n")
+    for instance in named:
+        desk.put(instance=instance)
+        for more in ("", " --wishes wishes"):
+            status, out, _ = desk.told(f"validate instance solution{more}")
+            counts = {"wishes": None, **{line.split()[0]: int(line.split()[1]) for line in out.decode().splitlines()}}
+            said = desk.told(f"validate instance solution{more} --json")
+            assert (said[0], json.loads(said[1]), said[2]) == (status, counts, b""), f"{instance}{more}: {said}"
+    for instance in (*named, MINI, SAME, CROWDED, GAP[:-30], MINI.replace(b"a t1 1", b'a t1 "x"'), b"\xff\xfe"):
+        desk.put(instance=instance)
+        for words in ("inspect instance", "inspect instance solution"):
+            status, out, _ = desk.told(words)
+            said = desk.told(f"{words} --json")
+            found = json.loads(said[1])
+            lines = "".join(FRONTS.get(line["kind"], "") + line["text"] + "\n" for line in found["lines"])
+            assert (lines, said[2]) == (out.decode(), b"") and status == said[0] == found["status"], f"{words}: {said}"
+
+
 ROWS = [
     ("Mini cut to each length", cut_instances),
     ("the proof of Gap cut to each length", cut_proofs),
@@ -372,5 +398,6 @@ ROWS = [
     ("files that aren't there", missing_files),
     ("folders in the place of files", folders_in_the_place_of_files),
     ("weeks by name", weeks_by_name),
+    ("JSON", json_says_the_same),
     ("standard input as an input", standard_input),
 ]

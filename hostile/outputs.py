@@ -567,14 +567,39 @@ def links_that_may_not_be_followed(desk):
     assert {it.name for it in room.iterdir()} == {"out", "link"}
 
 
-def full_disks(desk):
-    """On a disk without space what was found goes to standard output."""
-    filled(desk)
-    room = desk.folder / "room"
+@contextmanager
+def small_disk(room):
+    """A new folder that is a disk of its own."""
     room.mkdir()
     if subprocess.run(["mount", "-t", "tmpfs", "-o", "size=64k", "none", room], capture_output=True).returncode:
         raise Skipped("no disk can be mounted here")
     try:
+        yield
+    finally:
+        subprocess.run(["umount", room], check=True)
+
+
+def equal_numbers_on_two_disks(desk):
+    """Files that have one number, but on two disks, are two files."""
+    filled(desk)
+    one, two = desk.folder / "one", desk.folder / "two"
+    with small_disk(one), small_disk(two):
+        for room, text in ((one, OLDER), (two, GAP)):
+            (room / "file").write_bytes(text)
+        if os.stat(one / "file").st_ino != os.stat(two / "file").st_ino:
+            raise Skipped("files on two new disks have different numbers here")
+        # An output on one, and an input on the other; then an output on each.
+        status, _, err = desk.told("improve two/file solution one/file")
+        assert (status, err) == (0, b"") and is_timetable(desk, (one / "file").read_bytes()), f"{status}, {err}"
+        status, _, err = desk.told("solve instance one/file two/file")
+        assert (status, err) == (0, b"") and is_timetable(desk, (one / "file").read_bytes()), f"{status}, {err}"
+
+
+def full_disks(desk):
+    """On a disk without space what was found goes to standard output."""
+    filled(desk)
+    room = desk.folder / "room"
+    with small_disk(room):
         with open(room / "filling", "wb", buffering=0) as file:
             try:
                 while True:
@@ -585,8 +610,6 @@ def full_disks(desk):
         said = b"refused: cannot write: output solution: room/out: No space left on device (os error 28); output solution is on standard output\n"
         assert (status, err) == (2, said) and is_timetable(desk, out), f"{status}, {out}, {err}"
         assert {it.name for it in room.iterdir()} == {"filling"}
-    finally:
-        subprocess.run(["umount", room], check=True)
 
 
 # ---- searches that are stopped, or go on from earlier results
@@ -851,6 +874,7 @@ ROWS = [
     ("immutable files", immutable_files),
     ("mounted files", mounted_files),
     ("a full disk", full_disks),
+    ("equal numbers of files on two disks", equal_numbers_on_two_disks),
     ("what a search can't keep on the way", kept_ways_that_fail),
     ("links that may not be followed", links_that_may_not_be_followed),
     ("searches with a limit of time", search_for_a_second),

@@ -1,5 +1,5 @@
 -- The answers of `table` and `calendar` for the bytes of an instance and of a solution.
-use Rattle.std.specs.Prelude.{◌≡◌, ℕ, Bool, List, None, Some, Err, ⊤, slice_get}
+use Rattle.std.specs.Prelude.{◌≡◌, ℕ, Bool, List, length, None, Some, Err, ⊤, slice_get}
 use Rattle.tt_instance.specs.Problem.{Problem}
 use Rattle.tt_instance.specs.Spelling.{Spells}
 use Rattle.tt_instance_read.specs.Reading.{instance_of}
@@ -7,10 +7,12 @@ use Rattle.tt_instance.specs.declared.cell.Cell.{Cell}
 use Rattle.tt_table.specs.declared.kind.Kind.{Kind as By}
 use Rattle.tt_report_export.specs.Tables.{table_text}
 use Rattle.tt_report_export.specs.Calendars.{Term, calendar_text}
-use Rattle.tt_report_export.specs.Terms.{IsTermFrom}
-use Rattle.tt_report_export.specs.Times.{ExplainsTimes}
+use Rattle.jiff.specs.Types.{Date}
+use Rattle.tt_report_export.specs.Terms.{IsTermFrom, IsFirstOf, ExplainsTerm}
+use Rattle.tt_report_export.specs.Times.{AreTimesOf}
 use Rattle.tt_report_export.specs.Weeks.{IsWeekOf, names_by}
 use Rattle.tt_report_export.specs.declared.term.TermFault.{TermFault}
+use Rattle.tt_report_export.specs.declared.term.TermFault.TheVariants as term
 use Rattle.tt_report_export.specs.declared.week.Week.{Week}
 use Rattle.tt_table.specs.Spelling.{SpellsBoth}
 use Rattle.tt_proof_check.specs.Verdicts.{FailsSolution}
@@ -54,23 +56,38 @@ pub record HasNoName (instance solution : List ℕ) (by : By) (name : List ℕ) 
   pub both : SpellsBoth instance solution problem table
   pub unknown : (n : ℕ) → ¬ (slice_get (names_by problem by) n ≡ Some name)
 
--- A refusal of dates and times: if it is about the times, it is so.
+-- A refusal of dates and times: it is so, and a fault of memory is no fault of them.
 abbrev pub IsTermFault : Problem → WeekTimes → AppFault → Type 0
-IsTermFault p times (fault.Term f) = ExplainsTimes times.times.now p.periods f
+IsTermFault p times (fault.Term term.OutOfMemory) = ⊥
+IsTermFault p times (fault.Term f) = ExplainsTerm times.first_day.now times.times.now p.days p.periods f
 IsTermFault p times fault.OutOfMemory = ⊤
 IsTermFault p times _ = ⊥
 
--- the instance is spelled, and the times aren't those of its periods
-pub record HasNoTerm (instance times : List ℕ) (f : TermFault) : Type 0 where
+-- the instance is spelled, and the dates aren't those of its days, or the times aren't those of its periods
+pub record HasNoTerm (instance : List ℕ) (times : WeekTimes) (f : TermFault) : Type 0 where
   pub problem : Problem
   pub spelled : Spells instance problem
-  pub explained : ExplainsTimes times problem.periods f
+  pub explained : IsTermFault problem times (fault.Term f)
 
 -- a refusal reports the first error: the instance's, then the solution's, then that of the name, then that of the dates and times
 abbrev pub IsCalendarRefusal : List ℕ → List ℕ → By → List ℕ → WeekTimes → AppFault → Type 0
 IsCalendarRefusal instance solution by name times (fault.Instance f) = instance_of instance ≡ Err f
 IsCalendarRefusal instance solution by name times (fault.Solution f) = FailsSolution instance solution f
 IsCalendarRefusal instance solution by name times fault.UnknownName = HasNoName instance solution by name
-IsCalendarRefusal instance solution by name times (fault.Term f) = HasNoTerm instance times.times.now f
+IsCalendarRefusal instance solution by name times (fault.Term f) = HasNoTerm instance times f
 IsCalendarRefusal instance solution by name times fault.OutOfMemory = ⊤
 IsCalendarRefusal instance solution by name times _ = ⊥
+
+-- The files are spelled, a room, a teacher or a curriculum has the name, the first text gives the date of the first of the days, and the second
+-- one has a time for each period of a day.
+pub record HasCalendar (instance solution : List ℕ) (by : By) (name : List ℕ) (times : WeekTimes) : Type 0 where
+  pub problem : Problem
+  pub table : List Cell
+  pub number : ℕ
+  pub date : Date
+  pub begins : List ℕ
+  pub both : SpellsBoth instance solution problem table
+  pub named : slice_get (names_by problem by) number ≡ Some name
+  pub dated : IsFirstOf times.first_day.now problem.days date
+  pub timed : AreTimesOf times.times.now begins
+  pub all : length begins ≡ problem.periods

@@ -5,8 +5,7 @@ use std::io::Write;
 use tt_cli_arguments::{Request, parse_arguments};
 use tt_cli_checks::{
     answer_bound, answer_calendar, answer_changes, answer_check, answer_inspect, answer_page,
-    answer_stored, answer_sum, answer_table, answer_upgrade, answer_validate, answer_wishes,
-    report_to,
+    answer_stored, answer_sum, answer_table, answer_upgrade, answer_validate, report_to,
 };
 use tt_cli_files::{Printed, Rescued, StandardStream, Unwritten, Whereabouts, WriteFault};
 use tt_cli_saving::{CommandFault, Reply, World};
@@ -67,8 +66,7 @@ fn reply_to<R: World, O: Write, E: Write>(
     err: &mut E,
 ) -> Result<Reply, CommandFault> {
     match request {
-        Request::Validate(files) => answer_validate(rt, *files),
-        Request::Wishes(request) => answer_wishes(rt, *request),
+        Request::Validate(request) => answer_validate(rt, *request),
         Request::Inspect(request) => answer_inspect(rt, *request),
         Request::Page(request) => answer_page(rt, out, err, request),
         Request::Check(request) => answer_check(rt, err, *request),

@@ -2,11 +2,10 @@
 
 use crate::best::{BEST, BestRequest, best_request};
 use crate::checks::{
-    BOUND, BoundRequest, CHECK, CheckRequest, UPGRADE, UpgradeRequest, VALIDATE, WishesRequest,
+    BOUND, BoundRequest, CHECK, CheckRequest, UPGRADE, UpgradeRequest, VALIDATE, ValidateRequest,
     bound_request, check_request, upgrade_request, validate_request,
 };
 use crate::description::{Description, commands_of};
-use crate::files::TimetableFiles;
 use crate::inspect::{INSPECT, InspectRequest, inspect_request};
 use crate::pages::{PAGE, PageRequest, page_request};
 use crate::parts::{PARTS, PartsRequest, parts_request};
@@ -23,8 +22,7 @@ use std::alloc::{AllocError, Global};
 /// The command of a command line, with its files and its options. Files are paths; a path that is `-` is a standard stream.
 #[derive(Drop)]
 pub enum Request<'a> {
-    Validate(TimetableFiles<'a>),
-    Wishes(WishesRequest<'a>),
+    Validate(ValidateRequest<'a>),
     Inspect(InspectRequest<'a>),
     Page(PageRequest<'a>),
     Check(CheckRequest<'a>),

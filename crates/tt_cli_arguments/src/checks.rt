@@ -2,15 +2,16 @@
 
 use crate::arguments::Request;
 use crate::description::Description;
-use crate::files::{INSTANCE, OUT, PROOF, SOLUTION, TimetableFiles, WISHES};
+use crate::files::{INSTANCE, JSON, OUT, PROOF, SOLUTION, TimetableFiles, WISHES};
 use crate::showing::{PROGRESS, QUIET, Showing, showing_of};
 use clap::ArgMatches;
 
-/// The files of `validate --wishes`.
+/// The files of `validate`, and whether it prints JSON.
 #[derive(Clone, Copy, Debug)]
-pub struct WishesRequest<'a> {
+pub struct ValidateRequest<'a> {
     pub files: TimetableFiles<'a>,
-    pub wishes: &'a str,
+    pub wishes: Option<&'a str>,
+    pub is_json: bool,
 }
 
 /// The files and options of `check`.
@@ -44,7 +45,7 @@ pub const VALIDATE: Description<'static> = Description {
     name: "validate",
     about: "Prints the eight counts of a solution",
     example: "Example: tt validate week.ctt week.sol",
-    arguments: &[INSTANCE, SOLUTION, WISHES, PROGRESS, QUIET],
+    arguments: &[INSTANCE, SOLUTION, WISHES, JSON, PROGRESS, QUIET],
 };
 
 /// The command `check`.
@@ -77,10 +78,11 @@ pub fn validate_request<'a>(found: &ArgMatches<'a>) -> Option<Request<'a>> {
         instance: found.get_str("INSTANCE")?,
         solution: found.get_str("SOLUTION")?,
     };
-    if let Some(wishes) = found.get_str("wishes") {
-        return Some(Request::Wishes(WishesRequest { files, wishes }));
-    }
-    Some(Request::Validate(files))
+    Some(Request::Validate(ValidateRequest {
+        files,
+        wishes: found.get_str("wishes"),
+        is_json: found.get_flag("json"),
+    }))
 }
 
 /// Returns the options given for `check`.

@@ -41,6 +41,14 @@ pub const WISHES: Argument<'static> = Argument {
     condition: None,
 };
 
+/// The option of JSON.
+pub const JSON: Argument<'static> = Argument {
+    id: "json",
+    form: Form::Flag,
+    help: "Prints one line of JSON in place of text",
+    condition: None,
+};
+
 /// The file that is written.
 pub const OUT: Argument<'static> = Argument {
     id: "OUT",

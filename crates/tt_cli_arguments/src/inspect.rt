@@ -2,15 +2,16 @@
 
 use crate::arguments::Request;
 use crate::description::{Argument, Description, Form};
-use crate::files::INSTANCE;
+use crate::files::{INSTANCE, JSON};
 use crate::showing::{PROGRESS, QUIET};
 use clap::ArgMatches;
 
-/// The files of `inspect`.
+/// The files of `inspect`, and whether it prints JSON.
 #[derive(Clone, Copy, Debug)]
 pub struct InspectRequest<'a> {
     pub instance: &'a str,
     pub solution: Option<&'a str>,
+    pub is_json: bool,
 }
 
 const SOLUTION: Argument<'static> = Argument {
@@ -25,7 +26,7 @@ pub const INSPECT: Description<'static> = Description {
     name: "inspect",
     about: "Says what is in an instance, what can't be, and why a file is refused",
     example: "Example: tt inspect week.ctt week.sol",
-    arguments: &[INSTANCE, SOLUTION, PROGRESS, QUIET],
+    arguments: &[INSTANCE, SOLUTION, JSON, PROGRESS, QUIET],
 };
 
 /// Returns the options given for `inspect`.
@@ -33,5 +34,6 @@ pub fn inspect_request<'a>(found: &ArgMatches<'a>) -> Option<Request<'a>> {
     Some(Request::Inspect(InspectRequest {
         instance: found.get_str("INSTANCE")?,
         solution: found.get_str("SOLUTION"),
+        is_json: found.get_flag("json"),
     }))
 }

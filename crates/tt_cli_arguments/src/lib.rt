@@ -16,7 +16,7 @@ mod sums;
 
 pub use arguments::{Request, parse_arguments};
 pub use best::{BestRequest, BestSearch};
-pub use checks::{BoundRequest, CheckRequest, UpgradeRequest, WishesRequest};
+pub use checks::{BoundRequest, CheckRequest, UpgradeRequest, ValidateRequest};
 pub use files::TimetableFiles;
 pub use inspect::InspectRequest;
 pub use pages::{GivenNames, GivenWeeks, PageRequest};

@@ -11,4 +11,3 @@ pub mod sum;
 pub mod table;
 pub mod upgrade;
 pub mod validate;
-pub mod wishes;

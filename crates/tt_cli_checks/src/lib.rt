@@ -16,4 +16,3 @@ pub use commands::sum::answer_sum;
 pub use commands::table::answer_table;
 pub use commands::upgrade::answer_upgrade;
 pub use commands::validate::answer_validate;
-pub use commands::wishes::answer_wishes;

@@ -7,7 +7,7 @@ use Rattle.std.proofs.Math.Seq.{get_or-append_seam}
 use Rattle.std.specs.Option.{ok_or}
 use Rattle.tt_report_export.specs.declared.term.TermFault.{TermFault}
 use Rattle.tt_report_export.specs.declared.term.TermFault.TheVariants.{NoTime, TooFewTimes, TooManyTimes}
-use Rattle.tt_report_export.specs.Times.{AreBytesOf, AreTimesOf, ExplainsTimes, IsOfNoTime, HasNoTime, IsClock, IsTimeText, between_commas}
+use Rattle.tt_report_export.specs.Times.{AreBytesOf, AreTimesOf, ExplainsTimes, HasNoTime, IsClock, IsTimeText, between_commas}
 
 -- a list of so many bytes
 pub four_bytes : (text : List ℕ) → length text ≡ 4 → text ≡ get_or text 0 0 ∷ get_or text 1 0 ∷ get_or text 2 0 ∷ get_or text 3 0 ∷ []
@@ -115,9 +115,3 @@ refused_time text items place None d is within none told =
 pub no_time : (o : Option ℕ) (f : TermFault) → Err f ≡ ok_or o NoTime → o ≡ None → f ≡ NoTime
 no_time None f is none = cc
 no_time (Some n) f is none = absurd cc
-
-pub told_of_none : (text : List ℕ) (periods : ℕ) (f : TermFault) → IsOfNoTime f → ExplainsTimes text periods f
-told_of_none text periods NoTime is = absurd is
-told_of_none text periods TooFewTimes is = absurd is
-told_of_none text periods TooManyTimes is = absurd is
-told_of_none text periods f is = is

@@ -1,9 +1,11 @@
 -- When a term takes place: what its dates and its times are.
-use Rattle.std.specs.Prelude.{◌≡◌, ℕ, ◌+◌, ◌*◌, ◌<◌, ◌≤◌, List, length, slice_index_or, Ok, pos, ◌+ℤ◌, unsigned_abs}
+use Rattle.std.specs.Prelude.{◌≡◌, ℕ, ◌+◌, ◌*◌, ◌<◌, ◌≤◌, List, length, slice_index_or, Ok, pos, ◌+ℤ◌, ◌≤ℤ◌, unsigned_abs, ⊤}
 use Rattle.jiff.specs.Types.{Date}
 use Rattle.jiff.specs.Words.{epoch_day, date_view, parse_date}
 use Rattle.tt_report_export.specs.Calendars.{Term}
-use Rattle.tt_report_export.specs.Times.{AreTimesOf}
+use Rattle.tt_report_export.specs.Times.{AreTimesOf, ExplainsTimes}
+use Rattle.tt_report_export.specs.declared.term.TermFault.{TermFault}
+use Rattle.tt_report_export.specs.declared.term.TermFault.TheVariants.{NoDate, OutOfMemory}
 
 -- The number YYYYMMDD of a date.
 abbrev pub number_of : Date → ℕ
@@ -23,6 +25,37 @@ AreDaysFrom first ns = (i : ℕ) → i < length ns → IsDayAfter first i (slice
 abbrev pub IsDateText : List ℕ → Date → Type 0
 IsDateText text d = date_view (Ok d) ≡ parse_date text
 
+-- The text gives the date, in ten bytes and with a year of four digits; no year has more.
+pub record IsFirstDay (text : List ℕ) (d : Date) : Type 0 where
+  pub gives : IsDateText text d
+  pub bytes : length text ≡ 10
+  pub year : pos 1000 ≤ℤ d.year
+
+-- The last date that there is, 9999-12-31, in days after 1970-01-01.
+abbrev pub last_day : ℕ
+last_day = 2932896
+
+-- The first of so many days has the date, and so each day has one.
+abbrev pub HaveDates : Date → ℕ → Type 0
+HaveDates first days = epoch_day first +ℤ pos days ≤ℤ pos (last_day + 1)
+
+-- Not each of so many days from the date on has one, if the fault isn't that memory ran out.
+abbrev pub LacksDates : Date → ℕ → TermFault → Type 0
+LacksDates first days NoDate = ¬ HaveDates first days
+LacksDates first days OutOfMemory = ⊤
+LacksDates first days f = ⊥
+
+-- The text gives the date of the first of so many days that have dates.
+pub record IsFirstOf (text : List ℕ) (days : ℕ) (d : Date) : Type 0 where
+  pub first : IsFirstDay text d
+  pub each : HaveDates d days
+
+-- The fault is so: the first text gives no date from which on each of so many days has one, the times of the second one aren't those of so many
+-- periods, or memory ran out.
+abbrev pub ExplainsTerm : List ℕ → List ℕ → ℕ → ℕ → TermFault → Type 0
+ExplainsTerm first times days periods NoDate = (d : Date) → ¬ IsFirstOf first days d
+ExplainsTerm first times days periods f = ExplainsTimes times periods f
+
 -- The days are the least number of whole weeks, in days, that has so many days.
 pub record IsWholeWeeks (days n : ℕ) : Type 0 where
   pub weeks : ℕ
@@ -34,7 +67,7 @@ pub record IsWholeWeeks (days n : ℕ) : Type 0 where
 -- a period, and so many weeks, which are apart by whole ones.
 pub record IsTermFrom (first times : List ℕ) (days periods minutes weeks : ℕ) (t : Term) : Type 0 where
   pub date : Date
-  pub text : IsDateText first date
+  pub text : IsFirstDay first date
   pub dates : AreDaysFrom date t.dates
   pub all_dates : length t.dates ≡ days
   pub begins : AreTimesOf times t.begins

@@ -2,7 +2,7 @@
 use Rattle.std.specs.Prelude.{◌≡◌, ◌⊎◌, ℕ, ◌+◌, ◌*◌, ◌/◌, ◌%◌, ◌<◌, ◌==◌, List, [], ◌∷◌, length, slice_index_or, ⊤}
 use Rattle.std.specs.List.{slice_split}
 use Rattle.tt_report_export.specs.declared.term.TermFault.{TermFault}
-use Rattle.tt_report_export.specs.declared.term.TermFault.TheVariants.{NoTime, TooFewTimes, TooManyTimes}
+use Rattle.tt_report_export.specs.declared.term.TermFault.TheVariants.{NoDate, NoTime, TooFewTimes, TooManyTimes, OutOfMemory}
 
 -- Two bytes are the digits of a number below 100.
 pub record AreDigitsOf (n tens units : ℕ) : Type 0 where
@@ -49,16 +49,10 @@ pub record HasNoTime (text : List ℕ) : Type 0 where
   pub within : place < length (between_commas text)
   pub none : (n : ℕ) → ¬ IsTimeText (slice_index_or (between_commas text) place []) n
 
--- If the fault is about the times, it is so: one of them is none, or they are fewer or more than the periods of a day.
+-- The fault is so: one of the times is none, or they are fewer or more than the periods of a day, or memory ran out.
 abbrev pub ExplainsTimes : List ℕ → ℕ → TermFault → Type 0
 ExplainsTimes text periods NoTime = HasNoTime text
 ExplainsTimes text periods TooFewTimes = length (between_commas text) < periods
 ExplainsTimes text periods TooManyTimes = periods < length (between_commas text)
-ExplainsTimes text periods f = ⊤
-
--- The fault isn't about times.
-abbrev pub IsOfNoTime : TermFault → Type 0
-IsOfNoTime NoTime = ⊥
-IsOfNoTime TooFewTimes = ⊥
-IsOfNoTime TooManyTimes = ⊥
-IsOfNoTime f = ⊤
+ExplainsTimes text periods OutOfMemory = ⊤
+ExplainsTimes text periods NoDate = ⊥

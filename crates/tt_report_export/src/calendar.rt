@@ -135,7 +135,7 @@ fn put_duration(out: &mut Vec<u8>, minutes: u32) -> Result<(), AllocError>
 fn put_frequency(text: &mut Vec<u8>, term: &Term) -> Result<(), AllocError>
     ensures { OnOk result (text.new.items ≡ text.old.items ++ frequency term.now) }
 {
-    put_digits(text, term.interval())?;
+    put_number(text, term.interval())?;
     put_token(text, b";COUNT=")?;
     put_digits(text, term.weeks())
 }

@@ -1,9 +1,9 @@
 //! The dates of a term.
 
-ghost use Rattle.std.specs.Prelude.{◌≡◌, ℤ, ◌-◌, length, pos, ◌+ℤ◌, IfErr, IfOk};
+ghost use Rattle.std.specs.Prelude.{◌≡◌, ℤ, ◌-◌, ◌<◌, length, pos, ◌+ℤ◌, ◌<ℤ◌, IfErr, IfOk, IsErr};
+ghost use Rattle.jiff.specs.Types as civil;
 ghost use Rattle.jiff.specs.Words.{epoch_day};
-ghost use Rattle.tt_report_export.specs.Times.{IsOfNoTime};
-ghost use Rattle.tt_report_export.specs.Terms.{number_of, AreDaysFrom, IsDateText};
+ghost use Rattle.tt_report_export.specs.Terms.{number_of, last_day, AreDaysFrom, IsFirstDay, LacksDates};
 
 use crate::term::TermFault;
 use jiff::civil::Date;
@@ -13,10 +13,8 @@ use std::str::FromStr;
 /// The number of bytes of a date such as `2027-02-01`.
 const DATE_BYTES: usize = 10;
 
-/// The first and the last year of four digits.
+/// The first year of four digits; no date has a year of five.
 const FIRST_YEAR: i16 = 1000;
-
-const LAST_YEAR: i16 = 9999;
 
 /// Returns a date as the number YYYYMMDD.
 fn number_of(date: Date) -> u32
@@ -32,6 +30,7 @@ fn number_of(date: Date) -> u32
 fn date_of_day(before: Date, day: u32) -> Result<Date, TermFault>
     ensures day { IfOk result (λ d. (first : ℤ) → epoch_day before ≡ first +ℤ pos (day - 1) → epoch_day d ≡ first +ℤ pos day) }
     ensures fault { IfErr result (λ f. f ≡ TermFault.NoDate) }
+    ensures last { IsErr result → (0 < day) × ¬ (epoch_day before <ℤ pos last_day) }
 {
     if day == 0 {
         return Ok(before);
@@ -46,7 +45,7 @@ fn date_of_day(before: Date, day: u32) -> Result<Date, TermFault>
 pub fn dates_from(alloc: Global, first: Date, days: u32) -> Result<Vec<u32>, TermFault>
     ensures dates { IfOk result (λ dates. AreDaysFrom first dates.items) }
     ensures count { IfOk result (λ dates. length dates.items ≡ days) }
-    ensures fault { IfErr result IsOfNoTime }
+    ensures fault { IfErr result (LacksDates first days) }
 {
     let mut dates = Vec::new(alloc);
     let mut date = first;
@@ -59,8 +58,9 @@ pub fn dates_from(alloc: Global, first: Date, days: u32) -> Result<Vec<u32>, Ter
 
 /// Returns the date that a text such as `2027-02-01` gives, with a year of four digits.
 pub fn date_of(text: &str) -> Result<Date, TermFault>
-    ensures text { IfOk result (IsDateText text.now) }
+    ensures text { IfOk result (IsFirstDay text.now) }
     ensures fault { IfErr result (λ f. f ≡ TermFault.NoDate) }
+    ensures none { IsErr result → (d : civil.Date) → ¬ IsFirstDay text.now d }
 {
     // A sign, hyphens left out and a time behind the date give another length.
     if text.len() != DATE_BYTES {
@@ -69,7 +69,7 @@ pub fn date_of(text: &str) -> Result<Date, TermFault>
     let Ok(date) = Date::from_str(text) else {
         return Err(TermFault::NoDate);
     };
-    if date.year() < FIRST_YEAR || date.year() > LAST_YEAR {
+    if date.year() < FIRST_YEAR {
         return Err(TermFault::NoDate);
     }
     Ok(date)

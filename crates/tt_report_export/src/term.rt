@@ -1,8 +1,7 @@
 //! When a week takes place.
 
 ghost use Rattle.std.specs.Prelude.{◌≡◌, slice_index_or, IfErr, IfOk};
-ghost use Rattle.tt_report_export.specs.Times.{ExplainsTimes};
-ghost use Rattle.tt_report_export.specs.Terms.{IsTermFrom, IsWholeWeeks};
+ghost use Rattle.tt_report_export.specs.Terms.{ExplainsTerm, IsTermFrom, IsWholeWeeks};
 
 use crate::dates::{date_of, dates_from};
 use crate::times::begins_from;
@@ -11,7 +10,7 @@ use std::marker::Model;
 use thiserror::Error;
 
 /// The number of days of a week.
-const WEEK: u32 = 7;
+const WEEK: u64 = 7;
 
 /// When a week takes place: the date of each day, when each period begins, and its length; how often, and how many days apart.
 #[derive(Debug, Drop)]
@@ -22,7 +21,7 @@ pub struct Term {
     begins: Vec<u32>,
     minutes: u32,
     weeks: u32,
-    interval: u32,
+    interval: u64,
 }
 
 /// The lengths of a term: how many minutes a period lasts, and how many times the week takes place.
@@ -78,12 +77,10 @@ impl Model for Term {
 }
 
 /// Returns the least number of whole weeks, in days, that has this many days.
-fn days_between(days: u32) -> Result<u32, TermFault>
-    ensures weeks { IfOk result (IsWholeWeeks days) }
-    ensures fault { IfErr result (λ f. f ≡ TermFault.NoDate) }
+fn days_between(days: u32) -> u64
+    ensures { IsWholeWeeks days result }
 {
-    let most = days.checked_add(WEEK - 1).ok_or(TermFault::NoDate)?;
-    Ok(most / WEEK * WEEK)
+    (u64::from(days) + (WEEK - 1)) / WEEK * WEEK
 }
 
 impl Term {
@@ -97,7 +94,7 @@ impl Term {
         lengths: Lengths,
     ) -> Result<Term, TermFault>
         ensures term { IfOk result (IsTermFrom first.now times.now sizes.0 sizes.1 lengths.minutes lengths.weeks) }
-        ensures fault { IfErr result (ExplainsTimes times.now sizes.1) }
+        ensures fault { IfErr result (ExplainsTerm first.now times.now sizes.0 sizes.1) }
     {
         let (days, periods) = sizes;
         let dates = dates_from(alloc, date_of(first)?, days)?;
@@ -108,7 +105,7 @@ impl Term {
             begins,
             minutes,
             weeks,
-            interval: days_between(days)?,
+            interval: days_between(days),
         })
     }
 
@@ -141,7 +138,7 @@ impl Term {
     }
 
     /// Returns how many days lie between the first days of two weeks.
-    pub fn interval(&self) -> u32
+    pub fn interval(&self) -> u64
         ensures { result ≡ self.now.interval }
     {
         self.interval

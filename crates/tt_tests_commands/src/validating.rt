@@ -110,3 +110,43 @@ fn wishes_are_refused_after_the_solution(rt: HostRuntime) -> Result<(), Fail> {
     }
     Ok(())
 }
+
+/// Returns the outcome of `validate --json` for both lectures of Mini, with wishes if there are any.
+fn validated_as_json(alloc: Global, wishes: Option<&str>) -> Result<Outcome, Fail> {
+    let files = [
+        StoredFile::new("a.ctt", MINI.as_bytes()),
+        StoredFile::new("a.sol", b"a R 0 0 b R 0 1".as_slice()),
+        StoredFile::new("a.wishes", wishes.unwrap_or("").as_bytes()),
+    ];
+    if wishes.is_some() {
+        let words = [
+            "validate", "a.ctt", "a.sol", "--json", "--wishes", "a.wishes",
+        ];
+        run_with(alloc, &words, &files)
+    } else {
+        run_with(alloc, &["validate", "a.ctt", "a.sol", "--json"], &files)
+    }
+}
+
+#[test]
+fn counts_are_members_of_an_object(rt: HostRuntime) -> Result<(), Fail> {
+    for (wishes, status, last) in [
+        (None, 0, "\"wishes\":null}\n"),
+        (Some("hold a R 0 0\n"), 0, "\"wishes\":0}\n"),
+        (
+            Some("hold a R 0 1\nclosed * 0 1\nroom b R\n"),
+            1,
+            "\"wishes\":2}\n",
+        ),
+    ] {
+        let outcome = validated_as_json(rt.alloc(), wishes)?;
+        let counts =
+            "{\"availability\":0,\"compactness\":0,\"conflicts\":0,\"cost\":1,\"hard\":0,\"lectures\":0,\"min_working_days\":0,\"room_capacity\":1,\"room_occupancy\":0,\"room_stability\":0,";
+        let line = format!(in rt.alloc(); "{counts}{last}")?;
+        assert_eq!(rt; outcome.answer(), (status, line.as_str(), ""));
+    }
+    let refused = validated_as_json(rt.alloc(), Some("hold c R 0 0"))?;
+    let reason = "refused: wishes: UnknownCourse at byte 5\n";
+    assert_eq!(rt; refused.answer(), (2, "", reason));
+    Ok(())
+}

@@ -55,6 +55,21 @@ fn instances_in_words(rt: HostRuntime) -> Result<(), Fail> {
     Ok(())
 }
 
+#[test]
+fn each_line_has_a_kind(rt: HostRuntime) -> Result<(), Fail> {
+    let files = [StoredFile::new("a.ctt", SAME.as_bytes())];
+    let outcome = run_with(rt.alloc(), &["inspect", "a.ctt", "--json"], &files)?;
+    let line =
+        "{\"lines\":[{\"kind\":\"text\",\"text\":\"2 courses with 2 lectures, 1 teacher, 2 rooms, 0 curricula\"},{\"kind\":\"text\",\"text\":\"1 day of 1 period, 2 places in all rooms, 100 percent full\"},{\"kind\":\"text\",\"text\":\"1 of 1 pair of courses can't meet at the same time, 100 percent\"},{\"kind\":\"text\",\"text\":\"the largest room has 10 seats, the largest course 1 student\"},{\"kind\":\"impossible\",\"text\":\"teacher t has 2 lectures, the week has 1 period\"},{\"kind\":\"remark\",\"text\":\"2 courses are in no curriculum: x y\"}],\"status\":1}\n";
+    assert_eq!(rt; outcome.answer(), (1, line, ""));
+    let short = [StoredFile::new("a.ctt", b"Name: a".as_slice())];
+    let refused = run_with(rt.alloc(), &["inspect", "a.ctt", "--json"], &short)?;
+    let end = "\"status\":2}\n";
+    assert_eq!(rt; refused.status, 2);
+    assert!(rt; refused.out.ends_with(end), "{}", refused.out);
+    Ok(())
+}
+
 /// Two of a teacher's three courses can meet only in the first period.
 const PAIR: &str =
     "Name: Pair\nCourses: 3\nRooms: 2\nDays: 1\nPeriods_per_day: 3\nCurricula: 1\nConstraints: 4\n\nCOURSES:\na t 1 1 1\nb t 1 1 1\nc t 1 1 1\n\nROOMS:\nR 1\nS 1\n\nCURRICULA:\nq 2 b c\n\nUNAVAILABILITY_CONSTRAINTS:\na 0 1\na 0 2\nb 0 1\nb 0 2\n\nEND.\n";

@@ -1,7 +1,8 @@
 //! The call `calendar`.
 
-ghost use Rattle.std.specs.Prelude.{IfOk, IfErr};
-ghost use Rattle.tt_call_texts.specs.Exported.{IsCalendar, IsCalendarRefusal, IsTermFault, IsTermOf};
+ghost use Rattle.std.specs.Prelude.{◌≡◌, IfOk, IfErr};
+ghost use Rattle.tt_call_texts.specs.Exported.{HasCalendar, IsCalendar, IsCalendarRefusal, IsTermFault, IsTermOf};
+ghost use Rattle.tt_call_answers.specs.declared.fault.AppFault.TheVariants as fault;
 
 use std::alloc::Global;
 use tt_call_answers::{Answer, AppFault};
@@ -53,6 +54,8 @@ pub fn calendar(
     ensures found { IfOk result (IsCalendar instance.now solution.now by name.now times.entry) }
     // A refusal reports the first error: that of a file, then an unknown name, then the dates and times.
     ensures fault { IfErr result (IsCalendarRefusal instance.now solution.now by name.now times.entry) }
+    // If files, name, dates and times are right, there is a calendar, unless memory runs out.
+    ensures only { HasCalendar instance.now solution.now by name.now times.entry → IfErr result (λ f. f ≡ fault.OutOfMemory) }
 {
     let instance = read_instance(alloc, instance)?;
     let table = read_solution(alloc, &instance, solution)?;

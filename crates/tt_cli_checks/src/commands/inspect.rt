@@ -1,5 +1,6 @@
 //! The files of `inspect`.
 
+use tt_call_json::inspect_json;
 use tt_call_texts::inspect;
 use tt_cli_arguments::InspectRequest;
 use tt_cli_saving::{CommandFault, Input, Inputs, Reply, World};
@@ -13,12 +14,14 @@ pub fn answer_inspect<R: World>(
     let instance = inputs.add(Input::Instance, request.instance)?;
     let solution = inputs.add_given(Input::Solution, request.solution)?;
     let instance = instance.read(rt)?;
-    let answer = match solution {
-        None => inspect(rt.alloc(), &instance, None)?,
-        Some(solution) => {
-            let solution = solution.read(rt)?;
-            inspect(rt.alloc(), &instance, Some(&solution))?
-        }
+    let solution = match solution {
+        Some(solution) => Some(solution.read(rt)?),
+        None => None,
+    };
+    let answer = if request.is_json {
+        inspect_json(rt.alloc(), &instance, solution.as_deref())?
+    } else {
+        inspect(rt.alloc(), &instance, solution.as_deref())?
     };
     Ok(Reply::to(rt.alloc(), answer)?)
 }

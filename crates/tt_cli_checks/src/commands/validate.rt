@@ -1,13 +1,56 @@
 //! The files of `validate`.
 
-use crate::timetable::read_timetable;
+use tt_call_answers::Answer;
 use tt_call_checks::validate;
-use tt_cli_arguments::TimetableFiles;
-use tt_cli_saving::{CommandFault, Reply, World};
+use tt_call_json::validate_json;
+use tt_call_wishes::validate_wishes;
+use tt_cli_arguments::ValidateRequest;
+use tt_cli_saving::{CommandFault, Input, Inputs, Reply, World};
+
+/// The bytes of the files of `validate`.
+#[derive(Debug, Drop)]
+struct ValidateTexts {
+    instance: Vec<u8>,
+    solution: Vec<u8>,
+    wishes: Option<Vec<u8>>,
+}
+
+/// Reads the files of `validate`.
+fn read_texts<R: World>(
+    rt: &R,
+    request: ValidateRequest<'_>,
+) -> Result<ValidateTexts, CommandFault> {
+    let mut inputs = Inputs::new(rt.alloc());
+    let instance = inputs.add(Input::Instance, request.files.instance)?;
+    let solution = inputs.add(Input::Solution, request.files.solution)?;
+    let wishes = inputs.add_given(Input::Wishes, request.wishes)?;
+    Ok(ValidateTexts {
+        instance: instance.read(rt)?,
+        solution: solution.read(rt)?,
+        wishes: match wishes {
+            Some(wishes) => Some(wishes.read(rt)?),
+            None => None,
+        },
+    })
+}
 
 /// Returns the answer of `validate`.
-pub fn answer_validate<R: World>(rt: &R, files: TimetableFiles<'_>) -> Result<Reply, CommandFault> {
-    let texts = read_timetable(rt, files)?;
-    let answer = validate(rt.alloc(), &texts.instance, &texts.solution)?;
-    Ok(Reply::to(rt.alloc(), answer)?)
+pub fn answer_validate<R: World>(
+    rt: &R,
+    request: ValidateRequest<'_>,
+) -> Result<Reply, CommandFault> {
+    let alloc = rt.alloc();
+    let ValidateTexts {
+        instance,
+        solution,
+        wishes,
+    } = read_texts(rt, request)?;
+    let answer: Answer = match wishes {
+        wishes if request.is_json => {
+            validate_json(alloc, &instance, &solution, wishes.as_deref())?
+        }
+        Some(wishes) => validate_wishes(alloc, &instance, &solution, &wishes)?,
+        None => validate(alloc, &instance, &solution)?,
+    };
+    Ok(Reply::to(alloc, answer)?)
 }
