@@ -6,8 +6,8 @@ use Rattle.std.proofs.lemmas.List.{get_or_append_left, get_or-map, length-map}
 use Rattle.std.proofs.Math.Seq.{get_or-append_seam}
 use Rattle.std.specs.Option.{ok_or}
 use Rattle.tt_report_export.specs.declared.term.TermFault.{TermFault}
-use Rattle.tt_report_export.specs.declared.term.TermFault.TheVariants.{NoTime, TooFewTimes, TooManyTimes}
-use Rattle.tt_report_export.specs.Times.{AreBytesOf, AreTimesOf, ExplainsTimes, HasNoTime, IsClock, IsTimeText, between_commas}
+use Rattle.tt_report_export.specs.declared.term.TermFault.TheVariants.{NoTime}
+use Rattle.tt_report_export.specs.Times.{AreBytesOf, AreTimesOf, HasNoTime, IsClock, IsTimeText, between_commas}
 
 -- a list of so many bytes
 pub four_bytes : (text : List ℕ) → length text ≡ 4 → text ≡ get_or text 0 0 ∷ get_or text 1 0 ∷ get_or text 2 0 ∷ get_or text 3 0 ∷ []

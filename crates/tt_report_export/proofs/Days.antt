@@ -1,15 +1,13 @@
 -- Dates, one after another.
-use Rattle.std.proofs.Common.{◌≡◌, ◌≢◌, ℕ, zero, suc, ◌+◌, ◌-◌, ◌<◌, Ok, Err, List, [], ◌∷◌, ◌++◌, length, get_or, refl, sym, ap, ◌∙◌, subst, arith, length-append, inl, inr}
+use Rattle.std.proofs.Common.{◌≡◌, ◌≢◌, ℕ, zero, suc, ◌+◌, ◌-◌, ◌<◌, Result, Ok, Err, List, [], ◌∷◌, ◌++◌, length, get_or, refl, sym, ap, ◌∙◌, subst, arith, length-append, inl, inr}
 use Rattle.std.specs.Prelude.{ℤ, pos, ◌+ℤ◌, ◌≤ℤ◌, ◌<ℤ◌}
 use Rattle.std.proofs.lemmas.Bool.{cases_lt}
 use Rattle.std.proofs.lemmas.Int.{ints}
 use Rattle.std.proofs.lemmas.List.{get_or_append_left}
 use Rattle.std.proofs.Math.Seq.{get_or-append_seam}
 use Rattle.jiff.specs.Types.{Date}
-use Rattle.jiff.specs.Words.{epoch_day, date_view, parse_date, date_parts, Error}
-use Rattle.jiff_core.specs.Calendar.{days_from_civil}
-use Rattle.jiff_fmt.specs.Temporal.{DateParts}
-use Rattle.tt_report_export.specs.Terms.{number_of, last_day, IsDateText, IsDayAfter, IsFirstDay, IsFirstOf, AreDaysFrom, HaveDates, LacksDates, ExplainsTerm}
+use Rattle.jiff.specs.Words.{epoch_day, date_view, date_parts, parse_date, Error}
+use Rattle.tt_report_export.specs.Terms.{number_of, last_day, IsDateText, IsDayAfter, IsFirstDay, AreDaysFrom, HaveDates, LacksDates, ExplainsTerm}
 use Rattle.tt_report_export.specs.Times.{ExplainsTimes}
 use Rattle.tt_report_export.specs.declared.term.TermFault.{TermFault}
 use Rattle.tt_report_export.specs.declared.term.TermFault.TheVariants.{NoDate, NoTime, TooFewTimes, TooManyTimes, OutOfMemory}
@@ -69,22 +67,32 @@ lacks_dates first date days day below some is last have =
 -- ---- texts of dates
 
 -- two dates of one text are one
-pub same_parts : (text : List ℕ) (d e : Date) → IsDateText text d → IsDateText text e → date_parts d ≡ date_parts e
-same_parts text d e of also = let same : date_view (Ok d) ≡ date_view (Ok e) = of ∙ sym also in cc
+ok_same : {A E : Type 0} (x y : A) (r : Result A E) → Ok x ≡ r → Ok y ≡ r → x ≡ y
+ok_same x y r of also = let same = of ∙ sym also in cc
+
+pub same_year : (text : List ℕ) (d e : Date) → IsDateText text d → IsDateText text e → d.year ≡ e.year
+same_year text d e of also = ap (λ p. p.year) (ok_same (date_parts d) (date_parts e) (parse_date text) of also)
+
+pub same_date : (text : List ℕ) (d e : Date) → IsDateText text d → IsDateText text e → epoch_day d ≡ epoch_day e
+same_date text d e of also =
+    let same = ok_same (date_parts d) (date_parts e) (parse_date text) of also in
+    let year : d.year ≡ e.year = ap (λ p. p.year) same in
+    let month : d.month ≡ e.month = ap (λ p. p.month) same in
+    let day : d.day ≡ e.day = ap (λ p. p.day) same in
+    cc
 
 -- a text that gives no date, or an early one, isn't that of a first day
 pub none_is_first : (text : List ℕ) (e : Error) → date_view (Err e) ≡ parse_date text → (d : Date) → ¬ IsFirstDay text d
 none_is_first text e none d is = let same = none ∙ sym is.gives in absurd cc
 
 pub too_early : (text : List ℕ) (e : Date) → IsDateText text e → ¬ (pos 1000 ≤ℤ e.year) → (d : Date) → ¬ IsFirstDay text d
-too_early text e gives early d is = early (subst (λ (p : DateParts). pos 1000 ≤ℤ p.year) (same_parts text d e is.gives gives) is.year)
+too_early text e gives early d is = early (subst (λ (y : ℤ). pos 1000 ≤ℤ y) (same_year text d e is.gives gives) is.year)
 
 -- the fault of dates is that of the term
 pub told_of_dates : (first times : List ℕ) (date : Date) (days periods : ℕ) (f : TermFault) → IsFirstDay first date → LacksDates date days f
     → ExplainsTerm first times days periods f
 told_of_dates first times date days periods NoDate is lacks = λ d of.
-    lacks (subst (λ (p : DateParts). days_from_civil p.year p.month p.day +ℤ pos days ≤ℤ pos (last_day + 1))
-    (same_parts first d date of.first.gives is.gives) of.each)
+    lacks (subst (λ (x : ℤ). (x +ℤ pos days) ≤ℤ pos (last_day + 1)) (same_date first d date of.first.gives is.gives) of.each)
 told_of_dates first times date days periods OutOfMemory is lacks = tt
 told_of_dates first times date days periods NoTime is lacks = absurd lacks
 told_of_dates first times date days periods TooFewTimes is lacks = absurd lacks

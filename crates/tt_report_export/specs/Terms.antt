@@ -37,7 +37,7 @@ last_day = 2932896
 
 -- The first of so many days has the date, and so each day has one.
 abbrev pub HaveDates : Date → ℕ → Type 0
-HaveDates first days = epoch_day first +ℤ pos days ≤ℤ pos (last_day + 1)
+HaveDates first days = (epoch_day first +ℤ pos days) ≤ℤ pos (last_day + 1)
 
 -- Not each of so many days from the date on has one, if the fault isn't that memory ran out.
 abbrev pub LacksDates : Date → ℕ → TermFault → Type 0

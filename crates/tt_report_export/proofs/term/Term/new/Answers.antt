@@ -6,7 +6,7 @@ use Rattle.tt_report_export.proofs.term.Term.new.Goals as goal
 pub returns-in_err-date_of-clause-fault : goal.returns-in_err-date_of-clause-fault
 returns-in_err-date_of-clause-fault c =
     let e = err_from_is_err_and c.from_residual.result c.from_residual.ensures.1 in
-    rw (e.1, e.2, c.in_err-date_of.ensures.fault) (λ d of. c.in_err-date_of.ensures.none tt d of.first)
+    rw (e.1, e.2, c.in_err-date_of.ensures.fault) (λ d of. c.in_err-date_of.ensures.none refl d of.first)
 
 pub returns-in_err-dates-clause-fault : goal.returns-in_err-dates-clause-fault
 returns-in_err-dates-clause-fault c =
