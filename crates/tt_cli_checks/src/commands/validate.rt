@@ -1,6 +1,5 @@
 //! The files of `validate`.
 
-use tt_call_answers::Answer;
 use tt_call_checks::validate;
 use tt_call_json::validate_json;
 use tt_call_wishes::validate_wishes;
@@ -45,10 +44,11 @@ pub fn answer_validate<R: World>(
         solution,
         wishes,
     } = read_texts(rt, request)?;
-    let answer: Answer = match wishes {
-        wishes if request.is_json => {
-            validate_json(alloc, &instance, &solution, wishes.as_deref())?
-        }
+    if request.is_json {
+        let answer = validate_json(alloc, &instance, &solution, wishes.as_deref())?;
+        return Ok(Reply::to(alloc, answer)?);
+    }
+    let answer = match wishes {
         Some(wishes) => validate_wishes(alloc, &instance, &solution, &wishes)?,
         None => validate(alloc, &instance, &solution)?,
     };
