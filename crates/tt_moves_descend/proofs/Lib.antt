@@ -1,4 +1,5 @@
 pub mod Descents
 pub mod Examples
+pub mod Still
 pub mod Scans
 pub mod Settling

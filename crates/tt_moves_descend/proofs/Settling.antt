@@ -12,7 +12,7 @@ use Rattle.tt_moves_descend.specs.Inner.Scan.{NoMove, NoSwap}
 use Rattle.tt_moves_descend.proofs.Descents.{IsBelow-irrefl}
 use Rattle.tt_moves.proofs.Undoing.{with_itself}
 
-swap_turned : (t : List Cell) (i j : ℕ) → i ≢ j → stepped t (Swap i j) ≡ stepped t (Swap j i)
+pub swap_turned : (t : List Cell) (i j : ℕ) → i ≢ j → stepped t (Swap i j) ≡ stepped t (Swap j i)
 swap_turned t i j apart =
     set_comm t i j (in_place_of (entry_at t i) (entry_at t j)) (in_place_of (entry_at t j) (entry_at t i)) apart
 

@@ -3,6 +3,7 @@
 
 mod descending;
 mod moving;
+mod resting;
 mod swapping;
 mod trying;
 

@@ -3,6 +3,7 @@
 ghost use Rattle.std.specs.Prelude.{◌<◌, length, OnOk, OnErr};
 ghost use Rattle.tt_moves_descend.specs.Inner.Scan.{IsScan, IsSpent, NoMoveOn, NoMoveTo, NoMoveOf, NoMove};
 
+use crate::resting::is_at_rest;
 use crate::trying::{Spent, try_step};
 use tt_moves::Step;
 use tt_occupancy::Occupied;
@@ -59,6 +60,9 @@ fn move_of(occupied: &mut Occupied<'_, '_>, entry: u32, left: &mut u64) -> Resul
     ensures ok { OnOk result (IsScan (NoMoveOf entry) occupied.old occupied.new left.old left.new) }
     ensures err { OnErr result (IsSpent occupied.old occupied.new left.old) }
 {
+    if is_at_rest(occupied, entry) {
+        return Ok(());
+    }
     for room in 0..occupied.instance().rooms() {
         move_to(occupied, entry, room, left)?;
     }

@@ -1,10 +1,13 @@
 -- The steps that a scan makes and the facts that it finds. A scan tries steps in turn, and makes each that lowers the pair.
-use Rattle.std.specs.Prelude.{◌≡◌, ℕ, ◌+◌, ◌<◌, length}
+use Rattle.std.specs.Prelude.{◌≡◌, ℕ, ◌+◌, ◌<◌, ◌⊎◌, length}
+use Rattle.tt_table.specs.Table.{IsTimetable}
+use Rattle.tt_rules.specs.Score.{hard}
 use Rattle.tt_occupancy.specs.Filled.{Filled}
 use Rattle.tt_moves.specs.Changes.{IsBelow}
-use Rattle.tt_moves.specs.Steps.{CanStep, stepped}
+use Rattle.tt_moves.specs.Steps.{CanStep, entry_at, stepped}
 use Rattle.tt_moves.specs.declared.step.Step.{Step}
 use Rattle.tt_moves.specs.declared.step.Step.TheVariants.{Move, Swap}
+use Rattle.tt_moves_idle.specs.Idle.{IsIdle}
 use Rattle.tt_moves_descend.specs.Descent.{Descends}
 
 -- whether the step leads to a lower pair
@@ -30,6 +33,20 @@ NoMove o = (e : ℕ) → e < length o.entries → NoMoveOf e o
 -- whether no Swap of the entry with one after it lowers the pair
 abbrev pub NoSwapOf : ℕ → Filled → Type 0
 NoSwapOf i o = (j : ℕ) → i < j → j < length o.entries → ¬ Lowers o (Swap i j)
+
+-- no hard rule is broken, and the entry costs nothing where it is
+pub record IsAtRest (e : ℕ) (o : Filled) : Type 0 where
+  pub in_range : IsTimetable o.problem o.entries
+  pub none : hard o.problem o.entries ≡ 0
+  pub idle : IsIdle o.problem o.entries (entry_at o.entries e)
+
+-- whether no Swap of the entry with one before it lowers the pair
+abbrev pub NoSwapBefore : ℕ → Filled → Type 0
+NoSwapBefore i o = (j : ℕ) → j < i → ¬ Lowers o (Swap i j)
+
+-- Whether the entry is at rest, or no Swap of it with one after it lowers the pair, and where no hard rule is broken none with one before it.
+abbrev pub NoSwapBy : ℕ → Filled → Type 0
+NoSwapBy i o = IsAtRest i o ⊎ ((hard o.problem o.entries ≡ 0 → NoSwapBefore i o) × NoSwapOf i o)
 
 -- whether no Swap of an entry with one after it lowers the pair
 abbrev pub NoSwap : Filled → Type 0

@@ -1,5 +1,6 @@
-use Rattle.tt_moves_descend.specs.Inner.Scan.{NoMoveTo}
-use Rattle.tt_moves_descend.proofs.Scans.{on_err, scan_begin, scan_next, scan_spent}
+use Rattle.tt_moves_descend.specs.Inner.Scan.{NoMoveOf, NoMoveTo}
+use Rattle.tt_moves_descend.proofs.Still.{no_move_at_rest}
+use Rattle.tt_moves_descend.proofs.Scans.{on_err, scan_begin, scan_next, scan_none, scan_spent}
 use Rattle.tt_moves_descend.proofs.moving.move_of.Goals as goal
 
 pub loop-room-init : goal.loop-room-init
@@ -18,3 +19,9 @@ loop-room-preserved c =
     let l = c.loop-room in
     scan_next (NoMoveTo a.entry) a.occupied.now l.occupied c.move_to.new.occupied l.room a.left.now l.left c.move_to.new.left l.invariant
     (c.in_ok-move_to.ensures.ok)
+
+pub returns-then-is_at_rest-clause-ok : goal.returns-then-is_at_rest-clause-ok
+returns-then-is_at_rest-clause-ok c =
+    let a = c.args in
+    scan_none (NoMoveOf a.entry) a.occupied.now a.left.now
+    (no_move_at_rest a.entry a.occupied.now c.requires (c.is_at_rest.ensures c.if-is_at_rest.true))

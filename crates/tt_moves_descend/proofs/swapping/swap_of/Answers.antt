@@ -1,25 +1,48 @@
-use Rattle.std.proofs.Common.{ℕ, ◌+◌, ◌<◌, arith}
-use Rattle.tt_moves.specs.declared.step.Step.TheVariants.{Swap}
-use Rattle.tt_moves_descend.specs.Inner.Scan.{Lowers}
-use Rattle.tt_moves_descend.proofs.Scans.{on_err, scan_more, scan_next, scan_none, scan_spent}
+use Rattle.std.proofs.Common.{◌∙◌, inl, inr}
+use Rattle.std.proofs.lemmas.Result.{on_err_weaker, on_ok_weaker}
+use Rattle.tt_rules.proofs.Scores.{hard_is}
+use Rattle.tt_moves_descend.specs.Inner.Scan.{NoSwapBefore, NoSwapOf, NoSwapBy}
+use Rattle.tt_moves_descend.proofs.Scans.{on_err, scan_more, scan_none, scan_then, scan_spent}
 use Rattle.tt_moves_descend.proofs.swapping.swap_of.Goals as goal
 
-pub loop-second-init : goal.loop-second-init
-loop-second-init c = let a = c.args in scan_none (λ o. (n : ℕ) → n < a.first + 1 → a.first < n → ¬ Lowers o (Swap a.first n))
-    a.occupied.now a.left.now (λ n behind before. absurd (omega arith))
-
-pub returns-in_err-try_step-clause-err : goal.returns-in_err-try_step-clause-err
-returns-in_err-try_step-clause-err c =
+pub returns-then-is_at_rest-clause-ok : goal.returns-then-is_at_rest-clause-ok
+returns-then-is_at_rest-clause-ok c =
     let a = c.args in
-    let l = c.loop-second in
-    on_err c.from_residual.result
-    (scan_spent _ a.occupied.now l.occupied a.left.now l.left l.invariant c.try_step.new.occupied c.in_err-try_step.ensures.err)
+    scan_none (NoSwapBy a.first) a.occupied.now a.left.now (inl (c.is_at_rest.ensures c.if-is_at_rest.true))
 
-pub loop-second-preserved : goal.loop-second-preserved
-loop-second-preserved c =
+pub returns-then-not-feasible-clause-ok : goal.returns-then-not-feasible-clause-ok
+returns-then-not-feasible-clause-ok c =
     let a = c.args in
-    let l = c.loop-second in
-    scan_next (λ n o. a.first < n → ¬ Lowers o (Swap a.first n)) a.occupied.now l.occupied c.try_step.new.occupied l.second a.left.now
-    l.left c.try_step.new.left l.invariant
-    (scan_more (λ o. ¬ Lowers o (Swap a.first l.second)) l.occupied c.try_step.new.occupied l.left c.try_step.new.left
-    c.in_ok-try_step.ensures.ok (λ o. a.first < l.second → ¬ Lowers o (Swap a.first l.second)) (λ none _. none))
+    let later = c.swap_with_later in
+    on_ok_weaker later.result
+    (λ scan. scan_more (NoSwapOf a.first) a.occupied.now later.new.occupied a.left.now later.new.left scan (NoSwapBy a.first)
+    (λ after. inr (
+      (λ zero. absurd
+          (let feasible = c.feasible.ensures.1 (hard_is a.occupied.now.problem a.occupied.now.entries c.score.result c.score.ensures ∙ zero) in
+          let broken = c.if-not-feasible.true in cc)),
+      after,
+    )))
+    later.ensures.ok
+
+pub returns-in_err-swap_with_earlier-clause-err : goal.returns-in_err-swap_with_earlier-clause-err
+returns-in_err-swap_with_earlier-clause-err c = on_err c.from_residual.result c.in_err-swap_with_earlier.ensures.err
+
+pub returns-clause-ok : goal.returns-clause-ok
+returns-clause-ok c =
+    let a = c.args in
+    let earlier = c.swap_with_earlier in
+    let later = c.swap_with_later-2 in
+    on_ok_weaker later.result
+    (λ scan. scan_then (NoSwapBefore a.first) a.occupied.now earlier.new.occupied a.left.now earlier.new.left
+    c.in_ok-swap_with_earlier.ensures.ok (NoSwapOf a.first) (NoSwapBy a.first) later.new.occupied later.new.left scan
+    (λ before after. inr ((λ _. before), after)))
+    later.ensures.ok
+
+pub returns-clause-err : goal.returns-clause-err
+returns-clause-err c =
+    let a = c.args in
+    let earlier = c.swap_with_earlier in
+    on_err_weaker c.swap_with_later-2.result
+    (scan_spent (NoSwapBefore a.first) a.occupied.now earlier.new.occupied a.left.now earlier.new.left
+    c.in_ok-swap_with_earlier.ensures.ok c.swap_with_later-2.new.occupied)
+    c.swap_with_later-2.ensures.err

@@ -1,0 +1,3 @@
+mod Costs
+pub mod Gains
+mod Days
