@@ -27,9 +27,9 @@ abbrev pub wishes_data : Option ℕ → Data
 wishes_data None = null
 wishes_data (Some n) = count n
 
--- The eight counts of a score, the sum of the hard ones, the cost, and the number of broken wishes: members in the order of their names.
-abbrev pub counts_object : Score → Option ℕ → Data
-counts_object s broken =
+-- The eight counts of a score, the sum of the hard ones, the cost, and what is said of wishes: members in the order of their names.
+abbrev pub counts_with : Score → Data → Data
+counts_with s wishes =
     object (member (codes "availability") (count s.availability)
     (member (codes "compactness") (count s.compactness)
     (member (codes "conflicts") (count s.conflicts)
@@ -40,7 +40,11 @@ counts_object s broken =
     (member (codes "room_capacity") (count s.room_capacity)
     (member (codes "room_occupancy") (count s.room_occupancy)
     (member (codes "room_stability") (count s.room_stability)
-    (member (codes "wishes") (wishes_data broken) no_members)))))))))))
+    (member (codes "wishes") wishes no_members)))))))))))
+
+-- The object of a score and of a number of broken wishes, if any are given.
+abbrev pub counts_object : Score → Option ℕ → Data
+counts_object s broken = counts_with s (wishes_data broken)
 
 -- No wish is broken, as far as any are given.
 abbrev pub has_no_broken : Option ℕ → Bool

@@ -2,7 +2,7 @@
 
 ghost use Rattle.std.specs.Prelude.{◌≡◌, IfOk};
 ghost use Rattle.serde_json.specs.View.{view};
-ghost use Rattle.tt_call_json.specs.Counts.{counts_object, wishes_data};
+ghost use Rattle.tt_call_json.specs.Counts.{counts_object, counts_with, wishes_data};
 
 use serde_json::{Value, json};
 use std::alloc::{AllocError, Global};
@@ -18,11 +18,10 @@ fn wishes_value(broken: Option<u64>) -> Value
     }
 }
 
-/// Returns the object of a score and of a number of broken wishes.
-pub fn counts_value(alloc: Global, score: &Score, broken: Option<u64>) -> Result<Value, AllocError>
-    ensures { IfOk result (λ v. view v ≡ counts_object score.now broken) }
+/// Returns the object of a score and of a value for the wishes.
+fn object_of(alloc: Global, score: &Score, wishes: &Value) -> Result<Value, AllocError>
+    ensures { IfOk result (λ v. view v ≡ counts_with score.now (view wishes.now)) }
 {
-    let wishes = wishes_value(broken);
     json!(in alloc; {
         "lectures": score.lectures,
         "conflicts": score.conflicts,
@@ -34,6 +33,14 @@ pub fn counts_value(alloc: Global, score: &Score, broken: Option<u64>) -> Result
         "room_stability": score.room_stability,
         "hard": score.hard(),
         "cost": score.cost(),
-        "wishes": &wishes
+        "wishes": wishes
     })
+}
+
+/// Returns the object of a score and of a number of broken wishes.
+pub fn counts_value(alloc: Global, score: &Score, broken: Option<u64>) -> Result<Value, AllocError>
+    ensures { IfOk result (λ v. view v ≡ counts_object score.now broken) }
+{
+    let wishes = wishes_value(broken);
+    object_of(alloc, score, &wishes)
 }
