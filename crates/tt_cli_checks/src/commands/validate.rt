@@ -4,7 +4,7 @@ use tt_call_checks::validate;
 use tt_call_json::validate_json;
 use tt_call_wishes::validate_wishes;
 use tt_cli_arguments::ValidateRequest;
-use tt_cli_saving::{CommandFault, Input, Inputs, Reply, World};
+use tt_cli_saving::{CommandFault, Input, Inputs, Reply, World, add_clash};
 
 /// The bytes of the files of `validate`.
 #[derive(Debug, Drop)]
@@ -44,13 +44,17 @@ pub fn answer_validate<R: World>(
         solution,
         wishes,
     } = read_texts(rt, request)?;
-    if request.is_json {
-        let answer = validate_json(alloc, &instance, &solution, wishes.as_deref())?;
-        return Ok(Reply::to(alloc, answer)?);
-    }
-    let answer = match wishes {
-        Some(wishes) => validate_wishes(alloc, &instance, &solution, &wishes)?,
-        None => validate(alloc, &instance, &solution)?,
+    let answer = if request.is_json {
+        validate_json(alloc, &instance, &solution, wishes.as_deref())?
+    } else {
+        match &wishes {
+            Some(wishes) => validate_wishes(alloc, &instance, &solution, wishes)?,
+            None => validate(alloc, &instance, &solution)?,
+        }
     };
-    Ok(Reply::to(alloc, answer)?)
+    let mut reply = Reply::to(alloc, answer)?;
+    if let Some(wishes) = &wishes {
+        add_clash(alloc, &mut reply, &instance, wishes)?;
+    }
+    Ok(reply)
 }

@@ -12,7 +12,7 @@ use tt_cli_arguments::{ImproveRequest, Search};
 use tt_cli_files::{Batch, Role};
 use tt_cli_saving::{
     CommandFault, Input, InputFile, Inputs, Keeper, NoShelf, Prepared, Reply, Target, Ticker,
-    World, reply_with, ticker_of,
+    World, add_clash, reply_with, ticker_of,
 };
 use tt_watch::Watch;
 
@@ -127,5 +127,9 @@ pub fn answer_improve<R: World, E: Write>(
     ticker.clear();
     let answer = answer?;
     let batch = out.write_given(rt, Batch::new(rt.alloc()), &answer.table)?;
-    reply_with(rt, batch, answer.status, answer.out)
+    let mut reply = reply_with(rt, batch, answer.status, answer.out)?;
+    if let Some(wishes) = &wishes {
+        add_clash(rt.alloc(), &mut reply, &instance, wishes)?;
+    }
+    Ok(reply)
 }
