@@ -3,14 +3,22 @@ use Rattle.std.proofs.Common.{ℕ, ◌<◌, length, subst, arith, inl, inr}
 use Rattle.std.specs.Prelude.{List}
 use Rattle.tt_instance.specs.declared.cell.Cell.{Cell}
 use Rattle.tt_occupancy.specs.Filled.{Filled}
+use Rattle.tt_rules.specs.Score.{hard}
 use Rattle.tt_moves.specs.Changes.{IsBelow}
+use Rattle.tt_moves.specs.Steps.{stepped}
+use Rattle.tt_moves.specs.declared.step.Step.{Step}
 use Rattle.tt_moves_idle.proofs.Gains.{no_gain_by_move, no_gain_by_swap}
-use Rattle.tt_moves_descend.specs.Inner.Scan.{IsAtRest, NoMoveOf, NoSwapBy, NoSwap}
+use Rattle.tt_moves_descend.specs.Inner.Scan.{Lowers, IsAtRest, NoMoveOf, NoSwapBy, NoSwap}
 use Rattle.tt_moves_descend.proofs.Settling.{swap_turned}
 
 pub no_move_at_rest : (e : ℕ) (o : Filled) → e < length o.entries → IsAtRest e o → NoMoveOf e o
-no_move_at_rest e o h rest r room d day s period =
+no_move_at_rest e o h rest d day s period r room =
     no_gain_by_move o.problem o.entries e r d s rest.in_range (h, room, day, period) rest.none rest.idle
+
+-- a step that breaks more hard rules lowers nothing
+pub raised_is_no_gain : (o : Filled) (s : Step) → hard o.problem o.entries < hard o.problem (stepped o.entries s) → ¬ Lowers o s
+raised_is_no_gain o s more (inl fewer) = omega (arith, more, fewer)
+raised_is_no_gain o s more (inr less) = let same = less.0 in omega (arith, more, same)
 
 -- if each entry is at rest or has no Swap that lowers the pair, there is no such Swap
 pub no_swap_each : (o : Filled) → ((i : ℕ) → i < length o.entries → NoSwapBy i o) → NoSwap o

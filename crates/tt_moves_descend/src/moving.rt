@@ -1,29 +1,33 @@
-//! All Moves in turn: by entry, room, day and period.
+//! All Moves in turn: by entry, day, period and room.
 
 ghost use Rattle.std.specs.Prelude.{◌<◌, length, OnOk, OnErr};
-ghost use Rattle.tt_moves_descend.specs.Inner.Scan.{IsScan, IsSpent, NoMoveOn, NoMoveTo, NoMoveOf, NoMove};
+ghost use Rattle.tt_moves_descend.specs.Inner.Scan.{IsScan, IsSpent, NoMoveAt, NoMoveOn, NoMoveOf, NoMove};
 
 use crate::resting::is_at_rest;
 use crate::trying::{Spent, try_step};
-use tt_moves::Step;
+use tt_instance::Slot;
+use tt_moves::{Step, raises_at};
 use tt_occupancy::Occupied;
 
-/// Tries the Moves of an entry to a room on a day, and makes each that lowers the pair.
-fn move_on(
+/// Tries the Moves of an entry to a period, unless each breaks more hard rules, and makes each that lowers the pair.
+fn move_to(
     occupied: &mut Occupied<'_, '_>,
     entry: u32,
-    room: u32,
-    day: u32,
+    slot: Slot,
     left: &mut u64,
 ) -> Result<(), Spent>
     requires entry { entry < length occupied.old.entries }
-    requires room { room < length occupied.old.problem.rooms }
-    requires day { day < occupied.old.problem.days }
-    ensures ok { OnOk result (IsScan (NoMoveOn entry room day)
+    requires day { slot.day < occupied.old.problem.days }
+    requires period { slot.period < occupied.old.problem.periods }
+    ensures ok { OnOk result (IsScan (NoMoveAt entry slot.day slot.period)
         occupied.old occupied.new left.old left.new) }
     ensures err { OnErr result (IsSpent occupied.old occupied.new left.old) }
 {
-    for period in 0..occupied.instance().periods() {
+    if raises_at(occupied, entry, slot) {
+        return Ok(());
+    }
+    let Slot { day, period } = slot;
+    for room in 0..occupied.instance().rooms() {
         let step = Step::Move {
             entry,
             room,
@@ -35,26 +39,25 @@ fn move_on(
     Ok(())
 }
 
-/// Tries the Moves of an entry to a room, and makes each that lowers the pair.
-fn move_to(
+/// Tries the Moves of an entry to a day, and makes each that lowers the pair.
+fn move_on(
     occupied: &mut Occupied<'_, '_>,
     entry: u32,
-    room: u32,
+    day: u32,
     left: &mut u64,
 ) -> Result<(), Spent>
     requires entry { entry < length occupied.old.entries }
-    requires room { room < length occupied.old.problem.rooms }
-    ensures ok { OnOk result (IsScan (NoMoveTo entry room)
-        occupied.old occupied.new left.old left.new) }
+    requires day { day < occupied.old.problem.days }
+    ensures ok { OnOk result (IsScan (NoMoveOn entry day) occupied.old occupied.new left.old left.new) }
     ensures err { OnErr result (IsSpent occupied.old occupied.new left.old) }
 {
-    for day in 0..occupied.instance().days() {
-        move_on(occupied, entry, room, day, left)?;
+    for period in 0..occupied.instance().periods() {
+        move_to(occupied, entry, Slot { day, period }, left)?;
     }
     Ok(())
 }
 
-/// Tries the Moves of an entry, and makes each that lowers the pair.
+/// Tries the Moves of an entry, unless it is at rest, and makes each that lowers the pair.
 fn move_of(occupied: &mut Occupied<'_, '_>, entry: u32, left: &mut u64) -> Result<(), Spent>
     requires { entry < length occupied.old.entries }
     ensures ok { OnOk result (IsScan (NoMoveOf entry) occupied.old occupied.new left.old left.new) }
@@ -63,8 +66,8 @@ fn move_of(occupied: &mut Occupied<'_, '_>, entry: u32, left: &mut u64) -> Resul
     if is_at_rest(occupied, entry) {
         return Ok(());
     }
-    for room in 0..occupied.instance().rooms() {
-        move_to(occupied, entry, room, left)?;
+    for day in 0..occupied.instance().days() {
+        move_on(occupied, entry, day, left)?;
     }
     Ok(())
 }
