@@ -1,4 +1,5 @@
 pub mod Examples
+pub mod Higher
 pub mod Rests
 pub mod Rounds
 pub mod Stepping

@@ -28,6 +28,11 @@ pub fn raises_at(occupied: &Occupied<'_, '_>, entry: u32, slot: Slot) -> bool
         period: slot.period,
         ..rest.gone
     };
-    let instance = occupied.instance();
-    instance.unavailable(there.course, there.day, there.period) || rest.against(there) > 0
+    if occupied
+        .instance()
+        .unavailable(there.course, there.day, there.period)
+    {
+        return true;
+    }
+    rest.against(there) > 0
 }
