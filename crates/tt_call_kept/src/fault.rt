@@ -1,0 +1,81 @@
+//! The reasons why there is no bound under wishes.
+
+use std::alloc::AllocError;
+use thiserror::Error;
+use tt_call_answers::AppFault;
+use tt_instance_read::InstanceFault;
+use tt_proof_check::CheckFault;
+use tt_proof_sum::SumStop;
+use tt_stop::Stop;
+use tt_wishes::WishesFault;
+
+/// The reason why there is no answer.
+#[derive(Clone, Copy, Debug, PartialEq, Eq, Error)]
+pub enum KeptFault {
+    /// The instance or a proof is refused, a read failed, or memory ran out.
+    #[error("{0}")]
+    Bound(AppFault),
+    #[error("wishes: {0}")]
+    Wishes(WishesFault),
+}
+
+impl From<AllocError> for KeptFault {
+    ghost use Rattle.std.specs.Prelude.{◌≡◌};
+    ghost use Rattle.tt_call_kept.specs.Kept.{out_of_memory};
+
+    ghost from_gives = { λ _ e. e ≡ out_of_memory };
+
+    fn from(_e: AllocError) -> KeptFault {
+        KeptFault::Bound(AppFault::OutOfMemory)
+    }
+}
+
+impl From<InstanceFault> for KeptFault {
+    ghost use Rattle.std.specs.Prelude.{◌≡◌};
+    ghost use Rattle.tt_call_answers.specs.FaultMaps.{fault_from_instance};
+    ghost use Rattle.tt_call_kept.specs.declared.fault.KeptFault.TheVariants as fault;
+
+    ghost from_gives = { λ f e. e ≡ fault.Bound (fault_from_instance f) };
+
+    fn from(fault: InstanceFault) -> KeptFault {
+        KeptFault::Bound(AppFault::from(fault))
+    }
+}
+
+impl From<WishesFault> for KeptFault {
+    ghost use Rattle.std.specs.Prelude.{◌≡◌};
+    ghost use Rattle.tt_call_kept.specs.Kept.{fault_from_wishes};
+
+    ghost from_gives = { λ f e. e ≡ fault_from_wishes f };
+
+    fn from(fault: WishesFault) -> KeptFault {
+        match fault {
+            WishesFault::OutOfMemory => KeptFault::Bound(AppFault::OutOfMemory),
+            fault => KeptFault::Wishes(fault),
+        }
+    }
+}
+
+impl From<Stop<CheckFault>> for KeptFault {
+    ghost use Rattle.std.specs.Prelude.{◌≡◌};
+    ghost use Rattle.tt_call_answers.specs.FaultMaps.{fault_from_check};
+    ghost use Rattle.tt_call_kept.specs.declared.fault.KeptFault.TheVariants as fault;
+
+    ghost from_gives = { λ f e. e ≡ fault.Bound (fault_from_check f) };
+
+    fn from(stop: Stop<CheckFault>) -> KeptFault {
+        KeptFault::Bound(AppFault::from(stop))
+    }
+}
+
+impl From<SumStop> for KeptFault {
+    ghost use Rattle.std.specs.Prelude.{◌≡◌};
+    ghost use Rattle.tt_call_answers.specs.FaultMaps.{fault_from_sum};
+    ghost use Rattle.tt_call_kept.specs.declared.fault.KeptFault.TheVariants as fault;
+
+    ghost from_gives = { λ f e. e ≡ fault.Bound (fault_from_sum f) };
+
+    fn from(stop: SumStop) -> KeptFault {
+        KeptFault::Bound(AppFault::from(stop))
+    }
+}

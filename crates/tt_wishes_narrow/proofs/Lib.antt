@@ -1,0 +1,5 @@
+pub mod Examples
+pub mod Keeping
+pub mod Once
+pub mod RowLists
+pub mod Splitting
