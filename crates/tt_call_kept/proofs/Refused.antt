@@ -51,7 +51,7 @@ only_memory f p ws (fault.Wishes x) spelled h =
     absurd cc
 only_memory f p ws (fault.Call x) spelled h = absurd h
 
--- an error of a file is the first one, whatever the proofs are
+-- an error of a file is the first one, for any proofs
 pub before_proofs : (f : KeptFiles) (gives : List (List ℕ) → Type 0) (e : KeptFault) → IsFileRefusal f e → IsSumRefusal f gives e
 before_proofs f gives (fault.Call (app.Sum n x)) h = absurd h
 before_proofs f gives (fault.Call (app.ReadFailedIn n)) h = absurd h
@@ -69,7 +69,7 @@ tells_sum f p ws gives s spelled h = on s.file s.stop h
     on n ReadFailed h = record { problem = p; listed = ws; spelled = spelled; fails = h }
     on n OutOfMemory h = tt
 
--- an error of a sum is the first one, whatever the solution is
+-- an error of a sum is the first one, for any solution
 pub before_solution : (f : KeptFiles) (s : List ℕ) (gives : List (List ℕ) → Type 0) (e : KeptFault) → IsSumRefusal f gives e
     → IsCheckRefusal f s gives e
 before_solution f s gives (fault.Call (app.Solution x)) h = absurd h

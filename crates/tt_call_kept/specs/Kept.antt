@@ -58,7 +58,7 @@ pub record IsTextAnswer (text : List ℕ) (status : ℕ) (a : Answer) : Type 0 w
   pub no_table : a.table ≡ None
   pub no_proof : a.proof ≡ None
 
--- The line of the number of wishes that are kept by the timetables of which a bound holds.
+-- The line of the number of wishes under which a bound holds.
 abbrev pub kept_line : ℕ → List ℕ
 kept_line n = count_line (codes "kept") n
 
