@@ -10,6 +10,7 @@ pub mod Flagging
 pub mod FreshLaws
 pub mod Getting
 pub mod Limits
+pub mod MoreBarred
 pub mod Naming
 pub mod Places
 pub mod Shared

@@ -1,3 +1,4 @@
+pub mod Barring
 pub mod Beginnings
 pub mod Cells
 pub mod Columns

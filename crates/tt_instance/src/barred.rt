@@ -1,10 +1,13 @@
 //! The marks of unavailable periods.
 
-ghost use Rattle.std.specs.Prelude.{◌≡◌, ◌+◌, ◌*◌};
-ghost use Rattle.tt_instance.specs.Inner.Indexed.{is_marked_at};
+ghost use Rattle.std.specs.Prelude.{◌≡◌, ◌+◌, ◌*◌, [], ◌∷◌, ◌++◌, All, length, OnOk};
+ghost use Rattle.tt_instance.specs.Inner.Indexed.{IsBarred, IsInWeek, is_marked_at};
+ghost use Rattle.tt_instance.specs.Seen.{unavailability_seen, unavailabilities_seen};
 
 use crate::limit::MAX_PERIODS;
 use crate::marks::{Marks, has_at};
+use crate::rows::{UnavailabilityList, UnavailabilityRow};
+use std::alloc::AllocError;
 
 /// The places of a day in the marks of a course.
 const DAY: u32 = MAX_PERIODS;
@@ -21,4 +24,39 @@ pub fn is_barred(marks: &[Marks], course: u32, day: u32, period: u32) -> bool
     ensures { result ≡ is_marked_at marks.now course day period }
 {
     period < DAY && has_at(marks, course as usize, mark_place(day, period))
+}
+
+/// Adds an unavailability.
+fn add_row(
+    list: &mut UnavailabilityList,
+    days: u32,
+    row: UnavailabilityRow,
+) -> Result<(), AllocError>
+    requires barred { IsBarred (length list.old.marks.items) days list.old }
+    requires inside { IsInWeek (length list.old.marks.items) days (unavailability_seen row) }
+    ensures rows { OnOk result (unavailabilities_seen list.new.rows.items ≡ unavailabilities_seen list.old.rows.items ++ unavailability_seen row ∷ []) }
+    ensures barred { OnOk result (IsBarred (length list.old.marks.items) days list.new) }
+{
+    list.rows.push(row)?;
+    let marks = &mut list.marks[row.course as usize];
+    marks.mark(mark_place(row.day, row.period));
+    Ok(())
+}
+
+/// Adds unavailabilities.
+pub fn add_rows(
+    list: &mut UnavailabilityList,
+    days: u32,
+    rows: &[UnavailabilityRow],
+) -> Result<(), AllocError>
+    requires barred { IsBarred (length list.old.marks.items) days list.old }
+    requires inside { All (IsInWeek (length list.old.marks.items) days) (unavailabilities_seen rows.now) }
+    ensures rows { OnOk result (unavailabilities_seen list.new.rows.items
+        ≡ unavailabilities_seen list.old.rows.items ++ unavailabilities_seen rows.now) }
+    ensures barred { OnOk result (IsBarred (length list.old.marks.items) days list.new) }
+{
+    for row in rows {
+        add_row(list, days, *row)?;
+    }
+    Ok(())
 }

@@ -1,20 +1,24 @@
 //! Instances of the timetabling problem.
 
-ghost use Rattle.std.specs.Prelude.{◌≡◌, ◌<◌, ◌≤◌, ◌*◌, ◌/◌, ◌%◌, ℕ, length, slice_get, slice_index_or, IfSome, Some};
+ghost use Rattle.std.specs.Prelude.{◌≡◌, ◌<◌, ◌≤◌, ◌*◌, ◌+◌, ◌/◌, ◌%◌, ◌++◌, ℕ, true, not, All, IfOk, length, slice_get, slice_index_or, IfSome, Some};
+ghost use Rattle.tt_list_laws.specs.Words.{each_two};
 ghost use Rattle.tt_bits.specs.Inner.Bits.{has_bit};
 ghost use Rattle.tt_text.specs.Texts.{index_of_name};
-ghost use Rattle.tt_instance.specs.Limits.{IsInstance};
-ghost use Rattle.tt_instance.specs.Seen.{problem_seen};
+ghost use Rattle.tt_instance.specs.Barring.{IsUnavailabilityOf, with_unavailabilities};
+ghost use Rattle.tt_instance.specs.Limits.{IsInstance, same_unavailability};
+ghost use Rattle.tt_instance.specs.Seen.{problem_seen, unavailabilities_seen};
 ghost use Rattle.tt_instance.specs.Inner.Indexed.{IsIndexedParts, IsExcluding};
 ghost use Rattle.tt_instance.specs.Courses.{no_course, lectures, min_days, students, capacity, members, course_ids, room_ids, curriculum_ids, teachers, in_curriculum, conflict, unavailable};
 
-use crate::barred::is_barred;
+use crate::barred::{add_rows, is_barred};
 use crate::limit::{
     MAX_COURSES, MAX_CURRICULA, MAX_DAYS, MAX_LECTURES, MAX_MEMBERS, MAX_MIN_DAYS, MAX_PERIODS,
     MAX_ROOMS, MAX_SEATS, MAX_SLOTS, MAX_UNAVAILABILITIES,
 };
 use crate::marks::{Marks, has_at};
 use crate::parts::Parts;
+use crate::rows::UnavailabilityRow;
+use std::alloc::AllocError;
 use std::marker::Model;
 
 /// An instance. Courses, rooms, curricula, teachers, days and periods of a day are numbered from 0.
@@ -68,6 +72,22 @@ impl<'a> Instance<'a> {
         ensures instance { IsInstance self.now }
     {
         &self.parts
+    }
+
+    /// Makes more periods unavailable. The instance is consumed even if memory runs out.
+    pub fn bar(self, rows: &[UnavailabilityRow]) -> Result<Instance<'a>, AllocError>
+        requires within { length self.unavailabilities + length rows.now ≤ MAX_UNAVAILABILITIES }
+        requires inside { All (IsUnavailabilityOf self) (unavailabilities_seen rows.now) }
+        requires once { each_two (λ a b. not (same_unavailability a b)) (self.unavailabilities ++ unavailabilities_seen rows.now) ≡ true }
+        ensures { IfOk result (λ i. i ≡ with_unavailabilities self.entry (self.entry.unavailabilities ++ unavailabilities_seen rows.now)) }
+    {
+        let Instance {
+            mut parts,
+            conflicts,
+        } = self;
+        let days = parts.days;
+        add_rows(&mut parts.unavailabilities, days, rows)?;
+        Ok(Instance { parts, conflicts })
     }
 
     /// Returns how many tokens the name has.

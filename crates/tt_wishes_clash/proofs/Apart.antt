@@ -47,15 +47,15 @@ or_second false b e = e
 
 -- ---- a lecture that stays
 
-record Held (t : List Cell) (c : ℕ) (g : Place) : Type 0 where
-  entry : Cell
-  member : Contains t entry
-  course : is_of c entry ≡ true
-  room : agrees g.room entry.room ≡ true
-  day : agrees g.day entry.day ≡ true
-  period : agrees g.period entry.period ≡ true
+pub record Held (t : List Cell) (c : ℕ) (g : Place) : Type 0 where
+  pub entry : Cell
+  pub member : Contains t entry
+  pub course : is_of c entry ≡ true
+  pub room : agrees g.room entry.room ≡ true
+  pub day : agrees g.day entry.day ≡ true
+  pub period : agrees g.period entry.period ≡ true
 
-held_entry : (t : List Cell) (c : ℕ) (g : Place) → is_held t c g ≡ true → Held t c g
+pub held_entry : (t : List Cell) (c : ℕ) (g : Place) → is_held t c g ≡ true → Held t c g
 held_entry t c g held =
     let m = member_from_any (λ e. is_of c e && is_there g e) t held in
     let a = and_parts (is_of c m.0) (is_there g m.0) m.2 in
@@ -128,7 +128,7 @@ module _ (p : Problem) (t : List Cell) (ok : IsFeasible p t) where
   not_both (Rooms c rooms) w e k l = absurd cc
   not_both (Closed g) w e k l = absurd cc
 
-  is_kept_in : (ws : List Wish) (w : Wish) → broken_wishes t ws ≡ 0 → Contains ws w → is_kept t w ≡ true
+  pub is_kept_in : (ws : List Wish) (w : Wish) → broken_wishes t ws ≡ 0 → Contains ws w → is_kept t w ≡ true
   is_kept_in ws w none m =
       let passes = none_passes (λ v. not (is_kept t v)) ws w none m in
       elim (is_kept t w) as (λ b. not b ≡ false → b ≡ true) [ true ↦ (λ e. refl) | false ↦ (λ e. absurd cc) ] passes

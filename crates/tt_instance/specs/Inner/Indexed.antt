@@ -1,5 +1,5 @@
 -- What the tables that go with the rows of an instance contain.
-use Rattle.std.specs.Prelude.{◌≡◌, ℕ, ◌+◌, ◌*◌, ◌≤◌, ◌==◌, nat_lt, Bool, false, ◌&&◌, List, [], length, map, Some, slice_index_or, All}
+use Rattle.std.specs.Prelude.{◌≡◌, ℕ, ◌+◌, ◌*◌, ◌≤◌, ◌<◌, ◌==◌, nat_lt, Bool, false, ◌&&◌, List, [], length, map, Some, slice_index_or, All}
 use Rattle.std.specs.List.{list_any}
 use Rattle.tt_list_laws.specs.Words.{has_number}
 use Rattle.tt_text.specs.Texts.{index_of_name, distinct_names}
@@ -61,6 +61,10 @@ pub record IsBarred (count days : ℕ) (l : UnavailabilityList) : Type 0 where
   pub len : length l.marks.items ≡ count
   pub lens : All (λ m. length m ≡ days * 64) l.marks.items
   pub agrees : (c d s : ℕ) → is_marked_at l.marks.items c d s ≡ has_unavailability (unavailabilities_seen l.rows.items) c d s
+
+-- The unavailability is one of so many courses, on one of so many days, in a period that has a mark.
+abbrev pub IsInWeek : ℕ → ℕ → Unavailability → Type 0
+IsInWeek count days b = (b.course < count) × (b.day < days) × (b.period < 64)
 
 -- The tables of all parts are right.
 pub record IsIndexedParts (a : Parts) : Type 0 where
