@@ -7,7 +7,7 @@ use Rattle.tt_leaf.specs.declared.leaf.Bound.TheVariants as bound
 use Rattle.tt_page.specs.declared.proved.Proved.{Proved}
 use Rattle.tt_page.specs.declared.sheet.Shown.{Shown}
 use Rattle.tt_page.specs.declared.sheet.Shown.TheVariants.{Whole, Only}
-use Rattle.tt_page.specs.declared.proved.Proved.TheVariants.{AtLeast, Infeasible, Clique, Slots}
+use Rattle.tt_page.specs.declared.proved.Proved.TheVariants.{AtLeast, Infeasible, Clique, Slots, KeptAtLeast, NoneKept}
 
 -- The courses that are named are the instance's.
 abbrev pub IsProvedOf : Problem → Proved → Type 0
@@ -24,6 +24,11 @@ IsShownOf p (Only sheet) = ⊤
 abbrev pub proved_of : Bound → Proved
 proved_of (bound.AtLeast b) = AtLeast b
 proved_of bound.Nothing = Infeasible
+
+-- What a bound of the timetables that keep wishes says.
+abbrev pub kept_of : Bound → Proved
+kept_of (bound.AtLeast b) = KeptAtLeast b
+kept_of bound.Nothing = NoneKept
 
 -- The courses for which every timetable breaks a hard rule, if a proof names them.
 abbrev pub courses_of : Proved → List ℕ

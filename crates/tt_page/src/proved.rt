@@ -5,7 +5,7 @@ ghost use Rattle.tt_page.specs.Proofs.{courses_of};
 
 use tt_leaf::CourseList;
 
-/// What is proved about all feasible timetables of an instance.
+/// What is proved about all feasible timetables of an instance, or about those of them that keep wishes.
 #[derive(Debug, Drop)]
 pub enum Proved {
     Unproved,
@@ -17,6 +17,10 @@ pub enum Proved {
     Clique(CourseList),
     /// There is none: these courses have more lectures than there are rooms in all their open periods.
     Slots(CourseList),
+    /// None of those that keep the wishes costs less, in cost points.
+    KeptAtLeast(u64),
+    /// None of them keeps the wishes.
+    NoneKept,
 }
 
 impl Proved {
