@@ -9,7 +9,7 @@ use tt_leaf::Bound;
 use tt_text::{put_line_end, put_next_number, put_number, put_token};
 
 /// Returns the line of a solution that breaks no hard rule, with its cost and the bound that is proved.
-pub fn yes(alloc: Global, cost: u64, bound: u64) -> Result<Vec<u8>, AllocError>
+pub fn yes_line(alloc: Global, cost: u64, bound: u64) -> Result<Vec<u8>, AllocError>
     ensures { IfOk result (λ out. out.items ≡ yes_line cost bound) }
 {
     let mut out = Vec::new(alloc);
@@ -25,7 +25,7 @@ pub fn yes(alloc: Global, cost: u64, bound: u64) -> Result<Vec<u8>, AllocError>
 }
 
 /// Returns the line of a solution that breaks a hard rule.
-pub fn broken(alloc: Global, hard: u64, cost: u64) -> Result<Vec<u8>, AllocError>
+pub fn broken_line(alloc: Global, hard: u64, cost: u64) -> Result<Vec<u8>, AllocError>
     ensures { IfOk result (λ out. out.items ≡ broken_line hard cost) }
 {
     let mut out = Vec::new(alloc);

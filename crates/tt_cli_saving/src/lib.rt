@@ -5,6 +5,7 @@
 mod counted;
 mod fault;
 mod folder;
+mod front;
 mod inputs;
 mod keeper;
 mod limit;
@@ -25,6 +26,7 @@ mod written;
 
 pub use fault::CommandFault;
 pub use folder::{Folder, FolderFile};
+pub use front::WISHES_LINE;
 pub use inputs::{Input, InputFile, Inputs, MAX_FILE_BYTES, ReadFault};
 pub use keeper::{Keeper, KeptTable};
 pub use limit::TimeLimit;

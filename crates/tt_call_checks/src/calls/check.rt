@@ -8,7 +8,7 @@ ghost use Rattle.tt_call_checks.specs.Checked.{IsChecked, IsCheckRefusal, IsFile
 ghost use Rattle.tt_call_answers.specs.Refusals.{is_failed_read};
 ghost use Rattle.tt_call_answers.specs.FaultMaps.{HoldsNoStop};
 
-use crate::lines::{broken, yes};
+use crate::lines::{broken_line, yes_line};
 use std::alloc::{AllocError, Global};
 use tt_call_answers::{Answer, AppFault};
 use tt_proof_check::{Verdict, certify};
@@ -21,7 +21,7 @@ pub fn yes_answer(alloc: Global, cost: u64, bound: u64) -> Result<Answer, AllocE
 {
     Ok(Answer {
         status: 0,
-        out: yes(alloc, cost, bound)?,
+        out: yes_line(alloc, cost, bound)?,
         table: None,
         proof: None,
     })
@@ -35,7 +35,7 @@ pub fn broken_answer(alloc: Global, score: &Score) -> Result<Answer, AllocError>
 {
     Ok(Answer {
         status: 1,
-        out: broken(alloc, score.hard(), score.cost())?,
+        out: broken_line(alloc, score.hard(), score.cost())?,
         table: None,
         proof: None,
     })

@@ -30,7 +30,7 @@ use tt_table::{Timetable, read_solution};
 use tt_text_peek::Peek;
 
 /// Returns the bound of proofs, if some timetable breaks no hard rule: so the bound is a number.
-fn summed_bound<R: Peek>(
+pub fn summed_bound<R: Peek>(
     alloc: Global,
     instance: &Instance<'_>,
     table: &Timetable,

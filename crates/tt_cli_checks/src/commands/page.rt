@@ -180,7 +180,7 @@ fn put_page<R: World, O: Write, E: Write>(
     shown: &Shown<'_, R, E>,
 ) -> Result<Reply, CommandFault> {
     let unread = Cell::new(None);
-    let mut proofs = proof_files(rt, proofs, shown, &unread)?;
+    let mut proofs = proof_files(rt, proofs, false, shown, &unread)?;
     let Prepared { label, ready } = output;
     match make_page(rt, ready, texts, &mut proofs, out, shown) {
         Ok(Made::Written(reply)) => Ok(reply),
