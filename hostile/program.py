@@ -131,10 +131,12 @@ FILES = {
     "gap.groups": GAP_GROUPS,
     "nothing.proof": b"CTTP 1 bound 0 B ; end",
     "wishes": b"hold a R 0 0\nclosed * 0 1\n",
+    "clashing": b"\nhold a R 0 0\nhold b * 0 0\n",
     "bad": b"bad",
     "empty": b"",
 }
 BESIDE = {".partial": "output solution", ".partial.html": "output page"}
+CLASH = b"wishes: lines 2 and 3 clash: no feasible timetable keeps both\n"
 SOLVE_GAP = {"out": None, "out.proof": None}
 PARTS_OF_GAP = {"groups.proof": None, "rooms.proof": None}
 BEST_OF_GAP = {"best.sol": None, "page.html": None, "tree.proof": None}
@@ -158,6 +160,7 @@ COMMANDS = [
     Command("validate mini -", out=MINI_COUNTS, given="gap.sol"),
     Command("validate - -", 2, b"", None, given="mini"),
     Command("validate mini gap.sol --wishes wishes", out=MINI_COUNTS + b"wishes 0\n"),
+    Command("validate mini gap.sol --wishes clashing", 1, MINI_COUNTS + b"wishes 1\n", CLASH),
     Command("validate mini gap.sol --wishes bad", 2, b"", b"refused: wishes: UnknownWord at byte 0\n"),
     Command("check gap gap.sol gap.proof", out=b"yes cost 5 bound 5 optimal\n"),
     Command("check gap gap.sol -", out=b"yes cost 5 bound 5 optimal\n", given="gap.proof"),
@@ -171,6 +174,7 @@ COMMANDS = [
     Command("improve gap last.sol out --complete --drop --steps 100", out=b"hard 0 cost 5\n", err=b"line 1 left out, no such course: z R 0 0\n", written={"out": None}),
     Command("improve mini gap.sol out --stay 5 --steps 20", out=b"hard 0 cost 5 moved 0 rooms 0\n", written={"out": APART}),
     Command("improve mini gap.sol out --wishes wishes --steps 20", out=b"hard 0 cost 5 wishes 0 moved 0 rooms 0\n", written={"out": APART}),
+    Command("improve mini gap.sol out --wishes clashing --steps 20", 1, None, CLASH, written={"out": None}),
     Command("improve mini gap.sol out --wishes bad", 2, b"", b"refused: wishes: UnknownWord at byte 0\n"),
     Command("improve mini gap.sol out --stay 1 --steps 20 --runs 2", out=b"hard 0 cost 1 moved 1 rooms 0\n", written={"out": None}),
     Command("improve mini gap.sol out --steps 100 --runs 5 --keep", out=b"hard 0 cost 1\n", written={"out": None}, hurry=HURRY),

@@ -2,6 +2,7 @@
 //! way.
 #![tactic(auto)]
 
+mod clash;
 mod counted;
 mod fault;
 mod folder;
@@ -24,6 +25,7 @@ mod ticker;
 mod world;
 mod written;
 
+pub use clash::show_clash;
 pub use fault::CommandFault;
 pub use folder::{Folder, FolderFile};
 pub use front::WISHES_LINE;

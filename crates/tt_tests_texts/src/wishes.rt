@@ -6,7 +6,7 @@ use tt_instance::Instance;
 use tt_instance_read::read_instance;
 use tt_path::{Fact, Pattern, Who};
 use tt_table::read_solution;
-use tt_testing_samples::{MINI, TOUR, repeated};
+use tt_testing_samples::{GAP, MINI, TOUR, repeated};
 use tt_wishes::{MAX_WISHES, WishesFault, broken_wishes, list_facts, read_wishes};
 use tt_wishes_clash::{Clash, find_clash};
 
@@ -104,20 +104,38 @@ fn facts_of_wishes(rt: HostRuntime) -> Result<(), Fail> {
     Ok(())
 }
 
+/// Two wishes that clash, by their numbers.
+const fn pair(first: usize, second: usize) -> Option<Clash> {
+    Some(Clash::Pair { first, second })
+}
+
 #[test]
 fn wishes_that_clash_are_found(rt: HostRuntime) -> Result<(), Fail> {
     for (instance, wishes, clash) in [
         (TOUR, "hold x A 0 0\nroom x A\nclosed B * *", None),
         (TOUR, "hold x A * 0\nclosed A 0 *", None),
-        (TOUR, "room x B\nhold x A 0 0", Some((1, 0))),
-        (TOUR, "room x A\nhold x A 0 0\nclosed * 0 *", Some((1, 2))),
+        (TOUR, "room x B\nhold x A 0 0", pair(1, 0)),
+        (TOUR, "room x A\nhold x A 0 0\nclosed * 0 *", pair(1, 2)),
+        (TOUR, "room x A B\nroom x B", None),
+        (TOUR, "room x A B\nroom x A\nroom x B", pair(1, 2)),
         (MINI, "hold a R 0 0\nhold b R 0 1", None),
-        (MINI, "hold a R 0 0\nhold b * 0 0", Some((0, 1))),
+        (MINI, "hold a R 0 0\nhold b * 0 0", pair(0, 1)),
+        (MINI, "hold a R 0 0\nhold a * 0 0\nhold a R 0 *", None),
+        (
+            MINI,
+            "hold a R 0 0\nhold a * 0 0\nhold b * 0 1\nhold a R 0 2",
+            Some(Clash::TooMany { wish: 3 }),
+        ),
+        (GAP, "hold a R 0 *\nhold b * * 1", None),
+        (
+            GAP,
+            "hold a R 0 0\nhold b * 0 0\nhold b * 0 1",
+            Some(Clash::Unavailable { wish: 2 }),
+        ),
     ] {
         let instance = read_instance(rt.alloc(), instance.as_bytes())?;
         let read = read_wishes(rt.alloc(), &instance, wishes.as_bytes())?;
-        let wanted = clash.map(|(first, second)| Clash { first, second });
-        assert_eq!(rt; find_clash(&instance, &read), wanted, "of {wishes}");
+        assert_eq!(rt; find_clash(&instance, &read), clash, "of {wishes}");
     }
     Ok(())
 }

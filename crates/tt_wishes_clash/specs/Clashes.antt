@@ -1,9 +1,9 @@
 -- Wishes that no timetable without a broken hard rule keeps both of.
-use Rattle.std.specs.Prelude.{◌≡◌, ℕ, ◌<◌, ◌==◌, Bool, true, false, not, ◌&&◌, ◌||◌, List, length, slice_index_or, Option, Some, None}
+use Rattle.std.specs.Prelude.{◌≡◌, ℕ, ◌<◌, nat_lt, ◌==◌, Bool, true, false, not, ◌&&◌, ◌||◌, List, length, slice_index_or, Option, Some, None}
 use Rattle.std.specs.List.{list_any}
 use Rattle.tt_list_laws.specs.Words.{has_number}
 use Rattle.tt_instance.specs.Problem.{Problem}
-use Rattle.tt_instance.specs.Courses.{conflict}
+use Rattle.tt_instance.specs.Courses.{lectures, conflict}
 use Rattle.tt_wishes.specs.declared.wish.Place.{Place}
 use Rattle.tt_wishes.specs.declared.wish.Wish.{Wish}
 use Rattle.tt_wishes.specs.declared.wish.Wish.TheVariants.{Hold, Rooms, Closed}
@@ -33,12 +33,19 @@ abbrev pub holds_clash : Problem → ℕ → Place → ℕ → Place → Bool
 holds_clash p c g d h =
     both_give g.day h.day && both_give g.period h.period && not (c == d) && (both_give g.room h.room || conflict p c d)
 
--- A lecture that stays clashes with another one, with its course's rooms, or with a place that stays empty.
+-- The course has lectures, and no room is in both lists.
+abbrev pub has_no_room : Problem → ℕ → List ℕ → List ℕ → Bool
+has_no_room p c rooms others = nat_lt 0 (lectures p c) && not (list_any (has_number others) rooms)
+
+-- A lecture that stays clashes with another one, with its course's rooms, or with a place that stays empty. Rooms of a course clash with others of
+-- it.
 abbrev pub clashes : Problem → Wish → Wish → Bool
 clashes p (Hold c g) (Hold d h) = holds_clash p c g d h
 clashes p (Hold c g) (Rooms d rooms) = (c == d) && is_other_room rooms g.room
 clashes p (Hold c g) (Closed h) = place_covers h g
-clashes p (Rooms c rooms) w = false
+clashes p (Rooms c rooms) (Rooms d others) = (c == d) && has_no_room p c rooms others
+clashes p (Rooms c rooms) (Hold d g) = false
+clashes p (Rooms c rooms) (Closed g) = false
 clashes p (Closed g) w = false
 
 -- Some of the wishes clashes with this one.

@@ -1,1 +1,4 @@
 pub mod Clashes
+pub mod Inner
+pub mod Periods
+pub mod Reasons

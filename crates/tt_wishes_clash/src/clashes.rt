@@ -1,14 +1,17 @@
 //! Whether two wishes clash.
 
-ghost use Rattle.std.specs.Prelude.{◌≡◌};
-ghost use Rattle.tt_wishes_clash.specs.Clashes.{both_give, covers, place_covers, is_other_room, holds_clash, clashes};
-ghost use Rattle.tt_wishes.specs.declared.wish.Wish.TheVariants.{Hold};
+ghost use Rattle.std.specs.Prelude.{◌≡◌, nat_lt};
+ghost use Rattle.std.specs.List.{list_any};
+ghost use Rattle.tt_list_laws.specs.Words.{has_number};
+ghost use Rattle.tt_instance.specs.Courses.{lectures};
+ghost use Rattle.tt_wishes_clash.specs.Clashes.{both_give, covers, place_covers, is_other_room, holds_clash, has_no_room, clashes};
+ghost use Rattle.tt_wishes.specs.declared.wish.Wish.TheVariants.{Hold, Rooms};
 
 use tt_instance::Instance;
 use tt_wishes::{Place, RoomList, Wish};
 
 /// Returns whether both numbers are given and are the same.
-fn both_give(first: Option<u32>, second: Option<u32>) -> bool
+pub fn both_give(first: Option<u32>, second: Option<u32>) -> bool
     ensures { result ≡ both_give first second }
 {
     match first {
@@ -79,13 +82,48 @@ fn hold_clashes(instance: &Instance<'_>, course: u32, place: Place, wish: &Wish)
     }
 }
 
+/// Returns whether a course has lectures; false if it is out of range.
+fn has_lectures(instance: &Instance<'_>, course: u32) -> bool
+    ensures { result ≡ nat_lt 0 (lectures instance.now course) }
+{
+    course < instance.courses() && instance.lectures(course) > 0
+}
+
+/// Returns whether some room is in both lists.
+fn has_common(rooms: &RoomList, others: &RoomList) -> bool
+    ensures { result ≡ list_any (has_number others.now) rooms.now }
+{
+    rooms.as_slice().iter().any(|room| others.has(*room))
+}
+
+/// Returns whether a course has lectures, and no room is in both lists.
+fn has_no_room(instance: &Instance<'_>, course: u32, rooms: &RoomList, others: &RoomList) -> bool
+    ensures { result ≡ has_no_room instance.now course rooms.now others.now }
+{
+    has_lectures(instance, course) && !has_common(rooms, others)
+}
+
+/// Returns whether rooms of a course clash with a wish.
+fn rooms_clash(instance: &Instance<'_>, course: u32, rooms: &RoomList, wish: &Wish) -> bool
+    ensures { result ≡ clashes instance.now (Rooms course rooms.now) wish.now }
+{
+    match wish {
+        Wish::Hold { .. } => false,
+        Wish::Rooms {
+            course: other,
+            rooms: others,
+        } => course == *other && has_no_room(instance, course, rooms, others),
+        Wish::Closed(_) => false,
+    }
+}
+
 /// Returns whether the first wish clashes with the second.
 pub fn clashes(instance: &Instance<'_>, first: &Wish, second: &Wish) -> bool
     ensures { result ≡ clashes instance.now first.now second.now }
 {
     match first {
         Wish::Hold { course, place } => hold_clashes(instance, *course, *place, second),
-        Wish::Rooms { .. } => false,
+        Wish::Rooms { course, rooms } => rooms_clash(instance, *course, rooms, second),
         Wish::Closed(_) => false,
     }
 }

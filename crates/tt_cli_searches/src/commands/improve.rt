@@ -12,7 +12,7 @@ use tt_cli_arguments::{ImproveRequest, Search};
 use tt_cli_files::{Batch, Role};
 use tt_cli_saving::{
     CommandFault, Input, InputFile, Inputs, Keeper, NoShelf, Prepared, Reply, Target, Ticker,
-    World, reply_with, ticker_of,
+    World, reply_with, show_clash, ticker_of,
 };
 use tt_watch::Watch;
 
@@ -116,6 +116,9 @@ pub fn answer_improve<R: World, E: Write>(
     let mut out = out.prepare(rt)?;
     if request.search.drops {
         solution = drop_and_list(rt.alloc(), err, &instance, &solution)?;
+    }
+    if let Some(wishes) = &wishes {
+        show_clash(rt.alloc(), err, &instance, wishes);
     }
     let start = Start {
         instance: &instance,

@@ -1,16 +1,26 @@
-use Rattle.std.proofs.Common.{sym}
-use Rattle.tt_wishes_clash.proofs.Apart.{clash_breaks, one_more, partners}
+use Rattle.std.proofs.Common.{refl, sym}
+use Rattle.tt_wishes_clash.specs.declared.clash.Clash.TheVariants.{TooMany, Unavailable}
+use Rattle.tt_wishes_clash.proofs.Apart.{clash_breaks}
+use Rattle.tt_wishes_clash.proofs.Reasons.{barred_found, none_barred, reason_breaks}
 use Rattle.tt_wishes_clash.proofs.finding.find_clash.Goals as goal
 
 pub returns-in-Some-clause-clashing : goal.returns-in-Some-clause-clashing
-returns-in-Some-clause-clashing c = partners c.args.instance.now c.args.wishes.now c.loop-first.first c.in-Some.second
-    c.index-wishes-first.result c.loop-first-test.true c.index-wishes-first.is (sym c.in-Some.ensures)
+returns-in-Some-clause-clashing c = barred_found c.args.instance.now c.args.wishes.now c.in-Some.wish (sym c.in-Some.ensures)
 
 pub returns-in-Some-clause-broken : goal.returns-in-Some-clause-broken
-returns-in-Some-clause-broken c = λ some. clash_breaks c.args.instance.now c.args.wishes.now c.loop-first.first c.in-Some.second
-    (partners c.args.instance.now c.args.wishes.now c.loop-first.first c.in-Some.second c.index-wishes-first.result
-    c.loop-first-test.true c.index-wishes-first.is (sym c.in-Some.ensures))
+returns-in-Some-clause-broken c = λ some. reason_breaks c.args.instance.now c.args.wishes.now (Unavailable c.in-Some.wish)
+    (barred_found c.args.instance.now c.args.wishes.now c.in-Some.wish (sym c.in-Some.ensures))
 
-pub loop-first-preserved : goal.loop-first-preserved
-loop-first-preserved c = one_more c.args.instance.now c.args.wishes.now c.loop-first.first c.index-wishes-first.result
-    c.loop-first-test.true c.index-wishes-first.is c.loop-first.invariant (sym c.in_default.ensures)
+pub returns-in-Some-find_pair-clause-broken : goal.returns-in-Some-find_pair-clause-broken
+returns-in-Some-find_pair-clause-broken c = λ some. clash_breaks c.args.instance.now c.args.wishes.now _ _
+    c.in-Some-find_pair.ensures.clashing
+
+pub returns-in_err-wish-clause-no_reason : goal.returns-in_err-wish-clause-no_reason
+returns-in_err-wish-clause-no_reason c = λ none. record {
+  pairs = c.in_default-find_pair.ensures.none refl;
+  available = none_barred c.args.instance.now c.args.wishes.now (sym c.in_default.ensures);
+  enough = c.in_err-wish.ensures.none refl;
+}
+
+pub returns-clause-broken : goal.returns-clause-broken
+returns-clause-broken c = λ some. reason_breaks c.args.instance.now c.args.wishes.now (TooMany c.in_ok-wish.wish) c.in_ok-wish.ensures.some
