@@ -6,6 +6,7 @@ use std::io;
 use thiserror::Error;
 use tt_call_answers::AppFault;
 use tt_call_changes::ChangesFault;
+use tt_call_kept::KeptFault;
 use tt_call_wished::WishedFault;
 use tt_call_wishes::ValidateFault;
 use tt_cli_files::WriteFault;
@@ -23,6 +24,8 @@ pub enum CommandFault {
     Wishes(ValidateFault),
     #[error("{0}")]
     Wished(WishedFault),
+    #[error("{0}")]
+    Kept(KeptFault),
     /// A call was refused since the file of this path couldn't be read.
     #[error("{fault}: {path}: {reason}")]
     Unread {
@@ -74,6 +77,12 @@ impl From<ValidateFault> for CommandFault {
 impl From<WishedFault> for CommandFault {
     fn from(fault: WishedFault) -> CommandFault {
         CommandFault::Wished(fault)
+    }
+}
+
+impl From<KeptFault> for CommandFault {
+    fn from(fault: KeptFault) -> CommandFault {
+        CommandFault::Kept(fault)
     }
 }
 

@@ -1,0 +1,32 @@
+-- Bounds of the timetables that keep wishes, from those of the narrowed instance.
+use Rattle.std.proofs.Common.{◌≡◌, List, subst}
+use Rattle.tt_instance.specs.Problem.{Problem}
+use Rattle.tt_instance.specs.declared.cell.Cell.{Cell}
+use Rattle.tt_wishes.specs.declared.wish.Wish.{Wish}
+use Rattle.tt_wishes_narrow.specs.Narrowed.{narrowed}
+use Rattle.tt_wishes_narrow.proofs.Keeping.{stays_feasible}
+use Rattle.tt_leaf.specs.declared.leaf.Bound.{Bound}
+use Rattle.tt_leaf.specs.declared.leaf.Bound.TheVariants.{Nothing}
+use Rattle.tt_page.specs.Proofs.{IsProvedOf, kept_of}
+use Rattle.tt_leaf.specs.declared.leaf.Bound.TheVariants as bound
+use Rattle.tt_proof_check.specs.Derives.{HoldsOfAll}
+use Rattle.tt_call_best_kept.specs.Inner.Steps.{BreaksNothing}
+use Rattle.tt_call_kept.specs.Kept.{HoldsOfKept}
+
+-- a bound of the narrowed instance holds of the timetables that keep the wishes
+pub holds_of_kept : (p n : Problem) (ws : List Wish) (b : Bound) → n ≡ narrowed p ws → HoldsOfAll n b → HoldsOfKept p ws b
+holds_of_kept p n ws b is holds =
+    let here : HoldsOfAll (narrowed p ws) b = subst (λ (q : Problem). HoldsOfAll q b) is holds in
+    λ t feasible kept. here t (stays_feasible p t ws feasible kept)
+
+-- if there is a timetable that keeps the wishes, the bound isn't that there is none
+pub some_kept : (p n : Problem) (ws : List Wish) (t : List Cell) (b : Bound) → n ≡ narrowed p ws → HoldsOfAll n b → BreaksNothing p ws t
+    → b ≡ Nothing → ⊥
+some_kept p n ws t b is holds unbroken none =
+    let here = subst (λ (x : Bound). HoldsOfAll n x) none holds in
+    holds_of_kept p n ws Nothing is here t unbroken.0 unbroken.1
+
+-- such a page names no courses
+pub proved_of_kept : (p : Problem) (b : Bound) → IsProvedOf p (kept_of b)
+proved_of_kept p (bound.AtLeast b) = tt
+proved_of_kept p bound.Nothing = tt
