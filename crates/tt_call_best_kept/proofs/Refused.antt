@@ -2,25 +2,44 @@
 use Rattle.std.proofs.Common.{◌≡◌, ℕ, List, Option, Some, None}
 use Rattle.tt_text.specs.Reading.{FailsUnless}
 use Rattle.tt_instance.specs.Problem.{Problem}
+use Rattle.tt_instance.specs.Spelling.{Spells}
+use Rattle.tt_instance_read.specs.Reading.{Fails as FailsInstance, instance_of}
+use Rattle.tt_instance_read.specs.declared.fault.InstanceFault.{InstanceFault}
+use Rattle.tt_instance_read.specs.declared.fault.InstanceFault.TheVariants as instance
 use Rattle.tt_instance.specs.declared.cell.Cell.{Cell}
 use Rattle.tt_table.specs.declared.fault.SolutionFault.{SolutionFault}
 use Rattle.tt_table.specs.declared.fault.SolutionFault.TheVariants as solution
+use Rattle.tt_wishes.specs.Reading.{Fails as FailsWishesText, wishes_of}
+use Rattle.tt_wishes.specs.declared.fault.WishesFault.{WishesFault}
+use Rattle.tt_wishes.specs.declared.fault.WishesFault.TheVariants as wishes
 use Rattle.tt_wishes.specs.declared.wish.Wish.{Wish}
 use Rattle.tt_page_text.specs.Labels.{is_environmental}
 use Rattle.tt_page_text.specs.declared.fault.LabelsFault.{LabelsFault}
 use Rattle.tt_page_text.specs.declared.fault.LabelsFault.TheVariants as labels
-use Rattle.tt_call_answers.specs.FaultMaps.{fault_from_labels, fault_from_solution}
+use Rattle.tt_call_answers.specs.FaultMaps.{fault_from_instance, fault_from_labels, fault_from_solution}
 use Rattle.tt_call_answers.specs.declared.fault.AppFault.TheVariants as app
 use Rattle.tt_call_names.specs.Names.{labels_for}
 use Rattle.tt_call_names.specs.declared.names.PageNames.{PageNames}
 use Rattle.tt_call_searches.specs.Given.{FailsGiven, IsGiven}
 use Rattle.tt_call_searches.proofs.GivenNames.{given_spelled}
-use Rattle.tt_call_kept.specs.Kept.{IsFileRefusal, SpellsKept}
+use Rattle.tt_call_kept.specs.Kept.{IsFileRefusal, SpellsKept, fault_from_wishes}
 use Rattle.tt_call_kept.specs.declared.fault.KeptFault.{KeptFault}
 use Rattle.tt_call_kept.specs.declared.fault.KeptFault.TheVariants as fault
 use Rattle.tt_call_kept.specs.declared.files.KeptFiles.{KeptFiles}
 use Rattle.tt_call_best_kept.specs.BestKept.{IsBestKeptRefusal}
 use Rattle.tt_call_best_kept.specs.Inner.Steps.{IsNamesFault, IsStartFault}
+
+-- an error of the instance
+pub tells_instance : (f : KeptFiles) (e : InstanceFault) → FailsInstance e (instance_of f.instance.now)
+    → IsFileRefusal f (fault.Bound (fault_from_instance e))
+tells_instance f instance.OutOfMemory h = tt
+tells_instance f e h = h
+
+-- an error of the wishes
+pub tells_wishes : (f : KeptFiles) (p : Problem) (e : WishesFault) → Spells f.instance.now p → FailsWishesText e (wishes_of p f.wishes.now)
+    → IsFileRefusal f (fault_from_wishes e)
+tells_wishes f p wishes.OutOfMemory spelled h = tt
+tells_wishes f p e spelled h = record { problem = p; spelled = spelled; fails = h }
 
 -- an error of a given solution
 pub start_fault : (p : Problem) (given : Option (List ℕ)) (e : SolutionFault) → FailsGiven e p given

@@ -17,6 +17,7 @@ use tt_wishes_best::{Rounds, Start, Wishing, find_best_kept};
 /// Searches for a best timetable that keeps wishes, and for proofs of a lower bound for those that do, in rounds, until they meet or the watch ends
 /// the search. It starts from a solution and from proofs of an earlier search, if there are any. The page that shows the results has names and a
 /// style. Nothing is promised about how good they are.
+#[tactic(auto, using(tt_call_searches::proofs::Given::given_fits))]
 pub fn best_kept<W: WatchBest>(
     alloc: Global,
     files: KeptFiles<'_>,

@@ -45,6 +45,7 @@ pub fn read_kept<'a>(alloc: Global, files: KeptFiles<'a>) -> Result<Read<'a>, Ke
 }
 
 /// Reads a solution, if one is given.
+#[tactic(auto, using(crate::proofs::Refused::start_fault))]
 pub fn read_start(
     alloc: Global,
     instance: &Instance<'_>,
@@ -60,6 +61,7 @@ pub fn read_start(
 }
 
 /// Returns the labels that names spell for an instance's days and periods.
+#[tactic(auto, using(crate::proofs::Refused::names_fault))]
 pub fn read_labels(
     alloc: Global,
     instance: &Instance<'_>,

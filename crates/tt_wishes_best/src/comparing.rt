@@ -41,6 +41,7 @@ pub fn weigh(wishing: Wishing<'_, '_>, table: &Timetable) -> KeptWeight
 }
 
 /// Returns the found timetable if it has a lower weight than the first one and keeps each wish that that one keeps, and the first one otherwise.
+#[tactic(auto, using(crate::proofs::Worse::no_worse_lighter, crate::proofs::Worse::no_worse_self))]
 pub fn better_of(wishing: Wishing<'_, '_>, first: Timetable, found: Timetable) -> Timetable
     requires first { IsTimetable wishing.instance.now first }
     requires found { IsTimetable wishing.instance.now found }
