@@ -4,7 +4,6 @@ use Rattle.tt_instance.specs.Problem.{Problem}
 use Rattle.tt_instance.specs.declared.cell.Cell.{Cell}
 use Rattle.tt_table.specs.Spelling.{SpellsTable, solution_text}
 use Rattle.tt_table.specs.Table.{IsTimetable}
-use Rattle.tt_table.specs.Reading.{solution_of}
 use Rattle.tt_table.specs.declared.fault.SolutionFault.{SolutionFault}
 use Rattle.tt_rules.specs.Score.{IsFeasible, cost}
 use Rattle.tt_wishes.specs.Wishes.{broken_wishes}

@@ -2,26 +2,52 @@
 
 ghost use Rattle.std.specs.Prelude.{◌≡◌, ◌↔◌, ◌++◌, IfOk, IsTrue, OnOk};
 ghost use Rattle.tt_table.specs.Table.{IsTimetable};
+ghost use Rattle.tt_page.specs.Pages.{page_text};
 ghost use Rattle.tt_page.specs.Proofs.{kept_of};
 ghost use Rattle.tt_parts.specs.Found.{AreFound};
 ghost use Rattle.tt_best.specs.Weeks.{IsWeek};
 ghost use Rattle.tt_wishes_best.specs.Kept.{IsNarrowing};
-ghost use Rattle.tt_call_best_kept.specs.BestKept.{IsBestKeptFound, IsBestKeptOf, IsNoneKept};
+ghost use Rattle.tt_call_answers.specs.Lines.{best_line, none_line};
+ghost use Rattle.tt_call_searches.specs.Best.{ShowsPage};
+ghost use Rattle.tt_call_best_kept.specs.BestKept.{IsBestKeptFound, IsBestKeptOf, IsNoneKept, wishes_line};
 ghost use Rattle.tt_call_best_kept.specs.Inner.Steps.{BreaksNothing};
 
 use std::alloc::{AllocError, Global};
 use tt_call_checks::put_count;
 use tt_call_searches::{BestAnswer, found_line, missing_line, page_of};
+use tt_instance::Instance;
 use tt_leaf::Bound;
 use tt_page::{Look, Proved};
 use tt_parts::{Parts, copy_texts};
 use tt_rules::score;
 use tt_table::{Timetable, write_solution};
-use tt_wishes::broken_wishes;
+use tt_wishes::{Wish, broken_wishes};
 use tt_wishes_best::{Week, Wishing};
 
-/// The name of the line of the number of wishes.
-const WISHES: &[u8] = b"wishes";
+/// Writes the line of the number of wishes.
+fn put_wishes(out: &mut Vec<u8>, wishes: &[Wish]) -> Result<(), AllocError>
+    ensures { OnOk result (out.new.items ≡ out.old.items ++ wishes_line wishes.now) }
+{
+    put_count(out, b"wishes", wishes.len() as u64)
+}
+
+/// Returns the text for a timetable that was found: the line of its cost and a bound, and that of the number of wishes.
+fn found_text(alloc: Global, cost: u64, bound: u64, wishes: &[Wish]) -> Result<Vec<u8>, AllocError>
+    ensures { IfOk result (λ out. out.items ≡ best_line cost bound ++ wishes_line wishes.now) }
+{
+    let mut out = found_line(alloc, cost, bound)?;
+    put_wishes(&mut out, wishes)?;
+    Ok(out)
+}
+
+/// Returns the text if no timetable was found: the line of a bound, and that of the number of wishes.
+fn missing_text(alloc: Global, bound: Bound, wishes: &[Wish]) -> Result<Vec<u8>, AllocError>
+    ensures { IfOk result (λ out. out.items ≡ none_line bound ++ wishes_line wishes.now) }
+{
+    let mut out = missing_line(alloc, bound)?;
+    put_wishes(&mut out, wishes)?;
+    Ok(out)
+}
 
 /// Returns what a bound of the timetables that keep wishes says.
 fn proved_by(bound: Bound) -> Proved
@@ -31,6 +57,22 @@ fn proved_by(bound: Bound) -> Proved
         Bound::AtLeast(points) => Proved::KeptAtLeast(points),
         Bound::Nothing => Proved::NoneKept,
     }
+}
+
+/// Returns the page of a timetable with a bound of those that keep wishes, unless it is too large.
+#[tactic(auto, using(crate::proofs::Keeping::proved_of_kept))]
+fn kept_page(
+    alloc: Global,
+    instance: &Instance<'_>,
+    table: &Timetable,
+    bound: Bound,
+    look: &Look<'_>,
+) -> Result<Option<Vec<u8>>, AllocError>
+    requires { IsTimetable instance.now table.now }
+    ensures { IfOk result (λ page. ShowsPage page (page_text instance.now table.now look.now.labels.now (kept_of bound) look.now.style.now)) }
+{
+    let proved = proved_by(bound);
+    page_of(alloc, instance, table, &proved, look)
 }
 
 /// Checks whether a timetable breaks neither a hard rule nor a wish.
@@ -59,15 +101,12 @@ fn found_answer(
         unreachable!();
     };
     let cost = score(wishing.instance, table).cost();
-    let proved = proved_by(parts.bound);
-    let mut out = found_line(alloc, cost, points)?;
-    put_count(&mut out, WISHES, wishing.wishes.len() as u64)?;
     Ok(BestAnswer {
         status: 0,
-        out,
+        out: found_text(alloc, cost, points, wishing.wishes)?,
         table: Some(write_solution(alloc, wishing.instance, table)?),
         partial: None,
-        page: page_of(alloc, wishing.instance, table, &proved, look)?,
+        page: kept_page(alloc, wishing.instance, table, parts.bound, look)?,
         proofs: copy_texts(alloc, &parts.proofs)?,
     })
 }
@@ -86,15 +125,12 @@ fn missing_answer(
     requires parts { AreFound wishing.narrow.now parts.now }
     ensures { IfOk result (IsNoneKept wishing.entry.instance.now wishing.entry.wishes.now look.now.labels.now look.now.style.now) }
 {
-    let proved = proved_by(parts.bound);
-    let mut out = missing_line(alloc, parts.bound)?;
-    put_count(&mut out, WISHES, wishing.wishes.len() as u64)?;
     Ok(BestAnswer {
         status: 1,
-        out,
+        out: missing_text(alloc, parts.bound, wishing.wishes)?,
         table: None,
         partial: Some(write_solution(alloc, wishing.instance, table)?),
-        page: page_of(alloc, wishing.instance, table, &proved, look)?,
+        page: kept_page(alloc, wishing.instance, table, parts.bound, look)?,
         proofs: copy_texts(alloc, &parts.proofs)?,
     })
 }

@@ -1,6 +1,5 @@
 //! What is left to search for.
 
-ghost use Rattle.std.specs.Prelude.{IfOk};
 ghost use Rattle.tt_table.specs.Table.{IsTimetable};
 ghost use Rattle.tt_best.specs.Weeks.{IsWeek};
 ghost use Rattle.tt_wishes_best.specs.Kept.{IsNarrowing};
