@@ -1,7 +1,6 @@
 //! The call `kept_page`.
 
-ghost use Rattle.std.specs.Prelude.{◌≡◌, IfOk, IfErr};
-ghost use Rattle.tt_page.specs.Proofs.{kept_of};
+ghost use Rattle.std.specs.Prelude.{IfOk, IfErr};
 ghost use Rattle.tt_proof_sum.specs.Added.{Give};
 ghost use Rattle.tt_call_kept_page.specs.Paged.{IsKeptPaged, IsKeptPageRefusal};
 
@@ -9,7 +8,6 @@ use std::alloc::Global;
 use tt_call_kept::{KeptFault, KeptFiles};
 use tt_call_names::{PageNames, labels_for};
 use tt_instance_read::read_instance;
-use tt_leaf::Bound;
 use tt_page::{Look, Proved, Shown};
 use tt_proof_sum::sum_proofs;
 use tt_table::read_solution;
@@ -25,16 +23,6 @@ pub struct PageTexts<'a> {
     pub solution: &'a [u8],
     pub names: PageNames<'a>,
     pub style: &'a str,
-}
-
-/// Returns what a bound says of the timetables that keep wishes.
-fn kept_of(bound: Bound) -> Proved
-    ensures { result ≡ kept_of bound }
-{
-    match bound {
-        Bound::AtLeast(points) => Proved::KeptAtLeast(points),
-        Bound::Nothing => Proved::NoneKept,
-    }
 }
 
 /// Writes the page of a solution's week, with names, a style, and the sum of the lower bounds that proofs derive for the timetables that keep wishes;
@@ -62,7 +50,7 @@ pub fn kept_page<R: Peek, W: Sink>(
     let wishes = read_wishes(alloc, &instance, files.wishes)?;
     let narrow = narrow(alloc, read_instance(alloc, files.instance)?, &wishes)?;
     let bound = sum_proofs(alloc, &narrow, proofs)?;
-    let proved = kept_of(bound);
+    let proved = Proved::kept(bound);
     let look = Look {
         labels: &labels,
         style,

@@ -1,6 +1,7 @@
 //! The files of `improve`.
 
 use crate::dropping::drop_and_list;
+use crate::given::read_if_given;
 use crate::near::{improve_priced, prices};
 use crate::saving::kept_table;
 use std::alloc::Global;
@@ -11,8 +12,8 @@ use tt_call_wished::{Search as WishedSearch, WishedFiles, improve_under_wishes};
 use tt_cli_arguments::{ImproveRequest, Search};
 use tt_cli_files::{Batch, Role};
 use tt_cli_saving::{
-    CommandFault, Input, InputFile, Inputs, Keeper, NoShelf, Prepared, Reply, Target, Ticker,
-    World, reply_with, show_clash, ticker_of,
+    CommandFault, Input, Inputs, Keeper, NoShelf, Prepared, Reply, Target, Ticker, World,
+    reply_with, show_clash, ticker_of,
 };
 use tt_watch::Watch;
 
@@ -82,17 +83,6 @@ fn improve_shown<'k, R: World, E: Write>(
         completes,
     };
     Ok(improve(alloc, start.instance, start.solution, search, &mut keeper)?)
-}
-
-/// Returns the bytes of a file, if there is one.
-fn read_if_given<R: World>(
-    rt: &R,
-    file: Option<InputFile<'_>>,
-) -> Result<Option<Vec<u8>>, CommandFault> {
-    match file {
-        Some(file) => Ok(Some(file.read(rt)?)),
-        None => Ok(None),
-    }
 }
 
 /// Returns the answer of `improve`, once the timetable is in its file.
