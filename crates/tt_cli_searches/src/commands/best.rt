@@ -16,8 +16,8 @@ use tt_call_searches::{BestAnswer, BestSearch, best};
 use tt_cli_arguments::BestRequest;
 use tt_cli_files::Batch;
 use tt_cli_saving::{
-    CommandFault, Folder, Input, InputFile, Inputs, Keeper, Prepared, Reply, Ticker, World,
-    reply_with, ticker_of,
+    CommandFault, Folder, Input, InputFile, Inputs, Keeper, Prepared, Reply, Ticker, WISHES_LINE,
+    World, reply_with, ticker_of,
 };
 use tt_page::STYLE;
 use tt_text_peek::{FileKind, kind_of_front};
@@ -70,8 +70,20 @@ fn search_shown<'k, R: World, E: Write>(
     }
 }
 
+/// Returns the text of a proof without the line that it holds under wishes, if that may be there.
+fn proof_in(alloc: Global, text: Vec<u8>, is_under_wishes: bool) -> Result<Vec<u8>, AllocError> {
+    match text.strip_prefix(&WISHES_LINE) {
+        Some(proof) if is_under_wishes => Vec::from_slice(alloc, proof),
+        _ => Ok(text),
+    }
+}
+
 /// Reads the proofs that an earlier run left in the folder; a file that can't be read is passed over.
-fn read_proofs<R: World>(rt: &R, folder: Folder<'_>) -> Result<Vec<Vec<u8>>, CommandFault> {
+fn read_proofs<R: World>(
+    rt: &R,
+    folder: Folder<'_>,
+    is_under_wishes: bool,
+) -> Result<Vec<Vec<u8>>, CommandFault> {
     let mut proofs = Vec::new(rt.alloc());
     for file in [GROUPS, PRICES, TREE] {
         let path = folder.path_of(rt, file)?;
@@ -80,7 +92,10 @@ fn read_proofs<R: World>(rt: &R, folder: Folder<'_>) -> Result<Vec<Vec<u8>>, Com
             path: path.as_str(),
         };
         match input.read(rt) {
-            Ok(text) => proofs.push(text).map_err(AllocError::from)?,
+            Ok(text) => {
+                let proof = proof_in(rt.alloc(), text, is_under_wishes)?;
+                proofs.push(proof).map_err(AllocError::from)?;
+            }
             Err(CommandFault::OutOfMemory) => return Err(CommandFault::OutOfMemory),
             Err(_fault) => {}
         }
@@ -133,11 +148,12 @@ fn find_best<R: World, E: Write>(
         None => false,
     };
     if texts.table.is_some() {
-        texts.proofs = read_proofs(rt, folder)?;
+        texts.proofs = read_proofs(rt, folder, request.wishes.is_some())?;
     }
     let files = BestFiles {
         rt: &*rt,
         folder,
+        is_under_wishes: request.wishes.is_some(),
         has_table: Cell::new(is_own),
         has_proofs: Cell::new(false),
     };
