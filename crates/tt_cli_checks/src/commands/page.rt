@@ -5,6 +5,8 @@ use std::alloc::Global;
 use std::cell::{Cell, RefCell};
 use std::io::{Error, ErrorKind, Write};
 use tt_call_answers::AppFault;
+use tt_call_changed_page::{ChangedForm, ChangedPageFault, changed_page};
+use tt_call_changes::ChangesFault;
 use tt_call_names::PageNames;
 use tt_call_texts::{PageForm, page, proved_page};
 use tt_cli_arguments::{GivenWeeks, PageRequest};
@@ -22,32 +24,42 @@ use tt_text_peek::Peek;
 struct PageTexts<'a> {
     instance: &'a [u8],
     solution: &'a [u8],
+    /// The solution since which changes are shown, if there is one.
+    older: Option<&'a [u8]>,
     form: PageForm<'a>,
 }
 
-/// Writes a page to a sink, with the bound of the proofs if there are any.
+/// Writes a page to a sink, with what changed since an older solution if there is one, and with the bound of the proofs if there are any.
 fn fill_page<P: Peek, W: Sink>(
     alloc: Global,
     texts: PageTexts<'_>,
     proofs: &mut [P],
     sink: &mut W,
-) -> Result<u8, AppFault> {
+) -> Result<u8, ChangedPageFault> {
     let PageTexts {
         instance,
         solution,
+        older,
         form,
     } = texts;
-    if proofs.is_empty() {
-        page(alloc, instance, solution, form, STYLE, sink)
-    } else {
-        proved_page(alloc, instance, solution, form.names, proofs, STYLE, sink)
+    let names = form.names;
+    if let Some(older) = older {
+        let form = ChangedForm { older, names };
+        return changed_page(alloc, instance, solution, form, proofs, STYLE, sink);
     }
+    let status = if proofs.is_empty() {
+        page(alloc, instance, solution, form, STYLE, sink)?
+    } else {
+        proved_page(alloc, instance, solution, names, proofs, STYLE, sink)?
+    };
+    Ok(status)
 }
 
 /// The reason why a page isn't written.
 #[derive(Clone, Copy, Debug)]
 enum PageFault {
     Call(AppFault),
+    Changes(ChangesFault),
     Output(OutputFault),
 }
 
@@ -56,6 +68,7 @@ impl PageFault {
     fn refused(self, alloc: Global, label: Label, unread: &LastUnread<'_>) -> CommandFault {
         match self {
             PageFault::Call(fault) => fault_over(alloc, fault, unread.get()),
+            PageFault::Changes(fault) => CommandFault::Changes(fault),
             PageFault::Output(fault) => CommandFault::Write(label.with_fault(fault)),
         }
     }
@@ -76,11 +89,12 @@ fn write_page<R: World, P: Peek, F: Write, E: Write>(
             Ok(()) => Ok(status),
             Err(fault) => Err(PageFault::Output(OutputFault::from(fault))),
         },
-        Err(AppFault::CannotWrite) => {
+        Err(ChangedPageFault::Call(AppFault::CannotWrite)) => {
             let fault = written.fault().unwrap_or(Error::from(ErrorKind::WriteZero));
             Err(PageFault::Output(OutputFault::from(fault)))
         }
-        Err(fault) => Err(PageFault::Call(fault)),
+        Err(ChangedPageFault::Call(fault)) => Err(PageFault::Call(fault)),
+        Err(ChangedPageFault::Older(fault)) => Err(PageFault::Changes(ChangesFault::Older(fault))),
     }
 }
 
@@ -225,25 +239,40 @@ fn with_week(alloc: Global, fault: CommandFault, weeks: Option<GivenWeeks<'_>>) 
     }
 }
 
+/// The bytes of the files that a page is made of.
+#[derive(Debug, Drop)]
+struct PageFiles {
+    timetable: TimetableTexts,
+    older: Option<Vec<u8>>,
+}
+
 /// Reads the files of a page, and tries its output.
 fn open_page<R: World>(
     rt: &R,
     request: &PageRequest<'_>,
-) -> Result<(TimetableTexts, Prepared<R::File>), CommandFault> {
+) -> Result<(PageFiles, Prepared<R::File>), CommandFault> {
     let mut inputs = Inputs::new(rt.alloc());
     let instance = inputs.add(Input::Instance, request.instance)?;
     let solution = inputs.add(Input::Solution, request.solution)?;
+    let older = match request.older {
+        Some(older) => Some(inputs.add(Input::OlderSolution, older)?),
+        None => None,
+    };
     inputs.add_proofs(&request.proofs)?;
     let target = Target {
         role: Role::Page,
         path: request.out,
     };
     let out = target.find(rt, &inputs)?;
-    let texts = TimetableTexts {
+    let timetable = TimetableTexts {
         instance: instance.read(rt)?,
         solution: solution.read(rt)?,
     };
-    Ok((texts, out.prepare(rt)?))
+    let older = match older {
+        Some(older) => Some(older.read(rt)?),
+        None => None,
+    };
+    Ok((PageFiles { timetable, older }, out.prepare(rt)?))
 }
 
 /// Writes a page to its file, and returns the reply.
@@ -253,10 +282,11 @@ pub fn answer_page<R: World, O: Write, E: Write>(
     err: &mut E,
     request: &PageRequest<'_>,
 ) -> Result<Reply, CommandFault> {
-    let (texts, output) = open_page(rt, request)?;
+    let (files, output) = open_page(rt, request)?;
     let texts = PageTexts {
-        instance: &texts.instance,
-        solution: &texts.solution,
+        instance: &files.timetable.instance,
+        solution: &files.timetable.solution,
+        older: files.older.as_deref(),
         form: form_of(request),
     };
     let shown = RefCell::new(ticker_of(rt, err, "page", request.showing));
