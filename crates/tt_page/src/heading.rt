@@ -15,7 +15,7 @@ use tt_page_text::{PageText, Part, put, put_token};
 use tt_rules::Score;
 
 /// The text before the title.
-const BEFORE_TITLE: &str =
+pub const BEFORE_TITLE: &str =
     "<!DOCTYPE html>\n<html lang=\"en\">\n<head>\n<meta charset=\"utf-8\">\n<meta name=\"viewport\" content=\"width=device-width, initial-scale=1\">\n<meta name=\"color-scheme\" content=\"light dark\">\n<title>Timetable";
 
 /// Appends the head, with the page's style.
@@ -157,7 +157,9 @@ fn put_least_kept(out: &mut PageText, bound: u64)
     put(
         out,
         &[
-            Part::Text("<p class=\"proved\">no feasible timetable that keeps the wishes costs less than "),
+            Part::Text(
+                "<p class=\"proved\">no feasible timetable that keeps the wishes costs less than ",
+            ),
             Part::Count(bound),
             Part::Text(" (proved)</p>\n"),
         ],

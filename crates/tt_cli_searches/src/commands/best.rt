@@ -2,7 +2,6 @@
 
 use crate::best_files::{BestFiles, BestShelf, PAGE, PARTIAL, TABLE, TREE};
 use crate::best_keeper::BestKeeper;
-use crate::given::read_if_given;
 use crate::kept_reasons::FailedKept;
 use crate::proof_files::{GROUPS, PRICES};
 use crate::reasons::Failed;
@@ -17,7 +16,7 @@ use tt_cli_arguments::BestRequest;
 use tt_cli_files::Batch;
 use tt_cli_saving::{
     CommandFault, Folder, Input, InputFile, Inputs, Keeper, Prepared, Reply, Ticker, WISHES_LINE,
-    World, reply_with, ticker_of,
+    World, read_if_given, reply_with, ticker_of,
 };
 use tt_page::STYLE;
 use tt_text_peek::{FileKind, kind_of_front};

@@ -1,7 +1,6 @@
 //! The files of `improve`.
 
 use crate::dropping::drop_and_list;
-use crate::given::read_if_given;
 use crate::near::{improve_priced, prices};
 use crate::saving::kept_table;
 use std::alloc::Global;
@@ -13,7 +12,7 @@ use tt_cli_arguments::{ImproveRequest, Search};
 use tt_cli_files::{Batch, Role};
 use tt_cli_saving::{
     CommandFault, Input, Inputs, Keeper, NoShelf, Prepared, Reply, Target, Ticker, World,
-    reply_with, show_clash, ticker_of,
+    read_if_given, reply_with, show_clash, ticker_of,
 };
 use tt_watch::Watch;
 
