@@ -1,4 +1,4 @@
-use Rattle.std.proofs.Common.{◌≡◌, ℕ, ◌+◌, ◌<◌, false, length, refl, sym, subst, ◌∙◌, arith, inl, inr}
+use Rattle.std.proofs.Common.{◌≡◌, ℕ, ◌+◌, ◌<◌, true, false, length, refl, sym, subst, ◌∙◌, arith, inl, inr}
 use Rattle.std.specs.Prelude.{◌==◌}
 use Rattle.std.proofs.lemmas.Result.{err_from_is_err_and}
 use Rattle.tt_leaf.specs.declared.leaf.Bound.{Bound}
@@ -12,8 +12,17 @@ use Rattle.tt_call_answers.proofs.Sums.{silent_refusal}
 use Rattle.tt_call_changed_page.proofs.Telling.{stops_sum}
 use Rattle.tt_call_changed_page.proofs.calls.said.said_of.Goals as goal
 
+-- there are proofs
 not_empty : (n : ℕ) → (n == 0) ≡ false → 0 < n
 not_empty n e = grind (arith)
+
+-- there are none
+none_there : (n : ℕ) → (n == 0) ≡ true → 0 < n → ⊥
+none_there n e some = grind (arith)
+
+pub returns-then-is_empty-clause-only : goal.returns-then-is_empty-clause-only
+returns-then-is_empty-clause-only g c =
+    λ files b given h within some. absurd (none_there (length c.args.proofs.now) (sym c.is_empty.ensures ∙ c.if-is_empty.true) some)
 
 pub returns-then-is_empty-clause-failed_read : goal.returns-then-is_empty-clause-failed_read
 returns-then-is_empty-clause-failed_read g c = λ i r found. unread g.R.Source.has_failed c.args.proofs.now i r found
@@ -74,3 +83,6 @@ returns-clause-only g c =
     λ files b given h within some.
     subst (λ (x : Bound). IsProvedBy c.args.instance.now x c.in_ok-proved.proved) (c.in_ok-bound.ensures.only files b given h within)
     c.in_ok-proved.ensures.by
+
+pub returns-clause-failed_read : goal.returns-clause-failed_read
+returns-clause-failed_read g c = λ i r found. c.in_ok-bound.ensures.failed i r found
