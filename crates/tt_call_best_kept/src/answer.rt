@@ -84,7 +84,6 @@ fn cost_of(instance: &Instance<'_>, table: &Timetable) -> u64
 }
 
 /// Returns the answer with a timetable that breaks neither a hard rule nor a wish, its page, and proofs.
-#[tactic(auto, using(crate::proofs::Keeping::some_kept))]
 fn found_answer(
     alloc: Global,
     wishing: Wishing<'_, '_>,

@@ -10,8 +10,14 @@ use Rattle.tt_parts.specs.Found.{texts_of}
 use Rattle.tt_call_answers.specs.Lines.{best_line}
 use Rattle.tt_call_kept.specs.Kept.{HoldsOfKept, kept_line}
 use Rattle.tt_call_searches.specs.Best.{ShowsPage}
-use Rattle.tt_call_best_kept.proofs.Keeping.{holds_of_kept, sum_of_kept}
+use Rattle.tt_call_best_kept.proofs.Keeping.{holds_of_kept, some_kept, sum_of_kept}
 use Rattle.tt_call_best_kept.proofs.answer.found_answer.Goals as goal
+
+pub unreachable-requires : goal.unreachable-requires
+unreachable-requires c =
+    let w = c.args.wishing in
+    some_kept w.instance.now w.narrow.now w.wishes.now c.args.table.now c.args.parts.now.bound c.requires.narrow c.requires.parts.holds
+    c.requires.unbroken c.in_default.is
 
 pub returns : goal.returns
 returns c =
