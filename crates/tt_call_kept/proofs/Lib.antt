@@ -1,2 +1,4 @@
+pub mod Checked
 pub mod Holding
 pub mod Refused
+pub mod Summed

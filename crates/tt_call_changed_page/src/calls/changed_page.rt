@@ -1,6 +1,6 @@
 //! The call `changed_page`.
 
-ghost use Rattle.std.specs.Prelude.{◌≡◌, ◌+◌, ℕ, List, Some, true, if◌then◌else◌, length, IfOk, IfErr, slice_get, slice_index_or};
+ghost use Rattle.std.specs.Prelude.{◌≡◌, ◌+◌, ℕ, Some, true, if◌then◌else◌, length, IfOk, IfErr, slice_get, slice_index_or};
 ghost use Rattle.tt_text.specs.Failures.{is_err_and};
 ghost use Rattle.tt_proof_sum.specs.Added.{Give};
 ghost use Rattle.tt_call_changed_page.specs.ChangedPaged.{IsChangedPaged, IsChangedPageRefusal, IsBeforeProofs, IsUnwritten, is_failed_write, is_failed_read_at};

@@ -1,6 +1,6 @@
 //! What a page says is proved, if there may be no proofs.
 
-ghost use Rattle.std.specs.Prelude.{◌≡◌, ◌+◌, ◌<◌, ◌^◌, ℕ, List, Some, Err, true, if◌then◌else◌, length, IfOk, IfErr, MatchResult, slice_get, slice_index_or};
+ghost use Rattle.std.specs.Prelude.{◌≡◌, ◌+◌, ◌<◌, ◌^◌, ℕ, List, Some, true, if◌then◌else◌, length, IfOk, IfErr, MatchResult, slice_get, slice_index_or};
 ghost use Rattle.tt_leaf.specs.declared.leaf.Bound.{Bound};
 ghost use Rattle.tt_page.specs.Proofs.{IsProvedOf};
 ghost use Rattle.tt_page_reason.specs.Explained.{IsProvedBy};
@@ -43,5 +43,6 @@ pub fn said_of<R: Peek>(
         return Ok(Proved::Unproved);
     }
     let bound = sum_proofs(alloc, instance, proofs)?;
-    Ok(explain_bound(alloc, instance, bound)?)
+    let proved = explain_bound(alloc, instance, bound)?;
+    Ok(proved)
 }

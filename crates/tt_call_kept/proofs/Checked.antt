@@ -1,0 +1,66 @@
+-- The answer of `check_kept`, from the results of its steps.
+use Rattle.std.proofs.Common.{◌≡◌, ℕ, ◌+◌, ◌<◌, ◌++◌, List, length, sym, subst, ap, ◌∙◌, arith, codes, inl, inr}
+use Rattle.std.proofs.lemmas.Bool.{cases_lt}
+use Rattle.tt_instance.specs.Problem.{Problem}
+use Rattle.tt_instance.specs.declared.cell.Cell.{Cell}
+use Rattle.tt_rules.specs.Score.{IsFeasible, IsScore, cost, hard}
+use Rattle.tt_rules.specs.declared.counts.Score.{Score}
+use Rattle.tt_rules.proofs.Scores.{cost_is, feasible_is, hard_is}
+use Rattle.tt_leaf.specs.declared.leaf.Bound.TheVariants.{AtLeast}
+use Rattle.tt_proof_check.specs.Derives.{HoldsOfAll}
+use Rattle.tt_proof_sum.specs.Sums.{IsSum}
+use Rattle.tt_wishes.specs.Wishes.{broken_wishes}
+use Rattle.tt_wishes.specs.declared.wish.Wish.{Wish}
+use Rattle.tt_wishes_narrow.specs.Narrowed.{narrowed}
+use Rattle.tt_call_answers.specs.Lines.{yes_line, broken_line, count_line}
+use Rattle.tt_call_answers.specs.declared.answer.Answer.{Answer}
+use Rattle.tt_call_kept.specs.Kept.{IsBrokenKept, IsTextAnswer, IsYesKept, SpellsAll, kept_line}
+use Rattle.tt_call_kept.specs.declared.files.KeptFiles.{KeptFiles}
+use Rattle.tt_call_kept.proofs.Holding.{holds_of_kept}
+
+abbrev pub broken_by : Score → ℕ
+broken_by s = s.lectures + s.conflicts + s.availability + s.room_occupancy
+
+abbrev pub costs_of : Score → ℕ
+costs_of s = s.room_capacity + s.min_working_days + s.compactness + s.room_stability
+
+module _ (f : KeptFiles) (s : List ℕ) (p : Problem) (t : List Cell) (ws : List Wish) (spelled : SpellsAll f s p t ws) (score : Score)
+  (is : IsScore p t score) where
+  -- a hard rule or a wish is broken
+  pub broken_kept : (broken : ℕ) (a : Answer) → broken ≡ broken_wishes t ws → 0 < broken_by score + broken
+      → IsTextAnswer (broken_line (broken_by score) (costs_of score) ++ count_line (codes "wishes") broken) 1 a → IsBrokenKept f s a
+  broken_kept broken a count some answer = record {
+    problem = p;
+    table = t;
+    listed = ws;
+    spelled = spelled;
+    some = omega (arith, some, count, hard_is p t score is);
+    answer = subst (λ (n : ℕ). IsTextAnswer (broken_line (hard p t) (cost p t) ++ count_line (codes "wishes") n) 1 a) count
+        (subst (λ (n : ℕ). IsTextAnswer (broken_line n (cost p t) ++ count_line (codes "wishes") broken) 1 a) (hard_is p t score is)
+        (subst (λ (n : ℕ). IsTextAnswer (broken_line (broken_by score) n ++ count_line (codes "wishes") broken) 1 a) (cost_is p t score is)
+        answer));
+  }
+
+  -- neither is
+  pub feasible_kept : broken_by score ≡ 0 → IsFeasible p t
+  feasible_kept none = (feasible_is p t score spelled.both.solved.in_range is).0 none
+
+  pub unbroken : IsFeasible p t → broken_by score ≡ 0
+  unbroken ok = (feasible_is p t score spelled.both.solved.in_range is).1 ok
+
+  pub yes_kept : (gives : List (List ℕ) → Type 0) (narrow : Problem) (b n c : ℕ) (a : Answer) → narrow ≡ narrowed p ws → IsFeasible p t
+      → broken_wishes t ws ≡ 0 → n ≡ length ws → c ≡ costs_of score → ((proofs : List (List ℕ)) → gives proofs → IsSum narrow proofs (AtLeast b))
+      → HoldsOfAll narrow (AtLeast b) → IsTextAnswer (yes_line c b ++ kept_line n) 0 a → IsYesKept f s gives a
+  yes_kept gives narrow b n c a same ok none count costs sum holds answer = record {
+    problem = p;
+    table = t;
+    listed = ws;
+    spelled = spelled;
+    feasible = ok;
+    kept = none;
+    bound = b;
+    sum = λ proofs given. subst (λ (q : Problem). IsSum q proofs (AtLeast b)) same (sum proofs given);
+    holds = holds_of_kept p ws (AtLeast b) (subst (λ (q : Problem). HoldsOfAll q (AtLeast b)) same holds);
+    answer = subst (λ (k : ℕ). IsTextAnswer (yes_line (cost p t) b ++ kept_line k) 0 a) count
+        (subst (λ (k : ℕ). IsTextAnswer (yes_line k b ++ kept_line n) 0 a) (costs ∙ cost_is p t score is) answer);
+  }

@@ -1,0 +1,28 @@
+use Rattle.std.proofs.Common.{refl}
+use Rattle.std.proofs.lemmas.Result.{err_from_is_err_and}
+use Rattle.tt_call_kept.proofs.Refused.{tells_instance, tells_wishes, only_memory}
+use Rattle.tt_call_kept.proofs.files.read_narrowed.Goals as goal
+
+pub returns-in_err-instance-clause-fault : goal.returns-in_err-instance-clause-fault
+returns-in_err-instance-clause-fault c =
+    let e = err_from_is_err_and c.from_residual.result c.from_residual.ensures.1 in
+    rw (e.1, e.2) (tells_instance c.args.files c.in_err-instance.field-0.0 c.in_err-instance.ensures.exact)
+
+pub returns-in_err-instance-clause-only : goal.returns-in_err-instance-clause-only
+returns-in_err-instance-clause-only c =
+    let e = err_from_is_err_and c.from_residual.result c.from_residual.ensures.1 in
+    λ p ws spelled. rw (e.1, e.2)
+    (only_memory c.args.files p ws _ spelled (tells_instance c.args.files c.in_err-instance.field-0.0 c.in_err-instance.ensures.exact))
+
+pub returns-in_err-wishes-clause-fault : goal.returns-in_err-wishes-clause-fault
+returns-in_err-wishes-clause-fault c =
+    let e = err_from_is_err_and c.from_residual-in_err-wishes.result c.from_residual-in_err-wishes.ensures.1 in
+    rw (e.1, e.2) (tells_wishes c.args.files c.in_ok-instance.instance c.in_err-wishes.field-0.0 c.in_ok-instance.ensures.found
+    c.in_err-wishes.ensures.exact)
+
+pub returns-in_err-wishes-clause-only : goal.returns-in_err-wishes-clause-only
+returns-in_err-wishes-clause-only c =
+    let e = err_from_is_err_and c.from_residual-in_err-wishes.result c.from_residual-in_err-wishes.ensures.1 in
+    λ p ws spelled. rw (e.1, e.2)
+    (only_memory c.args.files p ws _ spelled (tells_wishes c.args.files c.in_ok-instance.instance c.in_err-wishes.field-0.0
+    c.in_ok-instance.ensures.found c.in_err-wishes.ensures.exact))
