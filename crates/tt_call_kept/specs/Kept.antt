@@ -17,7 +17,7 @@ use Rattle.tt_wishes.specs.declared.wish.Wish.{Wish}
 use Rattle.tt_wishes_narrow.specs.Narrowed.{narrowed}
 use Rattle.tt_leaf.specs.declared.leaf.Bound.{Bound}
 use Rattle.tt_leaf.specs.declared.leaf.Bound.TheVariants.{AtLeast}
-use Rattle.tt_proof_check.specs.Derives.{Respects}
+use Rattle.tt_leaf_rules.specs.Bounds.{Respects}
 use Rattle.tt_proof_check.specs.Verdicts.{FailsSolution}
 use Rattle.tt_proof_sum.specs.Faults.{IsSumStop}
 use Rattle.tt_proof_sum.specs.Sums.{IsSum}
