@@ -1,5 +1,5 @@
 -- What a refusal of `best_kept` says about what is given.
-use Rattle.std.proofs.Common.{◌≡◌, ℕ, List, Option, Some, None}
+use Rattle.std.proofs.Common.{ℕ, List, Option, Some, None}
 use Rattle.tt_text.specs.Reading.{FailsUnless}
 use Rattle.tt_instance.specs.Problem.{Problem}
 use Rattle.tt_instance.specs.Spelling.{Spells}
@@ -20,8 +20,7 @@ use Rattle.tt_call_answers.specs.FaultMaps.{fault_from_instance, fault_from_labe
 use Rattle.tt_call_answers.specs.declared.fault.AppFault.TheVariants as app
 use Rattle.tt_call_names.specs.Names.{labels_for}
 use Rattle.tt_call_names.specs.declared.names.PageNames.{PageNames}
-use Rattle.tt_call_searches.specs.Given.{FailsGiven, IsGiven}
-use Rattle.tt_call_searches.proofs.GivenNames.{given_spelled}
+use Rattle.tt_call_searches.specs.Given.{FailsGiven, IsGiven, SpellsGiven}
 use Rattle.tt_call_kept.specs.Kept.{IsFileRefusal, SpellsKept, fault_from_wishes}
 use Rattle.tt_call_kept.specs.declared.fault.KeptFault.{KeptFault}
 use Rattle.tt_call_kept.specs.declared.fault.KeptFault.TheVariants as fault
@@ -70,6 +69,13 @@ pub tells_start : (f : KeptFiles) (given : Option (List ℕ)) (names : PageNames
 tells_start f given names p ws (fault.Call (app.Solution e)) spelled h = record { problem = p; listed = ws; spelled = spelled; fails = h }
 tells_start f given names p ws (fault.Call app.OutOfMemory) spelled h = tt
 tells_start f given names p ws e spelled h = absurd h
+
+-- a timetable that was read is spelled by the given solution
+given_spelled : (p : Problem) (given : Option (List ℕ)) (table : Option (List Cell)) → IsGiven p given table → SpellsGiven p given
+given_spelled p None None h = tt
+given_spelled p None (Some t) h = absurd h
+given_spelled p (Some s) None h = absurd h
+given_spelled p (Some s) (Some t) h = (t, h)
 
 -- an error of the names is reported
 pub tells_names : (f : KeptFiles) (given : Option (List ℕ)) (names : PageNames) (p : Problem) (ws : List Wish) (table : Option (List Cell))

@@ -2,6 +2,7 @@
 
 ghost use Rattle.std.specs.Prelude.{◌≡◌, ◌↔◌, ◌++◌, length, IfOk, IsTrue, OnOk};
 ghost use Rattle.tt_table.specs.Table.{IsTimetable};
+ghost use Rattle.tt_rules.specs.Score.{cost};
 ghost use Rattle.tt_page.specs.Pages.{page_text};
 ghost use Rattle.tt_page.specs.Proofs.{kept_of};
 ghost use Rattle.tt_parts.specs.Found.{AreFound};
@@ -74,8 +75,15 @@ fn breaks_nothing(wishing: Wishing<'_, '_>, table: &Timetable) -> bool
     score(wishing.instance, table).feasible() && broken_wishes(table, wishing.wishes) == 0
 }
 
+/// Returns the cost of a timetable.
+fn cost_of(instance: &Instance<'_>, table: &Timetable) -> u64
+    requires { IsTimetable instance.now table.now }
+    ensures { result ≡ cost instance.now table.now }
+{
+    score(instance, table).cost()
+}
+
 /// Returns the answer with a timetable that breaks neither a hard rule nor a wish, its page, and proofs.
-#[tactic(auto, using(crate::proofs::Keeping::some_kept))]
 fn found_answer(
     alloc: Global,
     wishing: Wishing<'_, '_>,
@@ -91,7 +99,7 @@ fn found_answer(
     let Bound::AtLeast(points) = parts.bound else {
         unreachable!();
     };
-    let cost = score(wishing.instance, table).cost();
+    let cost = cost_of(wishing.instance, table);
     Ok(BestAnswer {
         status: 0,
         out: found_text(alloc, cost, points, wishing.wishes)?,

@@ -2,7 +2,6 @@
 use Rattle.std.proofs.Common.{List}
 use Rattle.tt_instance.specs.Problem.{Problem}
 use Rattle.tt_leaf.specs.declared.leaf.Bound.{Bound}
-use Rattle.tt_leaf.specs.declared.leaf.Bound.TheVariants.{AtLeast, Nothing}
 use Rattle.tt_proof_check.specs.Derives.{HoldsOfAll}
 use Rattle.tt_wishes.specs.declared.wish.Wish.{Wish}
 use Rattle.tt_wishes_narrow.specs.Narrowed.{narrowed}
@@ -10,5 +9,4 @@ use Rattle.tt_wishes_narrow.proofs.Keeping.{stays_feasible}
 use Rattle.tt_call_kept.specs.Kept.{HoldsOfKept}
 
 pub holds_of_kept : (p : Problem) (ws : List Wish) (b : Bound) → HoldsOfAll (narrowed p ws) b → HoldsOfKept p ws b
-holds_of_kept p ws (AtLeast b) holds = λ t ok none. holds t (stays_feasible p t ws ok none)
-holds_of_kept p ws Nothing holds = λ t ok none. holds t (stays_feasible p t ws ok none)
+holds_of_kept p ws b holds = λ t ok none. holds t (stays_feasible p t ws ok none)

@@ -1,5 +1,5 @@
 -- The answers of `sum --wishes` and `check --wishes`: bounds of the timetables that keep wishes.
-use Rattle.std.specs.Prelude.{◌≡◌, ℕ, ◌+◌, ◌<◌, ◌≤◌, ◌++◌, ◌⊎◌, List, length, None, Result, Ok, Err, codes, ⊤}
+use Rattle.std.specs.Prelude.{◌≡◌, ℕ, ◌+◌, ◌<◌, ◌++◌, ◌⊎◌, List, length, None, Result, Ok, Err, codes, ⊤}
 use Rattle.tt_stop.specs.declared.stop.Stop.{Stop}
 use Rattle.tt_stop.specs.declared.stop.Stop.TheVariants.{Fault, ReadFailed}
 use Rattle.tt_instance.specs.Problem.{Problem}
@@ -16,7 +16,8 @@ use Rattle.tt_wishes.specs.declared.fault.WishesFault.TheVariants as wishes
 use Rattle.tt_wishes.specs.declared.wish.Wish.{Wish}
 use Rattle.tt_wishes_narrow.specs.Narrowed.{narrowed}
 use Rattle.tt_leaf.specs.declared.leaf.Bound.{Bound}
-use Rattle.tt_leaf.specs.declared.leaf.Bound.TheVariants.{AtLeast, Nothing}
+use Rattle.tt_leaf.specs.declared.leaf.Bound.TheVariants.{AtLeast}
+use Rattle.tt_leaf_rules.specs.Bounds.{Respects}
 use Rattle.tt_proof_check.specs.Verdicts.{FailsSolution}
 use Rattle.tt_proof_sum.specs.Faults.{IsSumStop}
 use Rattle.tt_proof_sum.specs.Sums.{IsSum}
@@ -34,8 +35,7 @@ use Rattle.tt_call_kept.specs.declared.files.KeptFiles.{KeptFiles}
 
 -- Each timetable that breaks neither a hard rule nor a wish costs at least the bound; if the bound is `none`, there is no such timetable.
 abbrev pub HoldsOfKept : Problem → List Wish → Bound → Type 0
-HoldsOfKept p ws (AtLeast b) = (t : List Cell) → IsFeasible p t → broken_wishes t ws ≡ 0 → b ≤ cost p t
-HoldsOfKept p ws Nothing = (t : List Cell) → IsFeasible p t → broken_wishes t ws ≡ 0 → ⊥
+HoldsOfKept p ws b = (t : List Cell) → IsFeasible p t → broken_wishes t ws ≡ 0 → Respects b (cost p t)
 
 -- The bytes spell an instance and its wishes.
 pub record SpellsKept (f : KeptFiles) (p : Problem) (ws : List Wish) : Type 0 where
