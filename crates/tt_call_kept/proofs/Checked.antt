@@ -1,6 +1,5 @@
 -- The answer of `check_kept`, from the results of its steps.
-use Rattle.std.proofs.Common.{◌≡◌, ℕ, ◌+◌, ◌<◌, ◌++◌, List, length, sym, subst, ap, ◌∙◌, arith, codes, inl, inr}
-use Rattle.std.proofs.lemmas.Bool.{cases_lt}
+use Rattle.std.proofs.Common.{◌≡◌, ℕ, ◌+◌, ◌<◌, ◌++◌, List, length, refl, subst, ap, ◌∙◌, arith, codes}
 use Rattle.tt_instance.specs.Problem.{Problem}
 use Rattle.tt_instance.specs.declared.cell.Cell.{Cell}
 use Rattle.tt_rules.specs.Score.{IsFeasible, IsScore, cost, hard}
@@ -16,13 +15,29 @@ use Rattle.tt_call_answers.specs.Lines.{yes_line, broken_line, count_line}
 use Rattle.tt_call_answers.specs.declared.answer.Answer.{Answer}
 use Rattle.tt_call_kept.specs.Kept.{IsBrokenKept, IsTextAnswer, IsYesKept, SpellsAll, kept_line}
 use Rattle.tt_call_kept.specs.declared.files.KeptFiles.{KeptFiles}
+use Rattle.tt_table.specs.Spelling.{SpellsTable}
+use Rattle.tt_proof_check.proofs.Files.{one_table}
 use Rattle.tt_call_kept.proofs.Holding.{holds_of_kept}
+use Rattle.tt_call_kept.proofs.Summed.{spelled_kept_once}
 
 abbrev pub broken_by : Score → ℕ
 broken_by s = s.lectures + s.conflicts + s.availability + s.room_occupancy
 
 abbrev pub costs_of : Score → ℕ
 costs_of s = s.room_capacity + s.min_working_days + s.compactness + s.room_stability
+
+-- the bytes spell one instance, one timetable and one list of wishes
+pub record AreSame (p q : Problem) (t u : List Cell) (us ws : List Wish) : Type 0 where
+  pub problem : p ≡ q
+  pub table : t ≡ u
+  pub listed : us ≡ ws
+
+pub one_of_all : (f : KeptFiles) (s : List ℕ) (p q : Problem) (t u : List Cell) (us ws : List Wish) → SpellsAll f s p t us
+    → SpellsAll f s q u ws → AreSame p q t u us ws
+one_of_all f s p q t u us ws a b =
+    let e = spelled_kept_once f p q us ws a.kept b.kept in
+    let there : SpellsTable q s t = subst (λ (r : Problem). SpellsTable r s t) e.0 a.both.solved in
+    record { problem = e.0; table = one_table s f.instance.now q t u b.both.spelled there b.both.solved; listed = e.1 }
 
 module _ (f : KeptFiles) (s : List ℕ) (p : Problem) (t : List Cell) (ws : List Wish) (spelled : SpellsAll f s p t ws) (score : Score)
   (is : IsScore p t score) where
@@ -64,3 +79,27 @@ module _ (f : KeptFiles) (s : List ℕ) (p : Problem) (t : List Cell) (ws : List
     answer = subst (λ (k : ℕ). IsTextAnswer (yes_line (cost p t) b ++ kept_line k) 0 a) count
         (subst (λ (k : ℕ). IsTextAnswer (yes_line k b ++ kept_line n) 0 a) (costs ∙ cost_is p t score is) answer);
   }
+
+  -- then no timetable that the bytes spell breaks nothing
+  pub not_broken : (q : Problem) (u : List Cell) (vs : List Wish) (broken : ℕ) → broken ≡ broken_wishes t ws → 0 < broken_by score + broken
+      → SpellsAll f s q u vs → IsFeasible q u → broken_wishes u vs ≡ 0 → ⊥
+  not_broken q u vs broken count some all ok none =
+      let e = one_of_all f s p q t u ws vs spelled all in
+      let here : IsFeasible p t × (broken_wishes t ws ≡ 0) = rw (e.problem, e.table, e.listed) (ok, none) in
+      omega (arith, some, count, here.1, unbroken here.0)
+
+  -- the cost, the instance that the wishes narrow, and their number, for what the bytes spell
+  pub record Spelled (narrow : Problem) (n c : ℕ) (q : Problem) (u : List Cell) (vs : List Wish) : Type 0 where
+    pub narrowed_is : narrow ≡ narrowed q vs
+    pub count : n ≡ length vs
+    pub costs : c ≡ cost q u
+
+  pub spelled_are : (narrow : Problem) (n c : ℕ) (q : Problem) (u : List Cell) (vs : List Wish) → narrow ≡ narrowed p ws → n ≡ length ws
+      → c ≡ costs_of score → SpellsAll f s q u vs → Spelled narrow n c q u vs
+  spelled_are narrow n c q u vs same count costs all =
+      let e = one_of_all f s p q t u ws vs spelled all in
+      record {
+        narrowed_is = same ∙ rw (e.problem, e.listed) refl;
+        count = count ∙ ap length e.listed;
+        costs = costs ∙ cost_is p t score is ∙ rw (e.problem, e.table) refl;
+      }

@@ -1,11 +1,14 @@
 -- What a refusal says about the files.
-use Rattle.std.proofs.Common.{◌≡◌, ℕ, List, Err, refl, subst}
+use Rattle.std.proofs.Common.{◌≡◌, ℕ, List, Err, refl, ap, subst, inl}
 use Rattle.tt_instance.specs.Problem.{Problem}
 use Rattle.tt_instance.specs.Spelling.{Spells}
 use Rattle.tt_instance_read.specs.Reading.{instance_of, Fails}
 use Rattle.tt_instance_read.specs.declared.fault.InstanceFault.{InstanceFault}
 use Rattle.tt_instance_read.specs.declared.fault.InstanceFault.TheVariants as instance
 use Rattle.tt_instance_read.proofs.Laws.{is_read, spelled_instance, spelled_once}
+use Rattle.tt_instance.specs.declared.cell.Cell.{Cell}
+use Rattle.tt_table.specs.Reading.{solution_of, Fails as FailsTable}
+use Rattle.tt_table.specs.declared.fault.SolutionFault.{SolutionFault}
 use Rattle.tt_stop.specs.declared.stop.Stop.{Stop}
 use Rattle.tt_stop.specs.declared.stop.Stop.TheVariants.{Fault, ReadFailed, OutOfMemory}
 use Rattle.tt_wishes.specs.Reading.{wishes_of, Fails as FailsWishesText}
@@ -18,9 +21,10 @@ use Rattle.tt_wishes_narrow.specs.Narrowed.{narrowed}
 use Rattle.tt_proof_sum.specs.Faults.{IsSumStop}
 use Rattle.tt_proof_sum.specs.declared.fault.FileFault.{FileFault}
 use Rattle.tt_proof_sum.specs.declared.fault.SumStop.{SumStop}
-use Rattle.tt_call_answers.specs.FaultMaps.{fault_at_file, fault_from_instance, fault_from_sum}
+use Rattle.tt_call_answers.specs.FaultMaps.{fault_at_file, fault_from_instance, fault_from_solution, fault_from_sum}
+use Rattle.tt_call_answers.proofs.Files as files
 use Rattle.tt_call_answers.specs.declared.fault.AppFault.TheVariants as app
-use Rattle.tt_call_kept.specs.Kept.{IsFileRefusal, IsSumRefusal, SpellsKept, fault_from_wishes, out_of_memory}
+use Rattle.tt_call_kept.specs.Kept.{AnswersYes, IsCheckRefusal, IsFileRefusal, IsSumRefusal, SpellsAll, SpellsKept, fault_from_wishes, out_of_memory}
 use Rattle.tt_call_kept.specs.declared.fault.KeptFault.{KeptFault}
 use Rattle.tt_call_kept.specs.declared.fault.KeptFault.TheVariants as fault
 use Rattle.tt_call_kept.specs.declared.files.KeptFiles.{KeptFiles}
@@ -65,3 +69,30 @@ tells_sum f p ws gives s spelled h = on s.file s.stop h
     on n (Fault e) h = record { problem = p; listed = ws; spelled = spelled; fails = h }
     on n ReadFailed h = record { problem = p; listed = ws; spelled = spelled; fails = h }
     on n OutOfMemory h = tt
+
+-- an error of a sum is the first one, whatever the solution is
+pub before_solution : (f : KeptFiles) (s : List ℕ) (gives : List (List ℕ) → Type 0) (e : KeptFault) → IsSumRefusal f gives e
+    → IsCheckRefusal f s gives e
+before_solution f s gives (fault.Call (app.Solution x)) h = absurd h
+before_solution f s gives e h = h
+
+-- being out of memory says nothing about the bytes
+pub memory_silent : (e : KeptFault) (c b n : ℕ) → e ≡ out_of_memory → AnswersYes (Err e) c b n
+memory_silent e c b n is = rw is (inl refl)
+
+module _ (f : KeptFiles) (s : List ℕ) (p : Problem) (t : List Cell) (ws : List Wish) (spelled : SpellsAll f s p t ws) (c b n : ℕ) where
+  -- if all files are spelled, an error of one of them is being out of memory
+  pub instance_silent : (e : InstanceFault) → Fails e (instance_of f.instance.now) → AnswersYes (Err (fault.Call (fault_from_instance e))) c b n
+  instance_silent e h = memory_silent (fault.Call (fault_from_instance e)) c b n
+      (only_memory f p ws (fault.Call (fault_from_instance e)) spelled.kept (tells_instance f e h))
+
+  pub wishes_silent : (q : Problem) (e : WishesFault) → Spells f.instance.now q → FailsWishesText e (wishes_of q f.wishes.now)
+      → AnswersYes (Err (fault_from_wishes e)) c b n
+  wishes_silent q e found h =
+      memory_silent (fault_from_wishes e) c b n (only_memory f p ws (fault_from_wishes e) spelled.kept (tells_wishes f q e found h))
+
+  pub solution_silent : (q : Problem) (e : SolutionFault) → Spells f.instance.now q → FailsTable e (solution_of q s)
+      → AnswersYes (Err (fault.Call (fault_from_solution e))) c b n
+  solution_silent q e found h = memory_silent (fault.Call (fault_from_solution e)) c b n
+      (ap fault.Call (files.only_memory f.instance.now s p t (fault_from_solution e) spelled.both
+      (files.tells_solution f.instance.now s q e found h)))
