@@ -1,5 +1,5 @@
 -- The answer of `check_kept`, from the results of its steps.
-use Rattle.std.proofs.Common.{◌≡◌, ℕ, ◌+◌, ◌<◌, ◌++◌, List, length, refl, subst, ap, ◌∙◌, arith, codes}
+use Rattle.std.proofs.Common.{◌≡◌, ℕ, zero, suc, ◌+◌, ◌<◌, ◌++◌, List, length, refl, subst, ap, ◌∙◌, arith, codes}
 use Rattle.tt_instance.specs.Problem.{Problem}
 use Rattle.tt_instance.specs.declared.cell.Cell.{Cell}
 use Rattle.tt_rules.specs.Score.{IsFeasible, IsScore, cost, hard}
@@ -26,6 +26,10 @@ broken_by s = s.lectures + s.conflicts + s.availability + s.room_occupancy
 abbrev pub costs_of : Score → ℕ
 costs_of s = s.room_capacity + s.min_working_days + s.compactness + s.room_stability
 
+pub some_points : (h k : ℕ) → (h ≡ 0 → ⊥) → 0 < h + k
+some_points zero k f = absurd (f refl)
+some_points (suc h) k f = omega arith
+
 -- the bytes spell one instance, one timetable and one list of wishes
 pub record AreSame (p q : Problem) (t u : List Cell) (us ws : List Wish) : Type 0 where
   pub problem : p ≡ q
@@ -40,7 +44,7 @@ one_of_all f s p q t u us ws a b =
     record { problem = e.0; table = one_table s f.instance.now q t u b.both.spelled there b.both.solved; listed = e.1 }
 
 module _ (f : KeptFiles) (s : List ℕ) (p : Problem) (t : List Cell) (ws : List Wish) (spelled : SpellsAll f s p t ws) (score : Score)
-  (is : IsScore p t score) where
+    (is : IsScore p t score) where
   -- a hard rule or a wish is broken
   pub broken_kept : (broken : ℕ) (a : Answer) → broken ≡ broken_wishes t ws → 0 < broken_by score + broken
       → IsTextAnswer (broken_line (broken_by score) (costs_of score) ++ count_line (codes "wishes") broken) 1 a → IsBrokenKept f s a

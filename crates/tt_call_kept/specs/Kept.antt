@@ -25,7 +25,6 @@ use Rattle.tt_proof_sum.specs.declared.fault.FileFault.{FileFault}
 use Rattle.tt_call_answers.specs.Lines.{yes_line, broken_line, bound_line, count_line}
 use Rattle.tt_call_answers.specs.Refusals.{IsSilentRefusal}
 use Rattle.tt_call_answers.specs.declared.answer.Answer.{Answer}
-use Rattle.tt_call_answers.specs.declared.fault.AppFault.{AppFault}
 use Rattle.tt_call_answers.specs.declared.fault.AppFault.TheVariants as app
 use Rattle.tt_call_kept.specs.declared.fault.KeptFault.{KeptFault}
 use Rattle.tt_call_kept.specs.declared.fault.KeptFault.TheVariants as fault

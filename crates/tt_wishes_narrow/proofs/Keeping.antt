@@ -89,13 +89,13 @@ module _ (p : Problem) (t : List Cell) (ok : IsFeasible p t) where
     not_left_out : (e : Cell) → Contains t e → is_left_out p ws e.course (slot_of e) ≡ true → ⊥
     not_left_out e m out = elim (or_cases (are_all_held p ws e.course && not (is_held_at ws e.course (slot_of e)))
         (list_all (λ r. is_ruled_out p ws (cell e.course r (slot_of e))) (all_rooms p)) out) [
-      | inl elsewhere ↦ not_elsewhere p t ok ws none e m elsewhere
-      | inr roomless ↦
-          let here : is_ruled_out p ws e ≡ true =
-          at_below (λ r. is_ruled_out p ws (cell e.course r (slot_of e))) (length p.rooms) e.room roomless (in_range p t ok e m).room in
-          let w = member_from_any (rules_out p e) ws here in
-          not_ruled_out w.0 e m (is_kept_in p t ok ws w.0 none w.1) w.2
-    ]
+          | inl elsewhere ↦ not_elsewhere p t ok ws none e m elsewhere
+          | inr roomless ↦
+              let here : is_ruled_out p ws e ≡ true =
+              at_below (λ r. is_ruled_out p ws (cell e.course r (slot_of e))) (length p.rooms) e.room roomless (in_range p t ok e m).room in
+              let w = member_from_any (rules_out p e) ws here in
+              not_ruled_out w.0 e m (is_kept_in p t ok ws w.0 none w.1) w.2
+        ]
 
     -- nothing that is left out is an entry's period
     not_new : (e : Cell) → Contains t e

@@ -49,4 +49,3 @@ pub record IsRuling (p : Problem) (ws : List Wish) (r : Ruling) : Type 0 where
 -- The marks say which rooms are closed in the period.
 abbrev pub AreClosed : Problem → List Wish → Slot → List Bool → Type 0
 AreClosed p ws s marks = (r : ℕ) → r < length p.rooms → slice_index_or marks r false ≡ list_any (closes r s) ws
-

@@ -44,7 +44,7 @@ returns-else-is_held_off c =
     sym c.unavailable.ensures ∙ c.if-not-unavailable.true in
     let held = ap (λ (b : Bool). b && not (is_held_at ws c.args.course c.args.slot)) (c.requires.ruling.held c.args.course c.requires.course) in
     elim c.if-is_held_elsewhere.branch [
-      | then-is_held_elsewhere w ↦ 
+      | then-is_held_elsewhere w ↦
           let no : true ≡ false =
           w.if-is_held_elsewhere.ensures ∙ sym c.is_held_elsewhere.ensures ∙ sym w.value-is ∙ c.if-is_held_off.false in absurd cc
       | else-is_held_elsewhere w ↦
