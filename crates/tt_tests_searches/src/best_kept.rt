@@ -40,7 +40,7 @@ fn all_wishes_are_kept(rt: HostRuntime) -> Result<(), Fail> {
     let mut watch = Counting::new(rt.alloc(), PATIENT);
     let wishes = "hold a A 0 0\nroom b B\nclosed B 0 *\n";
     let answer = best_of(rt.alloc(), WEEK, None, wishes, &mut watch)?;
-    assert!(rt; answer.out.as_slice() == b"cost 0 bound 0 optimal\nwishes 3\n".as_slice());
+    assert!(rt; answer.out.as_slice() == b"cost 0 bound 0 optimal\nkept 3\n".as_slice());
     assert_eq!(rt; answer.status, 0);
     assert!(rt; answer.table.is_some() && answer.partial.is_none());
     Ok(())
@@ -50,7 +50,7 @@ fn all_wishes_are_kept(rt: HostRuntime) -> Result<(), Fail> {
 fn wishes_that_cannot_be_kept(rt: HostRuntime) -> Result<(), Fail> {
     let mut watch = Counting::new(rt.alloc(), PATIENT);
     let answer = best_of(rt.alloc(), WEEK, None, "closed * 0 *\nclosed * 1 *", &mut watch)?;
-    assert!(rt; answer.out.as_slice() == b"cost none bound none\nwishes 2\n".as_slice());
+    assert!(rt; answer.out.as_slice() == b"cost none bound none\nkept 2\n".as_slice());
     assert_eq!(rt; answer.status, 1);
     assert!(rt; answer.table.is_none() && answer.partial.is_some());
     Ok(())
@@ -62,7 +62,7 @@ fn a_start_that_keeps_the_wishes(rt: HostRuntime) -> Result<(), Fail> {
     let start = Some(MINI_SOLUTION.as_bytes());
     let wishes = "hold b * 0 2\nhold a * 0 0";
     let answer = best_of(rt.alloc(), MINI, start, wishes, &mut watch)?;
-    assert!(rt; answer.out.as_slice() == b"cost 5 bound 0\nwishes 2\n".as_slice());
+    assert!(rt; answer.out.as_slice() == b"cost 5 bound 0\nkept 2\n".as_slice());
     assert!(rt; answer.table.as_deref() == start);
     Ok(())
 }
