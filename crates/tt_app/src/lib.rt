@@ -2,7 +2,6 @@
 #![tactic(auto)]
 
 pub use tt_call_answers::{Answer, AppFault};
-pub use tt_call_best_kept::best_kept;
 pub use tt_call_changed_page::{ChangedForm, ChangedPageFault, changed_page};
 pub use tt_call_changes::{ChangesFault, changes};
 pub use tt_call_checks::{bound, check, check_sum, sum, upgrade, validate};

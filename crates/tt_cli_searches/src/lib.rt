@@ -5,7 +5,6 @@ mod best_files;
 mod best_keeper;
 mod commands;
 mod dropping;
-mod kept_reasons;
 mod near;
 mod partial;
 mod proof_files;

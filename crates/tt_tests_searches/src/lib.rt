@@ -4,8 +4,6 @@
 #[cfg(test)]
 mod best;
 #[cfg(test)]
-mod best_kept;
-#[cfg(test)]
 mod counting;
 #[cfg(test)]
 mod ended;

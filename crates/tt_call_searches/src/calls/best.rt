@@ -145,7 +145,7 @@ impl<'w, W: WatchBest> WatchRounds for Answering<'w, W> {
 }
 
 /// Returns the line of a timetable that was found.
-pub fn found_line(alloc: Global, cost: u64, bound: u64) -> Result<Vec<u8>, AllocError>
+fn found_line(alloc: Global, cost: u64, bound: u64) -> Result<Vec<u8>, AllocError>
     ensures { IfOk result (λ out. out.items ≡ best_line cost bound) }
 {
     let mut out = Vec::new(alloc);
@@ -161,7 +161,7 @@ pub fn found_line(alloc: Global, cost: u64, bound: u64) -> Result<Vec<u8>, Alloc
 }
 
 /// Returns the line of a bound if no timetable was found.
-pub fn missing_line(alloc: Global, bound: Bound) -> Result<Vec<u8>, AllocError>
+fn missing_line(alloc: Global, bound: Bound) -> Result<Vec<u8>, AllocError>
     ensures { IfOk result (λ out. out.items ≡ none_line bound) }
 {
     let mut out = Vec::new(alloc);
@@ -172,7 +172,7 @@ pub fn missing_line(alloc: Global, bound: Bound) -> Result<Vec<u8>, AllocError>
 }
 
 /// Returns the page of a timetable with what is proved, unless it is too large.
-pub fn page_of(
+fn page_of(
     alloc: Global,
     instance: &Instance<'_>,
     table: &Timetable,

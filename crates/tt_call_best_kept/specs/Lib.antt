@@ -1,2 +1,0 @@
-pub mod BestKept
-pub mod Inner
