@@ -1,5 +1,5 @@
 -- The answer of `check_kept`, from the results of its steps.
-use Rattle.std.proofs.Common.{◌≡◌, ℕ, ◌+◌, ◌<◌, ◌++◌, List, length, refl, subst, ap, ◌∙◌, arith, codes}
+use Rattle.std.proofs.Common.{◌≡◌, ℕ, zero, suc, ◌+◌, ◌<◌, ◌++◌, List, length, refl, subst, ap, ◌∙◌, arith, codes}
 use Rattle.tt_instance.specs.Problem.{Problem}
 use Rattle.tt_instance.specs.declared.cell.Cell.{Cell}
 use Rattle.tt_rules.specs.Score.{IsFeasible, IsScore, cost, hard}
@@ -25,6 +25,10 @@ broken_by s = s.lectures + s.conflicts + s.availability + s.room_occupancy
 
 abbrev pub costs_of : Score → ℕ
 costs_of s = s.room_capacity + s.min_working_days + s.compactness + s.room_stability
+
+pub some_points : (h k : ℕ) → (h ≡ 0 → ⊥) → 0 < h + k
+some_points zero k f = absurd (f refl)
+some_points (suc h) k f = omega arith
 
 -- the bytes spell one instance, one timetable and one list of wishes
 pub record AreSame (p q : Problem) (t u : List Cell) (us ws : List Wish) : Type 0 where
