@@ -2,7 +2,7 @@ use Rattle.std.proofs.Common.{◌≡◌, ℕ, ◌+◌, ◌<◌, ◌++◌, length
 use Rattle.std.proofs.lemmas.Result.{err_from_is_err_and}
 use Rattle.tt_instance.specs.Problem.{Problem}
 use Rattle.tt_leaf.specs.declared.leaf.Bound.TheVariants.{AtLeast}
-use Rattle.tt_rules.specs.Score.{IsFeasible}
+use Rattle.tt_rules.specs.Score.{IsFeasible, cost}
 use Rattle.tt_wishes.specs.Wishes.{broken_wishes}
 use Rattle.tt_wishes_narrow.specs.Narrowed.{narrowed}
 use Rattle.tt_wishes_narrow.proofs.Keeping.{stays_feasible}
@@ -10,7 +10,9 @@ use Rattle.tt_proof_check.proofs.Certifying.{points, no_points}
 use Rattle.tt_proof_sum.specs.Added.{Give}
 use Rattle.tt_proof_sum.specs.Faults.{IsSumStop}
 use Rattle.tt_call_answers.proofs.Sums.{SumHere, silent_refusal}
+use Rattle.tt_call_answers.specs.FaultMaps.{fault_from_sum}
 use Rattle.tt_call_answers.specs.Lines.{yes_line}
+use Rattle.tt_call_kept.specs.declared.fault.KeptFault.TheVariants as fault
 use Rattle.tt_call_kept.specs.Kept.{IsTextAnswer, SpellsAll, kept_line}
 use Rattle.tt_call_kept.proofs.Checked.{broken_by, broken_kept, feasible_kept, not_broken, one_of_all, some_points, spelled_are, yes_kept}
 use Rattle.tt_call_kept.proofs.Refused.{before_solution, instance_silent, solution_silent, tells_sum, wishes_silent}
@@ -21,20 +23,20 @@ pub returns-in_err-instance-clause-yes : goal.returns-in_err-instance-clause-yes
 returns-in_err-instance-clause-yes g c =
     let e = err_from_is_err_and c.from_residual.result c.from_residual.ensures.1 in
     λ p t ws bytes b spelled ok none given h within. rw (e.1, e.2)
-    (instance_silent c.args.files c.args.solution.now p t ws spelled _ b (length ws) c.in_err-instance.field-0.0 c.in_err-instance.ensures.exact)
+    (instance_silent c.args.files c.args.solution.now p t ws spelled (cost p t) b (length ws) c.in_err-instance.field-0.0 c.in_err-instance.ensures.exact)
 
 pub returns-in_err-wishes-clause-yes : goal.returns-in_err-wishes-clause-yes
 returns-in_err-wishes-clause-yes g c =
     let e = err_from_is_err_and c.from_residual-in_err-wishes.result c.from_residual-in_err-wishes.ensures.1 in
     λ p t ws bytes b spelled ok none given h within. rw (e.1, e.2)
-    (wishes_silent c.args.files c.args.solution.now p t ws spelled _ b (length ws) c.in_ok-instance.instance c.in_err-wishes.field-0.0
+    (wishes_silent c.args.files c.args.solution.now p t ws spelled (cost p t) b (length ws) c.in_ok-instance.instance c.in_err-wishes.field-0.0
     c.in_ok-instance.ensures.found c.in_err-wishes.ensures.exact)
 
 pub returns-in_err-table-clause-yes : goal.returns-in_err-table-clause-yes
 returns-in_err-table-clause-yes g c =
     let e = err_from_is_err_and c.from_residual-in_err-table.result c.from_residual-in_err-table.ensures.1 in
     λ p t ws bytes b spelled ok none given h within. rw (e.1, e.2)
-    (solution_silent c.args.files c.args.solution.now p t ws spelled _ b (length ws) c.in_ok-instance.instance c.in_err-table.field-0.0
+    (solution_silent c.args.files c.args.solution.now p t ws spelled (cost p t) b (length ws) c.in_ok-instance.instance c.in_err-table.field-0.0
     c.in_ok-instance.ensures.found c.in_err-table.ensures.exact)
 
 pub returns-then-not-feasible-clause-found : goal.returns-then-not-feasible-clause-found
@@ -99,7 +101,7 @@ returns-in_err-bound-clause-fault g c =
     let gives = Give g.R.Source.remaining c.args.proofs.now in
     let narrow_is : c.in_ok-narrow.narrow ≡ narrowed p ws = c.in_ok-narrow.ensures ∙ ap (narrowed p) c.deref-2.ensures.value in
     rw (e.1, e.2)
-    (before_solution c.args.files c.args.solution.now gives _ (tells_sum c.args.files p ws gives s
+    (before_solution c.args.files c.args.solution.now gives (fault.Call (fault_from_sum s)) (tells_sum c.args.files p ws gives s
     (record { instance_is = c.in_ok-instance.ensures.found; wishes_are = c.in_ok-wishes.ensures.found })
     (λ proofs given. subst (λ (q : Problem). IsSumStop q proofs s.file s.stop) narrow_is (c.in_err-bound.ensures.fault proofs given))))
 
