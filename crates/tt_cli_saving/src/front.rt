@@ -6,7 +6,7 @@ use std::io;
 use std::io::Read;
 
 /// The first line of such a proof, with its end. No other proof begins so, so that nobody takes its bound for the instance's.
-pub const WISHES_LINE: [u8; 7] = *b"wishes\n";
+const WISHES_LINE: [u8; 7] = *b"wishes\n";
 
 /// The first bytes of a file that are still to be given.
 #[derive(Clone, Copy, Debug)]

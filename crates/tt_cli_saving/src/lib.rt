@@ -28,7 +28,6 @@ mod written;
 pub use clash::show_clash;
 pub use fault::CommandFault;
 pub use folder::{Folder, FolderFile};
-pub use front::WISHES_LINE;
 pub use inputs::{Input, InputFile, Inputs, MAX_FILE_BYTES, ReadFault, read_if_given};
 pub use keeper::{Keeper, KeptTable};
 pub use limit::TimeLimit;
