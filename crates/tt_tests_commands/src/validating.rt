@@ -97,7 +97,7 @@ fn wishes_are_counted_after_the_score(rt: HostRuntime) -> Result<(), Fail> {
             "wishes: lines 2 and 4 clash: no feasible timetable keeps both\n",
         ),
         (
-            " hold a R 0 0\r\n\t\nhold b R 0 1\n\nhold a R 0 1",
+            " hold a R 0 0\r\n\t\nroom b R\n\nhold a R 0 1",
             1,
             1,
             "wishes: line 5: more lectures of its course stay than it has\n",
