@@ -4,7 +4,7 @@
     python3 bench/page.py [FOLDER]
 
 writes the page of some timetables (good, broken, with names that are markup or no text, two weeks, 16 days and 64 days long, with
-names of days and periods, some weeks alone) and says of each whether it is, byte for byte, what this second program derives from the two files; its tags are
+names of days and periods, some weeks alone, with what changed) and says of each whether it is, byte for byte, what this second program derives from the two files; its tags are
 balanced, its ids are unique, each link lands, nothing comes from outside, the marks and the items of the lists add up to the
 counts, the colours of bars are no paler than WCAG asks, and it is below 2 MB where the instance is of realistic size. The last
 line counts what passed and failed. Where Chromium is there, pictures at three widths and on paper are put into FOLDER, beside the
@@ -35,6 +35,9 @@ CASES = [
     ("like02.teachers", EXAMPLES + "/like02.ctt", INPUT + "/like02.broken.sol", [], [], ("--only", "teachers")),
     ("like02.curricula", EXAMPLES + "/like02.ctt", EXAMPLES + "/like02.sol", [], [], ("--only", "curricula")),
     ("like02.days", EXAMPLES + "/like02.ctt", EXAMPLES + "/like02.sol", [], [], ("--only", "days")),
+    ("mini.changed", EXAMPLES + "/mini.ctt", EXAMPLES + "/mini.sol", ["Mon"], ["8:00", "9:00", "10:00"], (), INPUT + "/mini.broken.sol"),
+    ("mini.unchanged", EXAMPLES + "/mini.ctt", EXAMPLES + "/mini.sol", [], [], (), EXAMPLES + "/mini.sol"),
+    ("like02.changed", EXAMPLES + "/like02.ctt", INPUT + "/like02.broken.sol", [], [], (), EXAMPLES + "/like02.sol"),
 ]
 LONG_WEEKS = [16, 64]
 MOST_BYTES = 2_000_000
@@ -93,7 +96,38 @@ def table_of(instance, data):
     ]
 
 
+def changes_of(older, newer):
+    """What changed: the lectures that left their period, those that changed only their room, and the entries that are gone or added."""
+    pairs, newer = [], list(newer)
+    for alike in (lambda it: it, lambda it: (it[0], *it[2:]), lambda it: it[0]):
+        left, found = [], []
+        for entry in older:
+            place = next((at for at, it in enumerate(newer) if alike(it) == alike(entry)), None)
+            if place is None:
+                left.append(entry)
+            else:
+                found.append((entry, newer.pop(place)))
+        pairs.append(found)
+        older = left
+    return pairs[2], pairs[1], older, newer
+
+
 # ---- the page
+
+
+FIXED_RULES = """.changes { background: var(--paper); border: 1px solid var(--line); border-left: .35rem dotted var(--link); margin: .6rem 0; }
+.changes h2 { font-size: 1rem; font-weight: 600; }
+.changes > ul, .changes > p { margin: 0; padding: .1rem .75rem .6rem; font-size: .9rem; overflow-wrap: anywhere; }
+.lecture { outline-offset: -2px; }
+.lecture::after { content: var(--from); display: block; margin-top: 2px; color: var(--link); font-size: .6875rem; font-weight: 500; overflow-wrap: break-word; }
+"""
+
+
+def quoted(name):
+    """A name in a string of the style."""
+    text = name.decode("utf-8", "replace")
+    escaped = {it: f"\\{ord(it):x} " for it in "\"&'<>\\"}
+    return "".join(escaped.get(it, "\ufffd" if ord(it) < 32 or 127 <= ord(it) < 160 else it) for it in text)
 
 
 def shown(name):
@@ -106,7 +140,8 @@ class Page:
     """The page of a timetable, as text, with names of days and periods, or none, and what was proved of its cost, or None; or a sheet of it, by an
     option and its value."""
 
-    def __init__(self, instance, table, style, days=(), periods=(), proved=None, sheet=None):
+    def __init__(self, instance, table, style, days=(), periods=(), proved=None, sheet=None, older=None):
+        self.older = older
         self.instance, self.table, self.style, self.sheet = instance, table, style, sheet
         self.day_names, self.period_names, self.proved = days, periods, proved
         self.names = {
@@ -160,6 +195,41 @@ class Page:
 
     def teacher_link(self, course):
         return self.link("teacher", self.instance.teacher_of[course])
+
+    # -- what changed
+
+    def place(self, entry, when):
+        return f"{when}, in {self.link('room', entry[1])}"
+
+    def older_place(self, entry):
+        return self.place(entry, self.when(*entry[2:]))
+
+    def newer_place(self, entry):
+        return self.place(entry, self.when_link("room", entry[1], entry))
+
+    def changes_text(self):
+        moved, rooms, gone, added = changes_of(self.older, self.table)
+        items = [(it[0], "moved from", self.older_place(it) + " to " + self.newer_place(to)) for it, to in moved]
+        items += [(it[0], "changed its room from", self.older_place(it) + " to " + self.newer_place(to)) for it, to in rooms]
+        items += [(it[0], "is gone from", self.older_place(it)) for it in gone]
+        items += [(it[0], "was added on", self.newer_place(it)) for it in added]
+        text = f'<details open class="changes" id="changes">\n<summary><h2>Changes <small>moved {len(moved)}, rooms {len(rooms)}</small></h2></summary>\n'
+        lines = "".join(f"<li>{self.link('course', course)} {words} {places}</li>\n" for course, words, places in items)
+        return text + (f"<ul>\n{lines}</ul>\n" if items else "<p>No lecture moved.</p>\n") + "</details>\n"
+
+    def quoted_when(self, day, period):
+        one = quoted(self.day_names[day].encode()) if day < len(self.day_names) else f"Day {day + 1}"
+        other = quoted(self.period_names[period].encode()) if period < len(self.period_names) else f"period {period + 1}"
+        return f"{one}, {other}"
+
+    def mark_rules(self):
+        moved, rooms, _, _ = changes_of(self.older, self.table)
+        text = FIXED_RULES
+        for (_, old, *when), (course, room, day, period) in moved + rooms:
+            text += f'#room{room}-{day}-{period} .lecture:has([href="#course{course}"]), '
+            text += f'[id$="-{day}-{period}"] .lecture:has([href="#course{course}"] + [href="#room{room}"]) '
+            text += f'{{ outline: 2px dotted var(--link); --from: "from {self.quoted_when(*when)}, in {quoted(self.instance.rooms[old][0])}"; }}\n'
+        return text
 
     # -- what is counted
 
@@ -407,11 +477,12 @@ class Page:
         return "".join(" " + shown(it) for it in self.instance.name)
 
     def head(self):
+        rules = "" if self.older is None else self.mark_rules()
         return (
             '<!DOCTYPE html>\n<html lang="en">\n<head>\n<meta charset="utf-8">\n'
             '<meta name="viewport" content="width=device-width, initial-scale=1">\n'
             '<meta name="color-scheme" content="light dark">\n'
-            f"<title>Timetable{self.name()}</title>\n<style>\n{self.style}</style>\n</head>\n<body>\n"
+            f"<title>Timetable{self.name()}</title>\n<style>\n{self.style}{rules}</style>\n</head>\n<body>\n"
         )
 
     def legend(self):
@@ -459,6 +530,7 @@ class Page:
         text += "</div>\n" + self.legend() + (
             " A rule that is not in the tables counts 0. <span class=\"files\">The files count days and periods from 0.</span></p>\n"
         )
+        text += "" if self.older is None else self.changes_text()
         for at, (ident, title, _, items) in enumerate(lists):
             if counts[at]:
                 kind, mark = ("broken", "strong") if at < 4 else ("costs", "mark")
@@ -554,11 +626,11 @@ def style_of():
         return re.search(r'r#"(.*)"#;', file.read(), re.S).group(1)
 
 
-def look(name, instance, solution, folder, days=(), periods=(), sheet=()):
+def look(name, instance, solution, folder, days=(), periods=(), sheet=(), older=None):
     """The faults of one case's page."""
     out = os.path.join(folder, name + ".html")
     options = ["--days", ",".join(days), "--periods", ",".join(periods)] if days else []
-    options += sheet
+    options += [*sheet, *(["--older", older] if older else [])]
     done = subprocess.run([TOP + "/tt", "page", instance, solution, out, *options], capture_output=True, text=True)
     if done.returncode:
         return [f"status {done.returncode}: {done.stderr.strip()}"]
@@ -566,7 +638,11 @@ def look(name, instance, solution, folder, days=(), periods=(), sheet=()):
         data = file.read()
     with open(instance, "rb") as first, open(solution, "rb") as second:
         read = Instance(first.read())
-        wanted = Page(read, table_of(read, second.read()), style_of(), days, periods, sheet=sheet).text()
+        table, before = table_of(read, second.read()), None
+    if older:
+        with open(older, "rb") as third:
+            before = table_of(read, third.read())
+    wanted = Page(read, table, style_of(), days, periods, sheet=sheet, older=before).text()
     try:
         text = data.decode("utf-8")
     except UnicodeDecodeError as fault:

@@ -23,7 +23,7 @@ OUT_OF_MEMORY = (2, b"", b"refused: out of memory\n")
 HURRY = 400
 # What a refusal says after a failed call: the role and the path of the file, and the system's reason.
 PATH, REASON = rb"([^\n:]*)", rb"([^\n;]+)"
-NOT_READ = re.compile(rb"refused: (instance|solution|wishes|proof(?: \d+)?): (?:cannot read|Read): " + PATH + rb": " + REASON + rb"\n")
+NOT_READ = re.compile(rb"refused: (instance|(?:older )?solution|wishes|proof(?: \d+)?): (?:cannot read|Read): " + PATH + rb": " + REASON + rb"\n")
 WHEREABOUTS = rb"((?:; output \w+ is (?:kept as [^\n;]+|on standard output|in its place|lost))*)"
 NOT_WRITTEN = re.compile(rb"refused: cannot write: (output \w+): " + PATH + rb": " + REASON + WHEREABOUTS + rb"\n")
 NOT_PRINTED = re.compile(rb"refused: cannot write: standard output: " + REASON + rb"\n")
@@ -51,7 +51,7 @@ IN_FOLDER = {
     "parts": {"groups.proof": "output proof", "rooms.proof": "output proof"},
     "best": {"best.sol": "output solution", "partial.sol": "output solution", "page.html": "output page", "groups.proof": "output proof", "prices.proof": "output proof", "tree.proof": "output proof"},
 }
-INPUT_OPTIONS = {"--solution": "solution", "--from": "solution", "--wishes": "wishes", "--proof": "proof"}
+INPUT_OPTIONS = {"--solution": "solution", "--from": "solution", "--older": "older solution", "--wishes": "wishes", "--proof": "proof"}
 FLAGS = {"--keep", "--complete", "--drop", "--progress", "--quiet", "--csv", "--no-formulas", "--help", "--version"}
 
 
@@ -131,10 +131,13 @@ FILES = {
     "gap.groups": GAP_GROUPS,
     "nothing.proof": b"CTTP 1 bound 0 B ; end",
     "wishes": b"hold a R 0 0\nclosed * 0 1\n",
+    "clashing": b"\nhold a R 0 0\nhold b * 0 0\n",
+    "kept.proof": b"wishes\n" + GAP_PROOF,
     "bad": b"bad",
     "empty": b"",
 }
 BESIDE = {".partial": "output solution", ".partial.html": "output page"}
+CLASH = b"wishes: lines 2 and 3 clash: no feasible timetable keeps both\n"
 SOLVE_GAP = {"out": None, "out.proof": None}
 PARTS_OF_GAP = {"groups.proof": None, "rooms.proof": None}
 BEST_OF_GAP = {"best.sol": None, "page.html": None, "tree.proof": None}
@@ -158,12 +161,18 @@ COMMANDS = [
     Command("validate mini -", out=MINI_COUNTS, given="gap.sol"),
     Command("validate - -", 2, b"", None, given="mini"),
     Command("validate mini gap.sol --wishes wishes", out=MINI_COUNTS + b"wishes 0\n"),
+    Command("validate mini gap.sol --wishes clashing", 1, MINI_COUNTS + b"wishes 1\n", CLASH),
     Command("validate mini gap.sol --wishes bad", 2, b"", b"refused: wishes: UnknownWord at byte 0\n"),
     Command("check gap gap.sol gap.proof", out=b"yes cost 5 bound 5 optimal\n"),
     Command("check gap gap.sol -", out=b"yes cost 5 bound 5 optimal\n", given="gap.proof"),
     Command("check mini bad gap.proof", 2, b"", b"refused: solution: UnknownCourse at byte 0\n"),
     Command("bound gap gap.proof", out=b"bound 5\n"),
     Command("bound gap -", out=b"bound 5\n", given="gap.proof"),
+    Command("bound gap gap.proof --wishes empty", out=b"bound 5\nkept 0\n"),
+    Command("bound gap kept.proof --wishes empty", out=b"bound 5\nkept 0\n"),
+    Command("bound gap kept.proof", 2, b"", b"refused: proof: Expected CTTP at byte 0\n"),
+    Command("check gap gap.sol kept.proof --wishes empty", out=b"yes cost 5 bound 5 optimal\nkept 0\n"),
+    Command("sum gap gap.proof --wishes bad", 2, b"", b"refused: wishes: UnknownWord at byte 0\n"),
     Command("improve mini gap.sol out --seed 1 --steps 100", out=b"hard 0 cost 1\n", written={"out": None}),
     Command("improve mini gap.sol - --steps 100", out=None),
     Command("improve mini gap.sol out --steps 100 --runs 3", out=b"hard 0 cost 1\n", written={"out": None}),
@@ -171,6 +180,7 @@ COMMANDS = [
     Command("improve gap last.sol out --complete --drop --steps 100", out=b"hard 0 cost 5\n", err=b"line 1 left out, no such course: z R 0 0\n", written={"out": None}),
     Command("improve mini gap.sol out --stay 5 --steps 20", out=b"hard 0 cost 5 moved 0 rooms 0\n", written={"out": APART}),
     Command("improve mini gap.sol out --wishes wishes --steps 20", out=b"hard 0 cost 5 wishes 0 moved 0 rooms 0\n", written={"out": APART}),
+    Command("improve mini gap.sol out --wishes clashing --steps 20", 1, None, CLASH, written={"out": None}),
     Command("improve mini gap.sol out --wishes bad", 2, b"", b"refused: wishes: UnknownWord at byte 0\n"),
     Command("improve mini gap.sol out --stay 1 --steps 20 --runs 2", out=b"hard 0 cost 1 moved 1 rooms 0\n", written={"out": None}),
     Command("improve mini gap.sol out --steps 100 --runs 5 --keep", out=b"hard 0 cost 1\n", written={"out": None}, hurry=HURRY),
@@ -209,6 +219,9 @@ COMMANDS = [
     Command("page mini gap.sol out --week nobody", 2, b"", b"refused: --week: unknown name: nobody\n"),
     Command("page gap gap.sol out --proof gap.proof --proof nothing.proof", out=b"", written={"out": None}),
     Command("page gap gap.sol out --proof gap.proof --proof gap.groups", 2, b"", b"refused: proof 2: ClaimedElsewhere at group 0, by proof 1\n"),
+    Command("page gap gap.sol out --proof kept.proof --wishes empty", out=b"", written={"out": None}),
+    Command("page mini mini.sol out --older gap.sol", out=b"", written={"out": None}),
+    Command("page mini mini.sol out --older bad", 2, b"", b"refused: older solution: UnknownCourse at byte 0\n"),
     Command("sum gap", out=b"bound 0\n"),
     Command("sum gap nothing.proof gap.proof", out=b"bound 5\n"),
     Command("sum gap nothing.proof -", out=b"bound 5\n", given="gap.proof"),
@@ -227,6 +240,7 @@ COMMANDS = [
     Command("best gap . --rounds 2 --from gap.sol", out=b"cost 5 bound 5 optimal\n", written=None),
     Command("best gap . --rounds 2 --keep", out=b"cost 5 bound 5 optimal\n", written=BEST_OF_GAP, hurry=HURRY),
     Command("best gap new --rounds 2 --keep", out=b"cost 5 bound 5 optimal\n", written=in_new(BEST_OF_GAP), hurry=HURRY),
+    Command("best gap . --rounds 2 --wishes empty", out=b"cost 5 bound 5 optimal\nkept 0\n", written=BEST_OF_GAP),
     Command("best same .", 1, b"cost none bound none\n", None, BEST_OF_NONE),
     Command("best same new", 1, b"cost none bound none\n", None, in_new(BEST_OF_NONE)),
     Command("best gap . --rounds 2 --days Mon --periods 8:00,9:00,10:00", out=b"cost 5 bound 5 optimal\n", written=BEST_OF_GAP),
@@ -245,6 +259,8 @@ COMMANDS = [
     Command("page mini gap.sol out --only weeks", 2, b"", None),
     Command("page mini gap.sol out --only rooms --week R", 2, b"", None),
     Command("page gap gap.sol out --week R --proof gap.proof", 2, b"", None),
+    Command("page gap gap.sol out --wishes empty", 2, b"", None),
+    Command("page mini gap.sol out --week R --older mini.sol", 2, b"", None),
     Command("solve gap out out.proof --nodes 65537", 2, b"", None),
     Command("solve gap out out.proof --time 0", 2, b"", None),
     Command("solve gap out out.proof --time 1000001", 2, b"", None),

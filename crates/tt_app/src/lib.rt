@@ -2,10 +2,14 @@
 #![tactic(auto)]
 
 pub use tt_call_answers::{Answer, AppFault};
+pub use tt_call_best_kept::best_kept;
+pub use tt_call_changed_page::{ChangedForm, ChangedPageFault, changed_page};
 pub use tt_call_changes::{ChangesFault, changes};
 pub use tt_call_checks::{bound, check, check_sum, sum, upgrade, validate};
+pub use tt_call_clash::{ClashingLines, find_clashing_lines};
 pub use tt_call_json::{inspect_json, validate_json};
 pub use tt_call_kept::{KeptFault, KeptFiles, check_kept, sum_kept};
+pub use tt_call_kept_page::{PageTexts, kept_page};
 pub use tt_call_names::{PageNames, UNNAMED};
 pub use tt_call_searches::{
     BestAnswer, BestSearch, Effort, ImproveSearch, PartsAnswer, TreeEffort, WatchBest, best,

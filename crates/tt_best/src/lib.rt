@@ -7,7 +7,8 @@ mod start;
 mod watch;
 mod week;
 
-pub use searching::{Rounds, find_best};
-pub use start::Start;
-pub use watch::WatchRounds;
+pub use bounds::search_bounds;
+pub use searching::{FIRST_NODES, Rounds, find_best, nodes_of, seed_of, steps_of};
+pub use start::{Start, first_week};
+pub use watch::{Aiming, WatchRounds};
 pub use week::Week;

@@ -28,7 +28,7 @@ const MOST_STEPS: u64 = 20_000_000;
 const SEED_FACTOR: u64 = 0x9e37_79b9_7f4a_7c15;
 
 /// The number of nodes that the first search for bounds may use up, and each one after a better timetable.
-const FIRST_NODES: u32 = 3_000;
+pub const FIRST_NODES: u32 = 3_000;
 
 /// The number of nodes that a search for bounds whose turn it is may use up, for each round before it.
 const LATER_NODES: u32 = 2_500;
@@ -46,7 +46,7 @@ pub struct Rounds {
 
 /// Returns the maximum number of nodes of a later round's search for bounds: in few rounds it is its turn, with twice as many each time; in the
 /// others there are none unless there is a better timetable.
-fn nodes_of(round: u64, is_better: bool) -> u32 {
+pub fn nodes_of(round: u64, is_better: bool) -> u32 {
     if round.count_ones() == 1 {
         let nodes = u64::from(LATER_NODES).saturating_mul(round);
         return u32::try_from(nodes).unwrap_or(MOST_NODES).min(MOST_NODES);
@@ -55,7 +55,7 @@ fn nodes_of(round: u64, is_better: bool) -> u32 {
 }
 
 /// Returns the number of steps that a later round makes for a better timetable.
-fn steps_of(table: &Timetable) -> u64 {
+pub fn steps_of(table: &Timetable) -> u64 {
     let lectures = table.len() as u64;
     lectures
         .saturating_mul(lectures)
@@ -64,7 +64,7 @@ fn steps_of(table: &Timetable) -> u64 {
 }
 
 /// Returns the seed of a later round.
-fn seed_of(rounds: Rounds, round: u64) -> u64 {
+pub fn seed_of(rounds: Rounds, round: u64) -> u64 {
     rounds.seed.wrapping_mul(SEED_FACTOR).wrapping_add(round)
 }
 

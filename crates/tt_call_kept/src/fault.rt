@@ -4,6 +4,8 @@ use std::alloc::AllocError;
 use thiserror::Error;
 use tt_call_answers::AppFault;
 use tt_instance_read::InstanceFault;
+use tt_page::PageFault;
+use tt_page_text::LabelsFault;
 use tt_proof_sum::SumStop;
 use tt_table::SolutionFault;
 use tt_wishes::WishesFault;
@@ -63,6 +65,30 @@ impl From<SolutionFault> for KeptFault {
     ghost from_gives = { λ f e. e ≡ fault.Call (fault_from_solution f) };
 
     fn from(fault: SolutionFault) -> KeptFault {
+        KeptFault::Call(AppFault::from(fault))
+    }
+}
+
+impl From<LabelsFault> for KeptFault {
+    ghost use Rattle.std.specs.Prelude.{◌≡◌};
+    ghost use Rattle.tt_call_answers.specs.FaultMaps.{fault_from_labels};
+    ghost use Rattle.tt_call_kept.specs.declared.fault.KeptFault.TheVariants as fault;
+
+    ghost from_gives = { λ f e. e ≡ fault.Call (fault_from_labels f) };
+
+    fn from(fault: LabelsFault) -> KeptFault {
+        KeptFault::Call(AppFault::from(fault))
+    }
+}
+
+impl From<PageFault> for KeptFault {
+    ghost use Rattle.std.specs.Prelude.{◌≡◌};
+    ghost use Rattle.tt_call_answers.specs.FaultMaps.{fault_from_page};
+    ghost use Rattle.tt_call_kept.specs.declared.fault.KeptFault.TheVariants as fault;
+
+    ghost from_gives = { λ f e. e ≡ fault.Call (fault_from_page f) };
+
+    fn from(fault: PageFault) -> KeptFault {
         KeptFault::Call(AppFault::from(fault))
     }
 }

@@ -1,7 +1,7 @@
 //! The calls, one file each.
 
 pub mod best;
-mod given;
+pub mod given;
 pub mod improve;
 pub mod parts;
 pub mod solve;

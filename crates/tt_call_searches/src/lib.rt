@@ -3,7 +3,8 @@
 
 mod calls;
 
-pub use calls::best::{BestAnswer, BestSearch, WatchBest, best};
+pub use calls::best::{BestAnswer, BestSearch, WatchBest, best, found_line, missing_line, page_of};
+pub use calls::given::read_given;
 pub use calls::improve::{ImproveSearch, improve};
 pub use calls::parts::{PartsAnswer, parts};
 pub use calls::solve::{TreeEffort, solve};

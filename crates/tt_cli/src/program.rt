@@ -66,7 +66,7 @@ fn reply_to<R: World, O: Write, E: Write>(
     err: &mut E,
 ) -> Result<Reply, CommandFault> {
     match request {
-        Request::Validate(request) => answer_validate(rt, *request),
+        Request::Validate(request) => answer_validate(rt, err, *request),
         Request::Inspect(request) => answer_inspect(rt, *request),
         Request::Page(request) => answer_page(rt, out, err, request),
         Request::Check(request) => answer_check(rt, err, *request),

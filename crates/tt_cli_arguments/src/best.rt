@@ -29,6 +29,8 @@ pub struct BestRequest<'a> {
     pub folder: &'a str,
     /// The timetable from which the search begins.
     pub start: Option<&'a str>,
+    /// What the timetable is to keep besides the hard rules, if that is given.
+    pub wishes: Option<&'a str>,
     pub search: BestSearch,
     /// The names on the page.
     pub names: GivenNames<'a>,
@@ -67,13 +69,21 @@ const START: Argument<'static> = Argument {
     condition: None,
 };
 
+/// What the timetable is to keep besides the hard rules.
+const ALL_KEPT: Argument<'static> = Argument {
+    id: "wishes",
+    form: Form::Value("WISHES"),
+    help: "What the timetable is to keep besides the hard rules, as validate takes it; only one that keeps all of it counts as found, and the bound is one of these",
+    condition: None,
+};
+
 /// The command `best`.
 pub const BEST: Description<'static> = Description {
     name: "best",
     about: "Searches for a best timetable and for proofs of a lower bound until they meet, and writes them with a page",
     example: "Example: tt best week.ctt week --rounds 20",
     arguments: &[
-        INSTANCE, FOLDER, START, SEED, ROUNDS, TIME, KEEP, DAYS, PERIODS, PROGRESS, QUIET,
+        INSTANCE, FOLDER, START, ALL_KEPT, SEED, ROUNDS, TIME, KEEP, DAYS, PERIODS, PROGRESS, QUIET,
     ],
 };
 
@@ -93,6 +103,7 @@ pub fn best_request<'a>(found: &ArgMatches<'a>) -> Option<Request<'a>> {
         instance: found.get_str("INSTANCE")?,
         folder: found.get_str("OUTDIR")?,
         start: found.get_str("from"),
+        wishes: found.get_str("wishes"),
         search: best_search(found)?,
         names: names_of(found),
         showing: showing_of(found),

@@ -20,6 +20,7 @@ pub struct CheckRequest<'a> {
     pub instance: &'a str,
     pub solution: &'a str,
     pub proof: &'a str,
+    pub wishes: Option<&'a str>,
     pub showing: Showing,
 }
 
@@ -28,6 +29,7 @@ pub struct CheckRequest<'a> {
 pub struct BoundRequest<'a> {
     pub instance: &'a str,
     pub proof: &'a str,
+    pub wishes: Option<&'a str>,
     pub showing: Showing,
 }
 
@@ -53,7 +55,7 @@ pub const CHECK: Description<'static> = Description {
     name: "check",
     about: "Checks a solution, and a proof of a lower bound",
     example: "Example: tt check week.ctt week.sol week.proof",
-    arguments: &[INSTANCE, SOLUTION, PROOF, PROGRESS, QUIET],
+    arguments: &[INSTANCE, SOLUTION, PROOF, WISHES, PROGRESS, QUIET],
 };
 
 /// The command `bound`.
@@ -61,7 +63,7 @@ pub const BOUND: Description<'static> = Description {
     name: "bound",
     about: "Checks a proof of a lower bound, and prints the bound",
     example: "Example: tt bound week.ctt week.proof",
-    arguments: &[INSTANCE, PROOF, PROGRESS, QUIET],
+    arguments: &[INSTANCE, PROOF, WISHES, PROGRESS, QUIET],
 };
 
 /// The command `upgrade`.
@@ -91,6 +93,7 @@ pub fn check_request<'a>(found: &ArgMatches<'a>) -> Option<Request<'a>> {
         instance: found.get_str("INSTANCE")?,
         solution: found.get_str("SOLUTION")?,
         proof: found.get_str("PROOF")?,
+        wishes: found.get_str("wishes"),
         showing: showing_of(found),
     }))
 }
@@ -100,6 +103,7 @@ pub fn bound_request<'a>(found: &ArgMatches<'a>) -> Option<Request<'a>> {
     Some(Request::Bound(BoundRequest {
         instance: found.get_str("INSTANCE")?,
         proof: found.get_str("PROOF")?,
+        wishes: found.get_str("wishes"),
         showing: showing_of(found),
     }))
 }

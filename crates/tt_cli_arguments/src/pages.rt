@@ -35,6 +35,10 @@ pub struct PageRequest<'a> {
     pub names: GivenNames<'a>,
     /// The weeks that are shown; if none are given, everything is.
     pub weeks: Option<GivenWeeks<'a>>,
+    /// The older solution since which changes are shown.
+    pub older: Option<&'a str>,
+    /// The wishes that the timetables keep of which the bound of the proofs holds.
+    pub wishes: Option<&'a str>,
     pub proofs: Vec<&'a str>,
     pub showing: Showing,
 }
@@ -63,7 +67,7 @@ const ONLY: Argument<'static> = Argument {
     id: "only",
     form: Form::Choice("PART", &PART_WORDS),
     help: "Shows these weeks and no more, without counts, as sheets to hand out",
-    condition: Some(Condition::ConflictsWith(&["week", "proof"])),
+    condition: Some(Condition::ConflictsWith(&["week", "older", "proof"])),
 };
 
 /// The option that leaves out all but the weeks of one name.
@@ -71,7 +75,15 @@ const WEEK: Argument<'static> = Argument {
     id: "week",
     form: Form::Value("NAME"),
     help: "Shows the weeks of the room, the teacher and the curriculum of this name and no more, as a sheet to hand out; --week=NAME if it begins with a hyphen",
-    condition: Some(Condition::ConflictsWith(&["only", "proof"])),
+    condition: Some(Condition::ConflictsWith(&["only", "older", "proof"])),
+};
+
+/// The option of the solution with which the page compares.
+const OLDER: Argument<'static> = Argument {
+    id: "older",
+    form: Form::Value("OLDER"),
+    help: "Marks each lecture that moved since this older solution, and lists them all at the head of the page",
+    condition: Some(Condition::ConflictsWith(&["only", "week", "wishes"])),
 };
 
 /// The option of the proofs whose bound is shown; it may be given more than once.
@@ -82,13 +94,21 @@ const PROOFS: Argument<'static> = Argument {
     condition: None,
 };
 
+/// The option of the wishes under which the proofs hold.
+const KEPT: Argument<'static> = Argument {
+    id: "wishes",
+    form: Form::Value("WISHES"),
+    help: "Wishes: the bound of the proofs holds of the timetables that keep them, and the page says so",
+    condition: Some(Condition::Requires(&["proof"])),
+};
+
 /// The command `page`.
 pub const PAGE: Description<'static> = Description {
     name: "page",
     about: "Writes a page of HTML that shows the weeks of a solution, and what it costs where",
     example: "Example: tt page week.ctt week.sol week.html --days Mon,Tue,Wed,Thu,Fri --proof groups.proof --proof rooms.proof",
     arguments: &[
-        INSTANCE, SOLUTION, OUT, DAYS, PERIODS, ONLY, WEEK, PROOFS, PROGRESS, QUIET,
+        INSTANCE, SOLUTION, OUT, DAYS, PERIODS, ONLY, WEEK, OLDER, PROOFS, KEPT, PROGRESS, QUIET,
     ],
 };
 
@@ -131,6 +151,8 @@ fn page_with<'a>(found: &ArgMatches<'a>, proofs: Vec<&'a str>) -> Option<Request
         out: found.get_str("OUT")?,
         names: names_of(found),
         weeks: weeks_of(found),
+        older: found.get_str("older"),
+        wishes: found.get_str("wishes"),
         proofs,
         showing: showing_of(found),
     }))

@@ -2,7 +2,7 @@
 
 use crate::arguments::Request;
 use crate::description::{Argument, Description, Form};
-use crate::files::INSTANCE;
+use crate::files::{INSTANCE, WISHES};
 use crate::showing::{PROGRESS, QUIET, Showing, showing_of};
 use clap::ArgMatches;
 use std::alloc::{AllocError, Global};
@@ -12,6 +12,7 @@ use std::alloc::{AllocError, Global};
 pub struct SumRequest<'a> {
     pub instance: &'a str,
     pub solution: Option<&'a str>,
+    pub wishes: Option<&'a str>,
     pub proofs: Vec<&'a str>,
     pub showing: Showing,
 }
@@ -35,7 +36,7 @@ pub const SUM: Description<'static> = Description {
     name: "sum",
     about: "Checks proofs of lower bounds that add up, and prints their sum",
     example: "Example: tt sum week.ctt --solution week.sol groups.proof rooms.proof",
-    arguments: &[INSTANCE, SOLUTION, PROOFS, PROGRESS, QUIET],
+    arguments: &[INSTANCE, SOLUTION, WISHES, PROOFS, PROGRESS, QUIET],
 };
 
 /// Returns the words given for an argument.
@@ -61,6 +62,7 @@ pub fn sum_request<'a>(
     Ok(Some(Request::Sum(SumRequest {
         instance,
         solution: found.get_str("solution"),
+        wishes: found.get_str("wishes"),
         proofs: words_of(alloc, found, "PROOF")?,
         showing: showing_of(found),
     })))

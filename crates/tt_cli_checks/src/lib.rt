@@ -3,6 +3,7 @@
 
 mod built_in;
 mod commands;
+mod kept;
 mod timetable;
 
 pub use commands::bound::answer_bound;

@@ -6,6 +6,7 @@ use std::io;
 use thiserror::Error;
 use tt_call_answers::AppFault;
 use tt_call_changes::ChangesFault;
+use tt_call_kept::KeptFault;
 use tt_call_wished::WishedFault;
 use tt_call_wishes::ValidateFault;
 use tt_cli_files::WriteFault;
@@ -74,6 +75,15 @@ impl From<ValidateFault> for CommandFault {
 impl From<WishedFault> for CommandFault {
     fn from(fault: WishedFault) -> CommandFault {
         CommandFault::Wished(fault)
+    }
+}
+
+impl From<KeptFault> for CommandFault {
+    fn from(fault: KeptFault) -> CommandFault {
+        match fault {
+            KeptFault::Call(fault) => CommandFault::Call(fault),
+            KeptFault::Wishes(fault) => CommandFault::Wishes(ValidateFault::Wishes(fault)),
+        }
     }
 }
 

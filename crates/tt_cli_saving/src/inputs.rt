@@ -112,6 +112,17 @@ impl<'a> InputFile<'a> {
     }
 }
 
+/// Returns the bytes of a file, if there is one.
+pub fn read_if_given<R: World>(
+    rt: &R,
+    file: Option<InputFile<'_>>,
+) -> Result<Option<Vec<u8>>, CommandFault> {
+    match file {
+        Some(file) => Ok(Some(file.read(rt)?)),
+        None => Ok(None),
+    }
+}
+
 /// The files that a command reads, in the order of the command line.
 #[derive(Debug, Drop)]
 pub struct Inputs<'a> {

@@ -2,9 +2,11 @@
 //! way.
 #![tactic(auto)]
 
+mod clash;
 mod counted;
 mod fault;
 mod folder;
+mod front;
 mod inputs;
 mod keeper;
 mod limit;
@@ -23,9 +25,11 @@ mod ticker;
 mod world;
 mod written;
 
+pub use clash::show_clash;
 pub use fault::CommandFault;
 pub use folder::{Folder, FolderFile};
-pub use inputs::{Input, InputFile, Inputs, MAX_FILE_BYTES, ReadFault};
+pub use front::WISHES_LINE;
+pub use inputs::{Input, InputFile, Inputs, MAX_FILE_BYTES, ReadFault, read_if_given};
 pub use keeper::{Keeper, KeptTable};
 pub use limit::TimeLimit;
 pub use lines::ShownLines;

@@ -3,10 +3,12 @@
 ghost use Rattle.std.specs.Prelude.{◌≡◌, true};
 
 use crate::fault::CommandFault;
+use crate::front::Front;
 use crate::showing::{OpenProof, Shown, open_counted};
 use crate::world::World;
 use std::alloc::{AllocError, Global};
 use std::cell::Cell;
+use std::io;
 use std::io::{Error, Read, Write};
 use tt_call_answers::AppFault;
 use tt_text::{ReadFailed, Source};
@@ -30,6 +32,9 @@ pub struct ProofFile<'r, 'p, 't, R: World, E: Write> {
     shown: &'r Shown<'t, R, E>,
     unread: &'r LastUnread<'p>,
     file: Option<OpenProof<'r, 't, R, E>>,
+    /// Whether a first line that says that the proof holds under wishes is passed over.
+    is_under_wishes: bool,
+    front: Option<Front>,
     ended: bool,
     failed: bool,
 }
@@ -43,6 +48,8 @@ impl<'r, 'p, 't, R: World, E: Write> Drop for ProofFile<'r, 'p, 't, R, E> {
             shown: _,
             unread: _,
             file: _,
+            is_under_wishes: _,
+            front: _,
             ended: _,
             failed: _,
         } = self;
@@ -61,6 +68,16 @@ impl<'r, 'p, 't, R: World, E: Write> ProofFile<'r, 'p, 't, R, E> {
         }));
         ReadFailed
     }
+
+    /// Reads the first line of a proof that may be one under wishes.
+    fn read_front(&mut self) -> io::Result<()> {
+        if self.is_under_wishes
+            && let Some(file) = &mut self.file
+        {
+            self.front = Some(Front::read_from(file)?);
+        }
+        Ok(())
+    }
 }
 
 impl<'r, 'p, 't, R: World, E: Write> Source for ProofFile<'r, 'p, 't, R, E> {
@@ -78,6 +95,15 @@ impl<'r, 'p, 't, R: World, E: Write> Source for ProofFile<'r, 'p, 't, R, E> {
             match open_counted(self.rt, self.path, Some(self.number), self.shown) {
                 Ok(file) => self.file = Some(file),
                 Err(reason) => return Err(self.fail(reason)),
+            }
+            if let Err(reason) = self.read_front() {
+                return Err(self.fail(reason));
+            }
+        }
+        if let Some(front) = &mut self.front {
+            let count = front.give(buffer);
+            if count > 0 {
+                return Ok(count);
             }
         }
         let Some(file) = &mut self.file else {
@@ -100,10 +126,11 @@ impl<'r, 'p, 't, R: World, E: Write> Source for ProofFile<'r, 'p, 't, R, E> {
     }
 }
 
-/// Returns the files of proofs, each opened by its first read.
+/// Returns the files of proofs, each opened by its first read. Under wishes a first line that says so is passed over.
 pub fn proof_files<'r, 'p, 't, R: World, E: Write>(
     rt: &'r R,
     paths: &[&'p str],
+    is_under_wishes: bool,
     shown: &'r Shown<'t, R, E>,
     unread: &'r LastUnread<'p>,
 ) -> Result<Vec<Peeked<ProofFile<'r, 'p, 't, R, E>>>, AllocError> {
@@ -118,6 +145,8 @@ pub fn proof_files<'r, 'p, 't, R: World, E: Write>(
             shown,
             unread,
             file: None,
+            is_under_wishes,
+            front: None,
             ended: false,
             failed: false,
         };

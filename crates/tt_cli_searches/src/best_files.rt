@@ -35,6 +35,8 @@ pub const TREE: FolderFile = FolderFile {
 pub struct BestFiles<'a, R: World> {
     pub rt: &'a R,
     pub folder: Folder<'a>,
+    /// Whether the proofs hold of the timetables that keep wishes.
+    pub is_under_wishes: bool,
     /// Whether the timetable in the folder is this run's.
     pub has_table: Cell<bool>,
     /// Whether the proofs in the folder are this run's.
@@ -46,6 +48,7 @@ impl<'a, R: World> Drop for BestFiles<'a, R> {
         let BestFiles {
             rt: _,
             folder: _,
+            is_under_wishes: _,
             has_table: _,
             has_proofs: _,
         } = self;
@@ -57,6 +60,7 @@ impl<'a, R: World> BestFiles<'a, R> {
         ProofFolder {
             folder: self.folder,
             tree: TREE,
+            is_under_wishes: self.is_under_wishes,
         }
     }
 

@@ -5,6 +5,7 @@ mod best_files;
 mod best_keeper;
 mod commands;
 mod dropping;
+mod kept_reasons;
 mod near;
 mod partial;
 mod proof_files;

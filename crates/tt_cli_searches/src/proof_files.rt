@@ -1,8 +1,8 @@
 //! Files of proofs in a folder.
 
-use std::alloc::AllocError;
+use std::alloc::{AllocError, Global};
 use tt_cli_files::{Batch, Role};
-use tt_cli_saving::{Folder, FolderFile, World};
+use tt_cli_saving::{Folder, FolderFile, WISHES_LINE, World};
 use tt_text_peek::{FileKind, kind_of_front};
 
 /// The file of groups.
@@ -23,6 +23,16 @@ pub struct ProofFolder<'a> {
     pub folder: Folder<'a>,
     /// The file of a tree proof.
     pub tree: FolderFile,
+    /// Whether the proofs hold of the timetables that keep wishes.
+    pub is_under_wishes: bool,
+}
+
+/// Returns the text of the file of a proof that holds under wishes.
+fn with_wishes_line(alloc: Global, proof: &[u8]) -> Result<Vec<u8>, AllocError> {
+    let mut text = Vec::new(alloc);
+    text.extend_from_slice(&WISHES_LINE)?;
+    text.extend_from_slice(proof)?;
+    Ok(text)
 }
 
 impl<'a> ProofFolder<'a> {
@@ -32,6 +42,36 @@ impl<'a> ProofFolder<'a> {
             FileKind::Tree => self.tree,
             FileKind::Groups => GROUPS,
             FileKind::Prices => PRICES,
+        }
+    }
+
+    /// Adds a proof that holds under wishes to a batch. The first line of its file says so.
+    fn write_wished<R: World>(
+        self,
+        rt: &R,
+        batch: Batch,
+        proof: &[u8],
+    ) -> Result<Batch, AllocError> {
+        match with_wishes_line(rt.alloc(), proof) {
+            Ok(text) => self.folder.write(rt, batch, self.file_of(proof), &text),
+            Err(fault) => {
+                batch.abandon(rt);
+                Err(fault)
+            }
+        }
+    }
+
+    /// Adds a proof to a batch.
+    fn write_one<R: World>(
+        self,
+        rt: &R,
+        batch: Batch,
+        proof: &[u8],
+    ) -> Result<Batch, AllocError> {
+        if self.is_under_wishes {
+            self.write_wished(rt, batch, proof)
+        } else {
+            self.folder.write(rt, batch, self.file_of(proof), proof)
         }
     }
 
@@ -49,7 +89,7 @@ impl<'a> ProofFolder<'a> {
         proofs: &[Vec<u8>],
     ) -> Result<Batch, AllocError> {
         for proof in proofs {
-            batch = self.folder.write(rt, batch, self.file_of(proof), proof)?;
+            batch = self.write_one(rt, batch, proof)?;
         }
         for file in [GROUPS, PRICES, self.tree] {
             if !proofs.iter().any(|proof| self.file_of(proof) == file) {

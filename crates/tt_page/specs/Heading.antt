@@ -1,5 +1,5 @@
 -- The head of a page, and its header: the instance's name, whether the timetable breaks a hard rule, its cost, and the sizes.
-use Rattle.std.specs.Prelude.{ℕ, ◌-◌, ◌==◌, List, [], ◌∷◌, ◌++◌, length, flat_map, codes, if◌then◌else◌}
+use Rattle.std.specs.Prelude.{ℕ, ◌-◌, ◌==◌, ◌&&◌, List, [], ◌∷◌, ◌++◌, length, flat_map, codes, if◌then◌else◌}
 use Rattle.tt_text.specs.Pieces.{Text, Number}
 use Rattle.tt_instance.specs.Problem.{Problem}
 use Rattle.tt_instance.specs.Courses.{teachers}
@@ -9,7 +9,7 @@ use Rattle.tt_page_text.specs.Markup.{markup}
 use Rattle.tt_page_lists.specs.Reasons.{next_course}
 use Rattle.tt_page_plan.specs.Names.{name_text}
 use Rattle.tt_page.specs.declared.proved.Proved.{Proved}
-use Rattle.tt_page.specs.declared.proved.Proved.TheVariants.{Unproved, AtLeast, Infeasible, Clique, Slots}
+use Rattle.tt_page.specs.declared.proved.Proved.TheVariants.{Unproved, AtLeast, Infeasible, Clique, Slots, KeptAtLeast, NoneKept}
 
 -- The head of a page up to its title.
 unfoldable pub before_title : List ℕ
@@ -43,6 +43,19 @@ gap_text b gap = markup (
 unfoldable pub least_text : ℕ → List ℕ
 least_text b = markup (Text (codes "<p class=\"proved\">no feasible timetable costs less than ") ∷ Number b ∷ Text (codes " (proved)</p>\n") ∷ [])
 
+-- The line for a timetable whose cost is the bound of those that keep the wishes.
+unfoldable pub best_kept_text : List ℕ
+best_kept_text = codes "<p class=\"proved\">no feasible timetable that keeps the wishes costs less (proved)</p>\n"
+
+-- The line for any other timetable: the bound of all feasible timetables that keep the wishes.
+unfoldable pub least_kept_text : ℕ → List ℕ
+least_kept_text b = markup (
+    Text (codes "<p class=\"proved\">no feasible timetable that keeps the wishes costs less than ") ∷ Number b ∷ Text (codes " (proved)</p>\n") ∷ [])
+
+-- The line for a proof that no feasible timetable keeps the wishes.
+unfoldable pub none_kept_text : List ℕ
+none_kept_text = codes "<p class=\"infeasible\">no feasible timetable keeps the wishes (proved)</p>\n"
+
 -- The line for a proof that no feasible timetable exists.
 unfoldable pub infeasible_text : List ℕ
 infeasible_text = codes "<p class=\"infeasible\">no feasible timetable exists (proved)</p>\n"
@@ -63,6 +76,10 @@ slots_text p cs =
 abbrev pub bound_text : ℕ → ℕ → ℕ → List ℕ
 bound_text h c b = if h == 0 then (if c == b then best_text else gap_text b (c - b)) else least_text b
 
+-- The line for a proved bound of the timetables that keep the wishes, from the timetable's hard count, its cost and the bound.
+abbrev pub kept_text : ℕ → ℕ → ℕ → List ℕ
+kept_text h c b = if (h == 0) && (c == b) then best_kept_text else least_kept_text b
+
 -- The line for what is proved, from the timetable's hard count and its cost; nothing if nothing is proved.
 unfoldable pub proved_text : Problem → Proved → ℕ → ℕ → List ℕ
 proved_text p Unproved h c = []
@@ -70,6 +87,8 @@ proved_text p (AtLeast b) h c = bound_text h c b
 proved_text p Infeasible h c = infeasible_text
 proved_text p (Clique cs) h c = clique_text p cs
 proved_text p (Slots cs) h c = slots_text p cs
+proved_text p (KeptAtLeast b) h c = kept_text h c b
+proved_text p NoneKept h c = none_kept_text
 
 -- The sizes of the instance, and the number of entries of the timetable.
 unfoldable pub sizes_text : Problem → List Cell → List ℕ

@@ -1,3 +1,4 @@
+pub mod Changed
 pub mod Courses
 pub mod Faults
 pub mod Heading

@@ -4,7 +4,7 @@ ghost use Rattle.std.specs.Prelude.{◌≡◌, length};
 ghost use Rattle.tt_rules.specs.Score.{IsScore};
 ghost use Rattle.tt_page_text.specs.Puts.{put_text};
 ghost use Rattle.tt_leaf.specs.Ranges.{AreBelow};
-ghost use Rattle.tt_page.specs.Heading.{head_text, contents_text, verdict_text, best_text, gap_text, least_text, infeasible_text, clique_text, slots_text, bound_text, proved_text, sizes_text, header_text, marks_text, legend_text};
+ghost use Rattle.tt_page.specs.Heading.{head_text, contents_text, verdict_text, best_text, gap_text, least_text, infeasible_text, clique_text, slots_text, best_kept_text, least_kept_text, none_kept_text, bound_text, kept_text, proved_text, sizes_text, header_text, marks_text, legend_text};
 ghost use Rattle.tt_page.specs.Proofs.{IsProvedOf};
 
 use crate::proved::Proved;
@@ -15,7 +15,7 @@ use tt_page_text::{PageText, Part, put, put_token};
 use tt_rules::Score;
 
 /// The text before the title.
-const BEFORE_TITLE: &str =
+pub const BEFORE_TITLE: &str =
     "<!DOCTYPE html>\n<html lang=\"en\">\n<head>\n<meta charset=\"utf-8\">\n<meta name=\"viewport\" content=\"width=device-width, initial-scale=1\">\n<meta name=\"color-scheme\" content=\"light dark\">\n<title>Timetable";
 
 /// Appends the head, with the page's style.
@@ -150,6 +150,47 @@ fn put_slots(out: &mut PageText, instance: &Instance<'_>, courses: &[u32])
     put_token(out, b"</p>\n");
 }
 
+#[tactic(auto, unfolding(crate::specs::Heading::least_kept_text))]
+fn put_least_kept(out: &mut PageText, bound: u64)
+    ensures { out.new ≡ put_text out.old (least_kept_text bound) }
+{
+    put(
+        out,
+        &[
+            Part::Text(
+                "<p class=\"proved\">no feasible timetable that keeps the wishes costs less than ",
+            ),
+            Part::Count(bound),
+            Part::Text(" (proved)</p>\n"),
+        ],
+    );
+}
+
+/// Appends what a proved bound on the costs of timetables that keep the wishes says about the timetable.
+#[tactic(auto, unfolding(crate::specs::Heading::best_kept_text))]
+fn put_kept(out: &mut PageText, hard: u64, cost: u64, bound: u64)
+    ensures { out.new ≡ put_text out.old (kept_text hard cost bound) }
+{
+    if hard == 0 && cost == bound {
+        put_token(
+            out,
+            b"<p class=\"proved\">no feasible timetable that keeps the wishes costs less (proved)</p>\n",
+        );
+    } else {
+        put_least_kept(out, bound);
+    }
+}
+
+#[tactic(auto, unfolding(crate::specs::Heading::none_kept_text))]
+fn put_none_kept(out: &mut PageText)
+    ensures { out.new ≡ put_text out.old none_kept_text }
+{
+    put_token(
+        out,
+        b"<p class=\"infeasible\">no feasible timetable keeps the wishes (proved)</p>\n",
+    );
+}
+
 /// Appends what was proved, for a timetable's hard count and its cost.
 #[tactic(auto, using(tt_page_text::proofs::Growing::puts), unfolding(crate::specs::Heading::proved_text))]
 fn put_proved(out: &mut PageText, instance: &Instance<'_>, proved: &Proved, hard: u64, cost: u64)
@@ -162,6 +203,8 @@ fn put_proved(out: &mut PageText, instance: &Instance<'_>, proved: &Proved, hard
         Proved::Infeasible => put_infeasible(out),
         Proved::Clique(courses) => put_clique(out, instance, courses.as_slice()),
         Proved::Slots(courses) => put_slots(out, instance, courses.as_slice()),
+        Proved::KeptAtLeast(bound) => put_kept(out, hard, cost, *bound),
+        Proved::NoneKept => put_none_kept(out),
     }
 }
 

@@ -1,6 +1,7 @@
 //! The page of a timetable's week: one file of HTML, with nothing from outside.
 #![tactic(auto)]
 
+mod changed;
 mod courses;
 mod fault;
 mod heading;
@@ -10,6 +11,7 @@ mod proved;
 mod sheet;
 mod style;
 
+pub use changed::Moves;
 pub use fault::PageFault;
 pub use look::Look;
 pub use pages::{page, text_of};

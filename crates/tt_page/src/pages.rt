@@ -3,6 +3,7 @@
 ghost use Rattle.std.specs.Prelude.{◌≡◌, ◌≤◌, Err, true, is_ok, if◌then◌else◌, length, OnOk, OnErr, IfOk, MatchResult};
 ghost use Rattle.std.specs.Io.KnownBytes.{Appends};
 ghost use Rattle.tt_table.specs.Table.{IsTimetable};
+ghost use Rattle.tt_changes.specs.Lists.{ChangesInRange};
 ghost use Rattle.tt_rules.specs.Score.{IsScore};
 ghost use Rattle.tt_text.specs.Failures.{is_err_and};
 ghost use Rattle.tt_text.specs.Sinks.{TakesPart};
@@ -11,10 +12,11 @@ ghost use Rattle.tt_page_text.specs.declared.page_text.TheConstants.{MAX_PAGE_BY
 ghost use Rattle.tt_page_text.specs.declared.fault.TextFault.TheVariants as text_fault;
 ghost use Rattle.tt_page.specs.Faults.{ExplainsSize, is_failed_write};
 ghost use Rattle.tt_page.specs.Limits.{IsWithinLimit};
-ghost use Rattle.tt_page.specs.Pages.{counts_text, weeks_text, page_text, shown_text};
+ghost use Rattle.tt_page.specs.Pages.{counts_text, weeks_text, page_text, changed_text, shown_text};
 ghost use Rattle.tt_page.specs.Proofs.{IsProvedOf, IsShownOf};
 ghost use Rattle.tt_page.specs.declared.fault.PageFault.TheVariants as fault;
 
+use crate::changed::{Moves, put_changed_counts, put_changed_head};
 use crate::courses::put_courses;
 use crate::fault::PageFault;
 use crate::heading::{put_head, put_header, put_legend};
@@ -87,6 +89,27 @@ fn put_page(
     put_token(out, b"</main>\n</body>\n</html>\n");
 }
 
+/// Appends the text of a page that says what changed.
+#[tactic(auto, using(tt_page_text::proofs::Growing::puts), unfolding(crate::specs::Pages::changed_text))]
+fn put_changed_page(
+    out: &mut PageText,
+    plan: &Plan<'_, '_>,
+    proved: &Proved,
+    moves: &Moves<'_>,
+    score: &Score,
+    look: &Look<'_>,
+)
+    requires score { IsScore plan.now.problem plan.now.table score.now }
+    requires proved { IsProvedOf plan.now.problem proved.now }
+    requires changes { ChangesInRange plan.now.problem moves.now.changes.now }
+    ensures { out.new ≡ put_text out.old (changed_text plan.now.problem plan.now.table look.now.labels.now moves.now.names.now proved.now moves.now.changes.now look.now.style.now) }
+{
+    put_changed_head(out, plan.instance(), look.style, moves);
+    put_changed_counts(out, plan, look.labels, proved, moves.changes, score);
+    put_weeks(out, plan, look.labels);
+    put_token(out, b"</main>\n</body>\n</html>\n");
+}
+
 /// Appends the text of what is shown.
 fn put_all(
     out: &mut PageText,
@@ -101,6 +124,9 @@ fn put_all(
 {
     match shown {
         Shown::Whole(proved) => put_page(out, plan, proved, score, look),
+        Shown::Changed(proved, moves) => {
+            put_changed_page(out, plan, proved, &moves, score, look);
+        }
         Shown::Only(sheet) => put_sheet(out, plan, sheet, look),
     }
 }

@@ -4,6 +4,7 @@ ghost use Rattle.std.specs.Prelude.{◌≡◌};
 ghost use Rattle.tt_page_text.specs.Puts.{put_text};
 ghost use Rattle.tt_page.specs.Sheets.{sheet_head, sheet_weeks, sheet_text};
 
+use crate::changed::Moves;
 use crate::heading::{put_head, put_marks};
 use crate::look::Look;
 use crate::proved::Proved;
@@ -30,6 +31,8 @@ pub enum Sheet<'a> {
 pub enum Shown<'a> {
     /// All counts, with what is proved, all weeks, the days and the courses.
     Whole(&'a Proved),
+    /// The same, with what changed since an older timetable: a list, and marks in the weeks.
+    Changed(&'a Proved, Moves<'a>),
     /// Some weeks and their legend.
     Only(Sheet<'a>),
 }

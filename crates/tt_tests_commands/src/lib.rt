@@ -4,6 +4,8 @@
 #[cfg(test)]
 mod files;
 #[cfg(test)]
+mod keeping;
+#[cfg(test)]
 mod library;
 #[cfg(test)]
 mod upgrades;

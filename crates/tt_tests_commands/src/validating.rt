@@ -87,13 +87,25 @@ fn validated_with(alloc: Global, solution: &str, wishes: &str) -> Result<Outcome
 
 #[test]
 fn wishes_are_counted_after_the_score(rt: HostRuntime) -> Result<(), Fail> {
-    for (wishes, status, count) in [
-        ("hold a R 0 0\n", 0, 0),
-        ("hold a R 0 1\nclosed * 0 1\nroom b R\n", 1, 2),
+    for (wishes, status, count, err) in [
+        ("hold a R 0 0\n", 0, 0, ""),
+        ("hold a R 0 2\nroom b R\n", 1, 1, ""),
+        (
+            "\nhold a R 0 1\n \nclosed * 0 1\nroom b R\n",
+            1,
+            2,
+            "wishes: lines 2 and 4 clash: no feasible timetable keeps both\n",
+        ),
+        (
+            " hold a R 0 0\r\n\t\nroom b R\n\nhold a R 0 1",
+            1,
+            1,
+            "wishes: line 5: more lectures of its course stay than it has\n",
+        ),
     ] {
         let outcome = validated_with(rt.alloc(), "a R 0 0 b R 0 1", wishes)?;
         let last = format!(in rt.alloc(); "hard 0\ncost 1\nwishes {count}\n")?;
-        assert_eq!(rt; (outcome.status, outcome.err.as_str()), (status, ""));
+        assert_eq!(rt; (outcome.status, outcome.err.as_str()), (status, err));
         assert!(rt; outcome.out.ends_with(last.as_str()), "{}", outcome.out);
     }
     Ok(())

@@ -100,7 +100,12 @@ fn runs_and_ways_to_show_them(rt: HostRuntime) -> Result<(), Fail> {
             (0, "hard 0 cost 1\n", true)
         );
     }
-    for options in [["--runs", "0"].as_slice(), ["--runs", "1001"].as_slice()] {
+    for options in [
+        ["--runs", "0"].as_slice(),
+        ["--runs", "1001"].as_slice(),
+        ["--keep", "--stay", "1"].as_slice(),
+        ["--keep", "--wishes", "a.wishes"].as_slice(),
+    ] {
         let (status, _, has_written) = with_options(rt.alloc(), options)?;
         assert_eq!(rt; (status, has_written), (2, false));
     }

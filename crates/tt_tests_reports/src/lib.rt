@@ -4,6 +4,8 @@
 #[cfg(test)]
 mod buffers;
 #[cfg(test)]
+mod changed_pages;
+#[cfg(test)]
 mod changes;
 #[cfg(test)]
 mod explaining;

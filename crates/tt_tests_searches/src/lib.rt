@@ -4,6 +4,8 @@
 #[cfg(test)]
 mod best;
 #[cfg(test)]
+mod best_kept;
+#[cfg(test)]
 mod counting;
 #[cfg(test)]
 mod ended;

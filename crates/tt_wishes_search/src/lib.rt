@@ -9,6 +9,8 @@ mod prices;
 mod searching;
 mod weight;
 
+pub use breaks::count_all_breaks;
+pub use kept::keeps_all_kept;
 pub use searching::{Wished, improve_wished};
 pub use tt_stay::{Search, Stay};
 pub use weight::{Basis, WishedWeight};

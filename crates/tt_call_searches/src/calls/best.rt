@@ -145,7 +145,7 @@ impl<'w, W: WatchBest> WatchRounds for Answering<'w, W> {
 }
 
 /// Returns the line of a timetable that was found.
-fn found_line(alloc: Global, cost: u64, bound: u64) -> Result<Vec<u8>, AllocError>
+pub fn found_line(alloc: Global, cost: u64, bound: u64) -> Result<Vec<u8>, AllocError>
     ensures { IfOk result (λ out. out.items ≡ best_line cost bound) }
 {
     let mut out = Vec::new(alloc);
@@ -161,7 +161,7 @@ fn found_line(alloc: Global, cost: u64, bound: u64) -> Result<Vec<u8>, AllocErro
 }
 
 /// Returns the line of a bound if no timetable was found.
-fn missing_line(alloc: Global, bound: Bound) -> Result<Vec<u8>, AllocError>
+pub fn missing_line(alloc: Global, bound: Bound) -> Result<Vec<u8>, AllocError>
     ensures { IfOk result (λ out. out.items ≡ none_line bound) }
 {
     let mut out = Vec::new(alloc);
@@ -172,7 +172,7 @@ fn missing_line(alloc: Global, bound: Bound) -> Result<Vec<u8>, AllocError>
 }
 
 /// Returns the page of a timetable with what is proved, unless it is too large.
-fn page_of(
+pub fn page_of(
     alloc: Global,
     instance: &Instance<'_>,
     table: &Timetable,

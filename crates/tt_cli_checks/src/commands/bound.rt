@@ -1,5 +1,6 @@
 //! The files of `bound`.
 
+use crate::kept::{KeptRequest, answer_kept};
 use std::cell::RefCell;
 use std::io::Write;
 use tt_call_checks::bound;
@@ -15,6 +16,15 @@ pub fn answer_bound<R: World, E: Write>(
     err: &mut E,
     request: BoundRequest<'_>,
 ) -> Result<Reply, CommandFault> {
+    if let Some(wishes) = request.wishes {
+        let kept = KeptRequest {
+            instance: request.instance,
+            wishes,
+            solution: None,
+            proofs: &[request.proof],
+        };
+        return answer_kept(rt, err, "bound", kept, request.showing);
+    }
     let alloc = rt.alloc();
     let mut inputs = Inputs::new(alloc);
     let instance = inputs.add(Input::Instance, request.instance)?;

@@ -1,6 +1,7 @@
 //! The files of `check`.
 
 use crate::built_in;
+use crate::kept::{KeptRequest, answer_kept};
 use std::cell::RefCell;
 use std::io::Write;
 use tt_call_checks::check;
@@ -16,6 +17,15 @@ pub fn answer_check<R: World, E: Write>(
     err: &mut E,
     request: CheckRequest<'_>,
 ) -> Result<Reply, CommandFault> {
+    if let Some(wishes) = request.wishes {
+        let kept = KeptRequest {
+            instance: request.instance,
+            wishes,
+            solution: Some(request.solution),
+            proofs: &[request.proof],
+        };
+        return answer_kept(rt, err, "check", kept, request.showing);
+    }
     let alloc = rt.alloc();
     let mut inputs = Inputs::new(alloc);
     let instance = inputs.add(Input::Instance, request.instance)?;

@@ -5,28 +5,37 @@ use std::alloc::Global;
 use std::cell::{Cell, RefCell};
 use std::io::{Error, ErrorKind, Write};
 use tt_call_answers::AppFault;
+use tt_call_changed_page::{ChangedForm, ChangedPageFault, changed_page};
+use tt_call_changes::ChangesFault;
+use tt_call_kept::{KeptFault, KeptFiles};
+use tt_call_kept_page::{PageTexts as KeptTexts, kept_page};
 use tt_call_names::PageNames;
 use tt_call_texts::{PageForm, page, proved_page};
 use tt_cli_arguments::{GivenWeeks, PageRequest};
 use tt_cli_files::{Batch, Draft, Label, OutputFault, Place, Ready, Role, StandardStream, finish};
 use tt_cli_saving::{
     CommandFault, Input, Inputs, LastUnread, Prepared, Reply, Shown, Target, World, Written, clear,
-    fault_over, proof_files, ticker_of,
+    fault_over, proof_files, read_if_given, ticker_of,
 };
 use tt_page::{STYLE, Sheet};
 use tt_text::{Sink, Writing};
 use tt_text_peek::Peek;
+use tt_wishes::WishesFault;
 
 /// What a page shows.
 #[derive(Clone, Copy)]
 struct PageTexts<'a> {
     instance: &'a [u8],
     solution: &'a [u8],
+    /// The solution since which changes are shown, if there is one.
+    older: Option<&'a [u8]>,
+    /// The wishes that the timetables keep of which the bound holds, if there are any.
+    wishes: Option<&'a [u8]>,
     form: PageForm<'a>,
 }
 
 /// Writes a page to a sink, with the bound of the proofs if there are any.
-fn fill_page<P: Peek, W: Sink>(
+fn fill_plain<P: Peek, W: Sink>(
     alloc: Global,
     texts: PageTexts<'_>,
     proofs: &mut [P],
@@ -36,6 +45,7 @@ fn fill_page<P: Peek, W: Sink>(
         instance,
         solution,
         form,
+        ..
     } = texts;
     if proofs.is_empty() {
         page(alloc, instance, solution, form, STYLE, sink)
@@ -44,11 +54,68 @@ fn fill_page<P: Peek, W: Sink>(
     }
 }
 
+/// Writes a page to a sink, with what changed since an older solution if there is one, and with the bound of the proofs if there are any.
+fn fill_page<P: Peek, W: Sink>(
+    alloc: Global,
+    texts: PageTexts<'_>,
+    proofs: &mut [P],
+    sink: &mut W,
+) -> Result<u8, PageFault> {
+    let PageTexts {
+        instance,
+        solution,
+        older,
+        wishes,
+        form,
+    } = texts;
+    let names = form.names;
+    if let Some(older) = older {
+        let form = ChangedForm { older, names };
+        return Ok(changed_page(alloc, instance, solution, form, proofs, STYLE, sink)?);
+    }
+    if let Some(wishes) = wishes {
+        let kept = KeptTexts {
+            files: KeptFiles { instance, wishes },
+            solution,
+            names,
+            style: STYLE,
+        };
+        return Ok(kept_page(alloc, kept, proofs, sink)?);
+    }
+    Ok(fill_plain(alloc, texts, proofs, sink)?)
+}
+
 /// The reason why a page isn't written.
 #[derive(Clone, Copy, Debug)]
 enum PageFault {
     Call(AppFault),
+    Changes(ChangesFault),
+    Wishes(WishesFault),
     Output(OutputFault),
+}
+
+impl From<AppFault> for PageFault {
+    fn from(fault: AppFault) -> PageFault {
+        PageFault::Call(fault)
+    }
+}
+
+impl From<ChangedPageFault> for PageFault {
+    fn from(fault: ChangedPageFault) -> PageFault {
+        match fault {
+            ChangedPageFault::Call(fault) => PageFault::Call(fault),
+            ChangedPageFault::Older(fault) => PageFault::Changes(ChangesFault::Older(fault)),
+        }
+    }
+}
+
+impl From<KeptFault> for PageFault {
+    fn from(fault: KeptFault) -> PageFault {
+        match fault {
+            KeptFault::Call(fault) => PageFault::Call(fault),
+            KeptFault::Wishes(fault) => PageFault::Wishes(fault),
+        }
+    }
 }
 
 impl PageFault {
@@ -56,6 +123,8 @@ impl PageFault {
     fn refused(self, alloc: Global, label: Label, unread: &LastUnread<'_>) -> CommandFault {
         match self {
             PageFault::Call(fault) => fault_over(alloc, fault, unread.get()),
+            PageFault::Changes(fault) => CommandFault::Changes(fault),
+            PageFault::Wishes(fault) => CommandFault::from(KeptFault::Wishes(fault)),
             PageFault::Output(fault) => CommandFault::Write(label.with_fault(fault)),
         }
     }
@@ -76,11 +145,11 @@ fn write_page<R: World, P: Peek, F: Write, E: Write>(
             Ok(()) => Ok(status),
             Err(fault) => Err(PageFault::Output(OutputFault::from(fault))),
         },
-        Err(AppFault::CannotWrite) => {
+        Err(PageFault::Call(AppFault::CannotWrite)) => {
             let fault = written.fault().unwrap_or(Error::from(ErrorKind::WriteZero));
             Err(PageFault::Output(OutputFault::from(fault)))
         }
-        Err(fault) => Err(PageFault::Call(fault)),
+        Err(fault) => Err(fault),
     }
 }
 
@@ -180,7 +249,7 @@ fn put_page<R: World, O: Write, E: Write>(
     shown: &Shown<'_, R, E>,
 ) -> Result<Reply, CommandFault> {
     let unread = Cell::new(None);
-    let mut proofs = proof_files(rt, proofs, shown, &unread)?;
+    let mut proofs = proof_files(rt, proofs, texts.wishes.is_some(), shown, &unread)?;
     let Prepared { label, ready } = output;
     match make_page(rt, ready, texts, &mut proofs, out, shown) {
         Ok(Made::Written(reply)) => Ok(reply),
@@ -225,25 +294,40 @@ fn with_week(alloc: Global, fault: CommandFault, weeks: Option<GivenWeeks<'_>>) 
     }
 }
 
+/// The bytes of the files that a page is made of.
+#[derive(Debug, Drop)]
+struct PageFiles {
+    timetable: TimetableTexts,
+    older: Option<Vec<u8>>,
+    wishes: Option<Vec<u8>>,
+}
+
 /// Reads the files of a page, and tries its output.
 fn open_page<R: World>(
     rt: &R,
     request: &PageRequest<'_>,
-) -> Result<(TimetableTexts, Prepared<R::File>), CommandFault> {
+) -> Result<(PageFiles, Prepared<R::File>), CommandFault> {
     let mut inputs = Inputs::new(rt.alloc());
     let instance = inputs.add(Input::Instance, request.instance)?;
     let solution = inputs.add(Input::Solution, request.solution)?;
+    let older = inputs.add_given(Input::OlderSolution, request.older)?;
+    let wishes = inputs.add_given(Input::Wishes, request.wishes)?;
     inputs.add_proofs(&request.proofs)?;
     let target = Target {
         role: Role::Page,
         path: request.out,
     };
     let out = target.find(rt, &inputs)?;
-    let texts = TimetableTexts {
+    let timetable = TimetableTexts {
         instance: instance.read(rt)?,
         solution: solution.read(rt)?,
     };
-    Ok((texts, out.prepare(rt)?))
+    let files = PageFiles {
+        timetable,
+        older: read_if_given(rt, older)?,
+        wishes: read_if_given(rt, wishes)?,
+    };
+    Ok((files, out.prepare(rt)?))
 }
 
 /// Writes a page to its file, and returns the reply.
@@ -253,10 +337,12 @@ pub fn answer_page<R: World, O: Write, E: Write>(
     err: &mut E,
     request: &PageRequest<'_>,
 ) -> Result<Reply, CommandFault> {
-    let (texts, output) = open_page(rt, request)?;
+    let (files, output) = open_page(rt, request)?;
     let texts = PageTexts {
-        instance: &texts.instance,
-        solution: &texts.solution,
+        instance: &files.timetable.instance,
+        solution: &files.timetable.solution,
+        older: files.older.as_deref(),
+        wishes: files.wishes.as_deref(),
         form: form_of(request),
     };
     let shown = RefCell::new(ticker_of(rt, err, "page", request.showing));

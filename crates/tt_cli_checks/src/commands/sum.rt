@@ -1,5 +1,6 @@
 //! The files of `sum`.
 
+use crate::kept::{KeptRequest, answer_kept};
 use std::cell::{Cell, RefCell};
 use std::io::Write;
 use tt_call_checks::{check_sum, sum};
@@ -19,7 +20,7 @@ fn sum_files<R: World, E: Write>(
 ) -> Result<Reply, CommandFault> {
     let alloc = rt.alloc();
     let unread = Cell::new(None);
-    let mut files = proof_files(rt, proofs, shown, &unread)?;
+    let mut files = proof_files(rt, proofs, false, shown, &unread)?;
     let answer = match solution {
         None => sum(alloc, instance, &mut files),
         Some(solution) => {
@@ -39,6 +40,15 @@ pub fn answer_sum<R: World, E: Write>(
     err: &mut E,
     request: &SumRequest<'_>,
 ) -> Result<Reply, CommandFault> {
+    if let Some(wishes) = request.wishes {
+        let kept = KeptRequest {
+            instance: request.instance,
+            wishes,
+            solution: request.solution,
+            proofs: &request.proofs,
+        };
+        return answer_kept(rt, err, "sum", kept, request.showing);
+    }
     let mut inputs = Inputs::new(rt.alloc());
     let instance = inputs.add(Input::Instance, request.instance)?;
     let solution = inputs.add_given(Input::Solution, request.solution)?;

@@ -1,10 +1,11 @@
 //! The files of `validate`.
 
+use std::io::Write;
 use tt_call_checks::validate;
 use tt_call_json::validate_json;
 use tt_call_wishes::validate_wishes;
 use tt_cli_arguments::ValidateRequest;
-use tt_cli_saving::{CommandFault, Input, Inputs, Reply, World};
+use tt_cli_saving::{CommandFault, Input, Inputs, Reply, World, show_clash};
 
 /// The bytes of the files of `validate`.
 #[derive(Debug, Drop)]
@@ -33,9 +34,10 @@ fn read_texts<R: World>(
     })
 }
 
-/// Returns the answer of `validate`.
-pub fn answer_validate<R: World>(
+/// Returns the answer of `validate`. Wishes that no feasible timetable keeps are named on standard error, but not beside JSON.
+pub fn answer_validate<R: World, E: Write>(
     rt: &R,
+    err: &mut E,
     request: ValidateRequest<'_>,
 ) -> Result<Reply, CommandFault> {
     let alloc = rt.alloc();
@@ -49,7 +51,11 @@ pub fn answer_validate<R: World>(
         return Ok(Reply::to(alloc, answer)?);
     }
     let answer = match wishes {
-        Some(wishes) => validate_wishes(alloc, &instance, &solution, &wishes)?,
+        Some(wishes) => {
+            let answer = validate_wishes(alloc, &instance, &solution, &wishes)?;
+            show_clash(alloc, err, &instance, &wishes);
+            answer
+        }
         None => validate(alloc, &instance, &solution)?,
     };
     Ok(Reply::to(alloc, answer)?)

@@ -2,20 +2,21 @@
 
 use crate::best_files::{BestFiles, BestShelf, PAGE, PARTIAL, TABLE, TREE};
 use crate::best_keeper::BestKeeper;
+use crate::kept_reasons::FailedKept;
 use crate::proof_files::{GROUPS, PRICES};
 use crate::reasons::Failed;
 use crate::saving::kept_table;
 use std::alloc::{AllocError, Global};
 use std::cell::Cell;
 use std::io::Write;
-use tt_call_answers::AppFault;
+use tt_call_best_kept::{KeptFiles, best_kept};
 use tt_call_names::PageNames;
 use tt_call_searches::{BestAnswer, BestSearch, best};
 use tt_cli_arguments::BestRequest;
 use tt_cli_files::Batch;
 use tt_cli_saving::{
-    CommandFault, Folder, Input, InputFile, Inputs, Keeper, Prepared, Reply, Ticker, World,
-    reply_with, ticker_of,
+    CommandFault, Folder, Input, InputFile, Inputs, Keeper, Prepared, Reply, Ticker, WISHES_LINE,
+    World, read_if_given, reply_with, ticker_of,
 };
 use tt_page::STYLE;
 use tt_text_peek::{FileKind, kind_of_front};
@@ -24,23 +25,34 @@ use tt_text_peek::{FileKind, kind_of_front};
 #[derive(Debug, Drop)]
 struct Texts {
     instance: Vec<u8>,
+    wishes: Option<Vec<u8>>,
     table: Option<Vec<u8>>,
     /// The proofs of an earlier run.
     proofs: Vec<Vec<u8>>,
+}
+
+/// The bytes of an instance, and of wishes, if there are any.
+#[derive(Clone, Copy)]
+struct Given<'a> {
+    instance: &'a [u8],
+    wishes: Option<&'a [u8]>,
 }
 
 /// Searches, shows the progress on standard error, and keeps what was found on the way if the options ask for it.
 fn search_shown<'k, R: World, E: Write>(
     files: &'k BestFiles<'_, R>,
     ticker: &'k mut Ticker<'_, R, E>,
-    instance: &'k [u8],
+    given: Given<'k>,
     table: &'k mut Prepared<R::File>,
     search: BestSearch<'_>,
     request: BestRequest<'_>,
-) -> Result<BestAnswer, AppFault> {
+) -> Result<BestAnswer, CommandFault> {
     let (rt, asked) = (files.rt, request.search);
+    let Given { instance, wishes } = given;
     let alloc = rt.alloc();
-    let kept = kept_table(alloc, instance, table, asked.keeps, true);
+    // A timetable on the way may break wishes, so under wishes only answers are kept.
+    let keeps_tables = asked.keeps && wishes.is_none();
+    let kept = kept_table(alloc, instance, table, keeps_tables, true);
     let shelf = BestShelf { files: &*files };
     let keeper = Keeper::new(rt, ticker, asked.seconds, kept, shelf, asked.keeps);
     let mut keeper = BestKeeper::new(keeper, &*files, asked.keeps);
@@ -48,11 +60,29 @@ fn search_shown<'k, R: World, E: Write>(
         days: request.names.days,
         periods: request.names.periods,
     };
-    best(alloc, instance, search, names, STYLE, &mut keeper)
+    match wishes {
+        Some(wishes) => {
+            let files = KeptFiles { instance, wishes };
+            Ok(best_kept(alloc, files, search, names, STYLE, &mut keeper)?)
+        }
+        None => Ok(best(alloc, instance, search, names, STYLE, &mut keeper)?),
+    }
+}
+
+/// Returns the text of a proof without the line that it holds under wishes, if that may be there.
+fn proof_in(alloc: Global, text: Vec<u8>, is_under_wishes: bool) -> Result<Vec<u8>, AllocError> {
+    match text.strip_prefix(&WISHES_LINE) {
+        Some(proof) if is_under_wishes => Vec::from_slice(alloc, proof),
+        _ => Ok(text),
+    }
 }
 
 /// Reads the proofs that an earlier run left in the folder; a file that can't be read is passed over.
-fn read_proofs<R: World>(rt: &R, folder: Folder<'_>) -> Result<Vec<Vec<u8>>, CommandFault> {
+fn read_proofs<R: World>(
+    rt: &R,
+    folder: Folder<'_>,
+    is_under_wishes: bool,
+) -> Result<Vec<Vec<u8>>, CommandFault> {
     let mut proofs = Vec::new(rt.alloc());
     for file in [GROUPS, PRICES, TREE] {
         let path = folder.path_of(rt, file)?;
@@ -61,7 +91,10 @@ fn read_proofs<R: World>(rt: &R, folder: Folder<'_>) -> Result<Vec<Vec<u8>>, Com
             path: path.as_str(),
         };
         match input.read(rt) {
-            Ok(text) => proofs.push(text).map_err(AllocError::from)?,
+            Ok(text) => {
+                let proof = proof_in(rt.alloc(), text, is_under_wishes)?;
+                proofs.push(proof).map_err(AllocError::from)?;
+            }
             Err(CommandFault::OutOfMemory) => return Err(CommandFault::OutOfMemory),
             Err(_fault) => {}
         }
@@ -73,10 +106,20 @@ fn read_proofs<R: World>(rt: &R, folder: Folder<'_>) -> Result<Vec<Vec<u8>>, Com
 fn say_why<E: Write>(
     alloc: Global,
     err: &mut E,
-    instance: &[u8],
-    proofs: &[Vec<u8>],
+    given: Given<'_>,
+    answer: &BestAnswer,
 ) -> Result<(), AllocError> {
-    let tree = proofs
+    let Given { instance, wishes } = given;
+    if let (Some(wishes), Some(partial)) = (wishes, &answer.partial) {
+        let failed = FailedKept {
+            instance,
+            wishes,
+            partial,
+        };
+        return failed.say_why(alloc, err);
+    }
+    let tree = answer
+        .proofs
         .iter()
         .find(|proof| kind_of_front(proof) == FileKind::Tree);
     let failed = Failed {
@@ -104,11 +147,12 @@ fn find_best<R: World, E: Write>(
         None => false,
     };
     if texts.table.is_some() {
-        texts.proofs = read_proofs(rt, folder)?;
+        texts.proofs = read_proofs(rt, folder, request.wishes.is_some())?;
     }
     let files = BestFiles {
         rt: &*rt,
         folder,
+        is_under_wishes: request.wishes.is_some(),
         has_table: Cell::new(is_own),
         has_proofs: Cell::new(false),
     };
@@ -119,15 +163,18 @@ fn find_best<R: World, E: Write>(
         start: texts.table.as_ref().map(|text| text.as_slice()),
         proofs: &texts.proofs,
     };
-    let instance = texts.instance.as_slice();
+    let given = Given {
+        instance: &texts.instance,
+        wishes: texts.wishes.as_ref().map(|text| text.as_slice()),
+    };
     let answer = {
         let mut ticker = ticker_of(rt, err, "best", request.showing);
-        let answer = search_shown(&files, &mut ticker, instance, &mut table, search, request);
+        let answer = search_shown(&files, &mut ticker, given, &mut table, search, request);
         ticker.clear();
         answer?
     };
     if answer.table.is_none() {
-        say_why(rt.alloc(), err, instance, &answer.proofs)?;
+        say_why(rt.alloc(), err, given, &answer)?;
     }
     let batch = files.write(Batch::new(rt.alloc()), &answer, &mut table)?;
     reply_with(rt, batch, answer.status, answer.out)
@@ -141,15 +188,14 @@ pub fn answer_best<R: World, E: Write>(
 ) -> Result<Reply, CommandFault> {
     let mut inputs = Inputs::new(rt.alloc());
     let instance = inputs.add(Input::Instance, request.instance)?;
+    let wishes = inputs.add_given(Input::Wishes, request.wishes)?;
     // The timetable from which the search begins may be the one that it replaces, so it isn't among the inputs.
     let mut starts = inputs.copy()?;
     let start = starts.add_given(Input::Solution, request.start)?;
     let texts = Texts {
         instance: instance.read(rt)?,
-        table: match start {
-            Some(file) => Some(file.read(rt)?),
-            None => None,
-        },
+        wishes: read_if_given(rt, wishes)?,
+        table: read_if_given(rt, start)?,
         proofs: Vec::new(rt.alloc()),
     };
     let folder = Folder {

@@ -11,8 +11,8 @@ use tt_call_wished::{Search as WishedSearch, WishedFiles, improve_under_wishes};
 use tt_cli_arguments::{ImproveRequest, Search};
 use tt_cli_files::{Batch, Role};
 use tt_cli_saving::{
-    CommandFault, Input, InputFile, Inputs, Keeper, NoShelf, Prepared, Reply, Target, Ticker,
-    World, reply_with, ticker_of,
+    CommandFault, Input, Inputs, Keeper, NoShelf, Prepared, Reply, Target, Ticker, World,
+    read_if_given, reply_with, show_clash, ticker_of,
 };
 use tt_watch::Watch;
 
@@ -84,17 +84,6 @@ fn improve_shown<'k, R: World, E: Write>(
     Ok(improve(alloc, start.instance, start.solution, search, &mut keeper)?)
 }
 
-/// Returns the bytes of a file, if there is one.
-fn read_if_given<R: World>(
-    rt: &R,
-    file: Option<InputFile<'_>>,
-) -> Result<Option<Vec<u8>>, CommandFault> {
-    match file {
-        Some(file) => Ok(Some(file.read(rt)?)),
-        None => Ok(None),
-    }
-}
-
 /// Returns the answer of `improve`, once the timetable is in its file.
 pub fn answer_improve<R: World, E: Write>(
     rt: &R,
@@ -116,6 +105,9 @@ pub fn answer_improve<R: World, E: Write>(
     let mut out = out.prepare(rt)?;
     if request.search.drops {
         solution = drop_and_list(rt.alloc(), err, &instance, &solution)?;
+    }
+    if let Some(wishes) = &wishes {
+        show_clash(rt.alloc(), err, &instance, wishes);
     }
     let start = Start {
         instance: &instance,

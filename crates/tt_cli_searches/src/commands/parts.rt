@@ -101,6 +101,7 @@ fn write_found<R: World, E: Write>(
     let proofs = ProofFolder {
         folder,
         tree: ROOMS,
+        is_under_wishes: false,
     };
     let mut ticker = ticker_of(rt, err, "parts", request.showing);
     let answer = find_shown(rt, &mut ticker, read, proofs, request.search);

@@ -1,0 +1,2 @@
+pub mod BestKept
+pub mod Inner

@@ -1,0 +1,2 @@
+pub mod ChangedPaged
+pub mod Said

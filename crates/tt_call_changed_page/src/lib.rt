@@ -1,0 +1,8 @@
+//! The call that writes a page with what changed since an older solution.
+#![tactic(auto)]
+
+mod calls;
+mod fault;
+
+pub use calls::changed_page::{ChangedForm, changed_page};
+pub use fault::ChangedPageFault;

@@ -1,0 +1,62 @@
+//! Words on why no timetable was found that keeps wishes.
+
+use std::alloc::{AllocError, Global};
+use std::io::Write;
+use tt_inspect::explain_shortages;
+use tt_instance::Instance;
+use tt_instance_read::read_instance;
+use tt_rules::score;
+use tt_table::read_solution;
+use tt_wishes::{broken_wishes, read_wishes};
+
+/// The line of a search whose timetable can't be read again.
+const UNKNOWN: &str =
+    "not known: no timetable was found that breaks neither a hard rule nor a wish\n";
+
+/// A search that found no timetable that keeps wishes, and the one that it has.
+#[derive(Clone, Copy)]
+pub struct FailedKept<'a> {
+    /// The bytes of the instance.
+    pub instance: &'a [u8],
+    pub wishes: &'a [u8],
+    /// The text of the timetable that breaks hard rules or wishes.
+    pub partial: &'a [u8],
+}
+
+impl<'a> FailedKept<'a> {
+    /// Says how often the timetable breaks hard rules and wishes; nothing if it can't be read.
+    fn count(&self, alloc: Global, instance: &Instance<'_>) -> Result<Option<String>, AllocError> {
+        let Ok(wishes) = read_wishes(alloc, instance, self.wishes) else {
+            return Ok(None);
+        };
+        let Ok(table) = read_solution(alloc, instance, self.partial) else {
+            return Ok(None);
+        };
+        let hard = score(instance, &table).hard();
+        let (broken, all) = (broken_wishes(&table, &wishes), wishes.len());
+        let text = format!(in alloc;
+            "the partial timetable breaks hard rules {hard} times and {broken} of {all} wishes\n"
+        )?;
+        Ok(Some(text))
+    }
+
+    /// Returns the reason in words: a shortage of the instance itself, or else what the timetable breaks.
+    fn explain(&self, alloc: Global) -> Result<String, AllocError> {
+        if let Ok(instance) = read_instance(alloc, self.instance) {
+            if let Some(text) = explain_shortages(alloc, &instance)? {
+                return Ok(text);
+            }
+            if let Some(text) = self.count(alloc, &instance)? {
+                return Ok(text);
+            }
+        }
+        String::from_str(alloc, UNKNOWN)
+    }
+
+    /// Says the reason on standard error. A failed write has no effect.
+    pub fn say_why<E: Write>(&self, alloc: Global, err: &mut E) -> Result<(), AllocError> {
+        let text = self.explain(alloc)?;
+        let _ = err.write_all(text.as_bytes());
+        Ok(())
+    }
+}

@@ -1,0 +1,14 @@
+//! A search for the best timetable that keeps wishes, together with proofs of a lower bound for those that do.
+#![tactic(auto)]
+
+mod bounds;
+mod comparing;
+mod searching;
+mod trying;
+mod watch;
+mod wishing;
+
+pub use searching::find_best_kept;
+pub use tt_best::{Rounds, Start, Week};
+pub use watch::WatchKept;
+pub use wishing::Wishing;

@@ -1,0 +1,133 @@
+//! Tries for a better timetable.
+
+ghost use Rattle.std.specs.Prelude.{IfOk};
+ghost use Rattle.tt_table.specs.Table.{IsTimetable};
+ghost use Rattle.tt_best.specs.Weeks.{IsWeek};
+ghost use Rattle.tt_wishes_best.specs.Kept.{IsNarrowing, IsNoWorse};
+
+use crate::comparing::better_of;
+use crate::wishing::Wishing;
+use std::alloc::{AllocError, Global};
+use tt_best::{Aiming, Week};
+use tt_leaf::Bound;
+use tt_search::{Search, improve};
+use tt_table::Timetable;
+use tt_watch::Watch;
+use tt_wishes_search::{Basis, Search as WishedSearch, Stay, Wished, improve_wished};
+
+/// The number of steps and of runs of a search that repairs a timetable.
+const REPAIR_STEPS: u64 = 200_000;
+
+const REPAIR_RUNS: u64 = 3;
+
+/// No price for lectures that leave their places.
+const FREE: Stay = Stay { period: 0, room: 0 };
+
+/// Searches from a timetable for one that breaks hard rules and wishes less often, or equally often at a lower cost.
+fn repair<W: Watch>(
+    alloc: Global,
+    wishing: Wishing<'_, '_>,
+    start: Timetable,
+    seed: u64,
+    watch: &mut W,
+) -> Result<Timetable, AllocError>
+    requires { IsTimetable wishing.instance.now start }
+    ensures { IfOk result (IsTimetable wishing.entry.instance.now) }
+{
+    let older = start.copy()?;
+    let basis = Basis {
+        wishes: wishing.wishes,
+        older: &older,
+    };
+    let search = WishedSearch {
+        seed,
+        steps: REPAIR_STEPS,
+        runs: REPAIR_RUNS,
+        stay: FREE,
+    };
+    let Wished { table, weight: _ } = improve_wished(
+        alloc,
+        wishing.instance,
+        basis,
+        start,
+        search,
+        watch,
+    )?;
+    Ok(table)
+}
+
+/// Searches from a timetable for one that costs less in the narrowed instance, until its cost is the bound.
+#[tactic(auto, using(crate::proofs::Narrowing::table_of_narrowed, crate::proofs::Narrowing::table_of_instance))]
+fn improve_narrowed<W: Watch>(
+    alloc: Global,
+    wishing: Wishing<'_, '_>,
+    start: Timetable,
+    search: Search,
+    bound: Bound,
+    watch: &mut W,
+) -> Result<Timetable, AllocError>
+    requires narrow { IsNarrowing wishing }
+    requires start { IsTimetable wishing.instance.now start }
+    ensures { IfOk result (IsTimetable wishing.entry.instance.now) }
+{
+    let Search { seed, steps } = search;
+    let mut aiming = Aiming::new(bound, watch);
+    improve(alloc, wishing.narrow, start, seed, steps, &mut aiming)
+}
+
+/// Searches for a better timetable in the narrowed instance.
+fn try_narrowed<W: Watch>(
+    alloc: Global,
+    wishing: Wishing<'_, '_>,
+    table: Timetable,
+    search: Search,
+    bound: Bound,
+    watch: &mut W,
+) -> Result<Timetable, AllocError>
+    requires narrow { IsNarrowing wishing }
+    requires table { IsTimetable wishing.instance.now table }
+    ensures table { IfOk result (IsTimetable wishing.entry.instance.now) }
+    ensures no_worse { IfOk result (IsNoWorse wishing.entry.instance.now wishing.entry.wishes.now table) }
+{
+    let start = table.copy()?;
+    let found = improve_narrowed(alloc, wishing, start, search, bound, watch)?;
+    let repaired = repair(alloc, wishing, found, search.seed, watch)?;
+    Ok(better_of(wishing, table, repaired))
+}
+
+/// Repairs a timetable.
+pub fn try_repair<W: Watch>(
+    alloc: Global,
+    wishing: Wishing<'_, '_>,
+    table: Timetable,
+    seed: u64,
+    watch: &mut W,
+) -> Result<Timetable, AllocError>
+    requires { IsTimetable wishing.instance.now table }
+    ensures table { IfOk result (IsTimetable wishing.entry.instance.now) }
+    ensures no_worse { IfOk result (IsNoWorse wishing.entry.instance.now wishing.entry.wishes.now table) }
+{
+    let start = table.copy()?;
+    let repaired = repair(alloc, wishing, start, seed, watch)?;
+    Ok(better_of(wishing, table, repaired))
+}
+
+/// Searches for a better timetable: in the narrowed instance, and by repairs of the best one.
+#[tactic(auto, using(crate::proofs::Narrowing::table_of_narrowed, crate::proofs::Narrowing::table_of_instance))]
+pub fn improve_week<W: Watch>(
+    alloc: Global,
+    wishing: Wishing<'_, '_>,
+    week: Week,
+    search: Search,
+    watch: &mut W,
+) -> Result<Week, AllocError>
+    requires narrow { IsNarrowing wishing }
+    requires week { IsWeek wishing.narrow.now week }
+    ensures week { IfOk result (IsWeek wishing.entry.narrow.now) }
+    ensures no_worse { IfOk result (λ w. IsNoWorse wishing.entry.instance.now wishing.entry.wishes.now week.table w.table) }
+{
+    let Week { table, parts } = week;
+    let found = try_narrowed(alloc, wishing, table, search, parts.bound, watch)?;
+    let table = try_repair(alloc, wishing, found, search.seed.wrapping_add(1), watch)?;
+    Ok(Week { table, parts })
+}
