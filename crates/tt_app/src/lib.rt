@@ -15,6 +15,7 @@ pub use tt_call_searches::{
     BestAnswer, BestSearch, Effort, ImproveSearch, PartsAnswer, TreeEffort, WatchBest, best,
     improve, parts, solve,
 };
+pub use tt_call_solve_kept::solve_kept;
 pub use tt_call_texts::{PageForm, WeekTimes, calendar, inspect, page, proved_page, report, table};
 pub use tt_call_wished::{WishedFault, WishedFiles, improve_under_wishes};
 pub use tt_call_wishes::{ValidateFault, validate_wishes};

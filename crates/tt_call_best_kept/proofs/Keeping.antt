@@ -6,11 +6,10 @@ use Rattle.tt_wishes.specs.declared.wish.Wish.{Wish}
 use Rattle.tt_wishes_narrow.specs.Narrowed.{narrowed}
 use Rattle.tt_wishes_narrow.proofs.Keeping.{stays_feasible}
 use Rattle.tt_leaf.specs.declared.leaf.Bound.{Bound}
-use Rattle.tt_page.specs.Proofs.{IsProvedOf, kept_of}
 use Rattle.tt_leaf.specs.declared.leaf.Bound.TheVariants as bound
 use Rattle.tt_proof_check.specs.Derives.{HoldsOfAll}
 use Rattle.tt_proof_sum.specs.Sums.{IsSum}
-use Rattle.tt_call_best_kept.specs.Inner.Steps.{BreaksNothing}
+use Rattle.tt_call_best_kept.specs.BestKept.{BreaksNothing}
 use Rattle.tt_call_kept.specs.Kept.{HoldsOfKept}
 
 -- a bound of the narrowed instance holds of the timetables that keep the wishes
@@ -32,8 +31,3 @@ pub some_kept : (p n : Problem) (ws : List Wish) (t : List Cell) (b : Bound) →
 some_kept p n ws t b is holds unbroken none =
     let here = subst (λ (x : Bound). HoldsOfAll n x) none holds in
     holds_of_kept p n ws bound.Nothing is here t unbroken.0 unbroken.1
-
--- such a page names no courses
-pub proved_of_kept : (p : Problem) (b : Bound) → IsProvedOf p (kept_of b)
-proved_of_kept p (bound.AtLeast b) = tt
-proved_of_kept p bound.Nothing = tt

@@ -30,6 +30,10 @@ use Rattle.tt_call_kept.specs.declared.fault.KeptFault.{KeptFault}
 use Rattle.tt_call_kept.specs.declared.fault.KeptFault.TheVariants as fault
 use Rattle.tt_call_kept.specs.declared.files.KeptFiles.{KeptFiles}
 
+-- The timetable breaks neither a hard rule nor a wish.
+abbrev pub BreaksNothing : Problem → List Wish → List Cell → Type 0
+BreaksNothing p ws t = IsFeasible p t × (broken_wishes t ws ≡ 0)
+
 -- ---- answers
 
 -- The solution breaks neither a hard rule nor a wish, and its cost is the one in the line. The proofs add up to the bound in the line for the

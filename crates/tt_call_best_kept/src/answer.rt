@@ -10,9 +10,8 @@ ghost use Rattle.tt_best.specs.Weeks.{IsWeek};
 ghost use Rattle.tt_wishes_best.specs.Kept.{IsNarrowing};
 ghost use Rattle.tt_call_answers.specs.Lines.{best_line, none_line};
 ghost use Rattle.tt_call_searches.specs.Best.{ShowsPage};
-ghost use Rattle.tt_call_best_kept.specs.BestKept.{IsBestKeptFound, IsBestKeptOf, IsNoneKept};
+ghost use Rattle.tt_call_best_kept.specs.BestKept.{BreaksNothing, IsBestKeptFound, IsBestKeptOf, IsNoneKept};
 ghost use Rattle.tt_call_kept.specs.Kept.{kept_line};
-ghost use Rattle.tt_call_best_kept.specs.Inner.Steps.{BreaksNothing};
 
 use std::alloc::{AllocError, Global};
 use tt_call_checks::put_count;
@@ -27,7 +26,7 @@ use tt_wishes::{Wish, broken_wishes};
 use tt_wishes_best::{Week, Wishing};
 
 /// Writes the line of the number of wishes.
-fn put_wishes(out: &mut Vec<u8>, wishes: &[Wish]) -> Result<(), AllocError>
+pub fn put_wishes(out: &mut Vec<u8>, wishes: &[Wish]) -> Result<(), AllocError>
     ensures { OnOk result (out.new.items ≡ out.old.items ++ kept_line (length wishes.now)) }
 {
     put_count(out, b"kept", wishes.len() as u64)
@@ -52,7 +51,7 @@ fn missing_text(alloc: Global, bound: Bound, wishes: &[Wish]) -> Result<Vec<u8>,
 }
 
 /// Returns the page of a timetable with a bound of those that keep wishes, unless it is too large.
-#[tactic(auto, using(crate::proofs::Keeping::proved_of_kept))]
+#[tactic(auto, using(tt_page::proofs::Kept::proved_of_kept))]
 fn kept_page(
     alloc: Global,
     instance: &Instance<'_>,
@@ -68,7 +67,7 @@ fn kept_page(
 }
 
 /// Checks whether a timetable breaks neither a hard rule nor a wish.
-fn breaks_nothing(wishing: Wishing<'_, '_>, table: &Timetable) -> bool
+pub fn breaks_nothing(wishing: Wishing<'_, '_>, table: &Timetable) -> bool
     requires { IsTimetable wishing.instance.now table.now }
     ensures { IsTrue result ↔ BreaksNothing wishing.entry.instance.now wishing.entry.wishes.now table.now }
 {

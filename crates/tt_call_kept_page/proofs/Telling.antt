@@ -15,8 +15,7 @@ use Rattle.tt_table.specs.declared.fault.SolutionFault.TheVariants as solution
 use Rattle.tt_leaf.specs.declared.leaf.Bound.{Bound}
 use Rattle.tt_page.specs.Faults.{ExplainsSize}
 use Rattle.tt_page.specs.Pages.{page_text}
-use Rattle.tt_page.specs.Proofs.{IsProvedOf, kept_of}
-use Rattle.tt_leaf.specs.declared.leaf.Bound.TheVariants as bound
+use Rattle.tt_page.specs.Proofs.{kept_of}
 use Rattle.tt_page.specs.declared.fault.PageFault.{PageFault}
 use Rattle.tt_page.specs.declared.fault.PageFault.TheVariants as page
 use Rattle.tt_page_text.specs.Labelled.{Labelled}
@@ -41,11 +40,6 @@ use Rattle.tt_call_kept.specs.declared.fault.KeptFault.TheVariants as fault
 use Rattle.tt_call_names.specs.Names.{labels_for}
 use Rattle.tt_call_kept_page.specs.Paged.{IsKeptPageRefusal}
 use Rattle.tt_call_kept_page.specs.declared.paging.PageTexts.{PageTexts}
-
--- such a page names no courses
-pub proved_of_kept : (p : Problem) (b : Bound) → IsProvedOf p (kept_of b)
-proved_of_kept p (bound.AtLeast b) = tt
-proved_of_kept p bound.Nothing = tt
 
 module _ (a : PageTexts) (gives : List (List ℕ) → Type 0) (before after : Option (List ℕ)) where
   -- an error of the instance is reported

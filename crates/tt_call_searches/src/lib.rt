@@ -7,5 +7,5 @@ pub use calls::best::{BestAnswer, BestSearch, WatchBest, best, found_line, missi
 pub use calls::given::read_given;
 pub use calls::improve::{ImproveSearch, improve};
 pub use calls::parts::{PartsAnswer, parts};
-pub use calls::solve::{TreeEffort, solve};
+pub use calls::solve::{TreeEffort, least_text, line_of, solve};
 pub use tt_parts::Effort;

@@ -4,7 +4,7 @@ use crate::arguments::Request;
 use crate::description::{Argument, Description, Form, Range};
 use crate::files::INSTANCE;
 use crate::pages::{DAYS, GivenNames, PERIODS, names_of};
-use crate::searches::{SEED, TIME};
+use crate::searches::{ALL_KEPT, SEED, TIME};
 use crate::showing::{PROGRESS, QUIET, Showing, showing_of};
 use clap::ArgMatches;
 
@@ -66,14 +66,6 @@ const START: Argument<'static> = Argument {
     id: "from",
     form: Form::Value("SOLUTION"),
     help: "A timetable from which the search begins; it takes up the proofs in OUTDIR too, if they still hold",
-    condition: None,
-};
-
-/// What the timetable is to keep besides the hard rules.
-const ALL_KEPT: Argument<'static> = Argument {
-    id: "wishes",
-    form: Form::Value("WISHES"),
-    help: "What the timetable is to keep besides the hard rules, as validate takes it; only one that keeps all of it counts as found, and the bound is one of these",
     condition: None,
 };
 

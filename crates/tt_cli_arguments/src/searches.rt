@@ -70,6 +70,8 @@ pub struct SolveRequest<'a> {
     pub instance: &'a str,
     pub out: &'a str,
     pub proof: &'a str,
+    /// What the timetable is to keep besides the hard rules, if that is given.
+    pub wishes: Option<&'a str>,
     pub search: TreeSearch,
     pub showing: Showing,
 }
@@ -183,6 +185,14 @@ const KEPT_WISHES: Argument<'static> = Argument {
     condition: Some(Condition::ConflictsWith(&["keep"])),
 };
 
+/// What the timetable is to keep besides the hard rules, where only one that keeps all of it counts as found.
+pub const ALL_KEPT: Argument<'static> = Argument {
+    id: "wishes",
+    form: Form::Value("WISHES"),
+    help: "What the timetable is to keep besides the hard rules, as validate takes it; only one that keeps all of it counts as found, and the bound is one of these",
+    condition: None,
+};
+
 /// The proof that is written.
 const NEW_PROOF: Argument<'static> = Argument {
     id: "PROOF",
@@ -220,7 +230,7 @@ pub const SOLVE: Description<'static> = Description {
     about: "Searches for a best timetable, and writes it with a proof of a lower bound",
     example: "Example: tt solve week.ctt week.sol week.proof --nodes 5000",
     arguments: &[
-        INSTANCE, OUT, NEW_PROOF, SEED, NODES, TIME, KEEP_BOTH, PROGRESS, QUIET,
+        INSTANCE, OUT, NEW_PROOF, ALL_KEPT, SEED, NODES, TIME, KEEP_BOTH, PROGRESS, QUIET,
     ],
 };
 
@@ -278,6 +288,7 @@ pub fn solve_request<'a>(found: &ArgMatches<'a>) -> Option<Request<'a>> {
         instance: found.get_str("INSTANCE")?,
         out: found.get_str("OUT")?,
         proof: found.get_str("PROOF")?,
+        wishes: found.get_str("wishes"),
         search: tree_search(found)?,
         showing: showing_of(found),
     }))

@@ -5,12 +5,14 @@ mod best_files;
 mod best_keeper;
 mod commands;
 mod dropping;
+mod given;
 mod kept_reasons;
 mod near;
 mod partial;
 mod proof_files;
 mod reasons;
 mod saving;
+mod tree_files;
 
 pub use commands::best::answer_best;
 pub use commands::improve::answer_improve;

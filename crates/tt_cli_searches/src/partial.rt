@@ -1,9 +1,12 @@
-//! The files for a timetable of `solve` that breaks hard rules: they are next to the output of the best timetable, so that an older one stays.
+//! The files for a timetable of `solve` that breaks hard rules or wishes: they are next to the output of the best timetable, so that an older one stays.
 
+use crate::given::Given;
 use std::alloc::{AllocError, Global};
 use std::io::Write;
 use tt_call_answers::{Answer, AppFault};
+use tt_call_kept_page::{PageTexts, kept_page};
 use tt_call_names::UNNAMED;
+use tt_call_solve_kept::KeptFiles;
 use tt_call_texts::proved_page;
 use tt_cli_files::{Batch, Role};
 use tt_cli_saving::{CommandFault, Inputs, Prepared, Target, World};
@@ -33,16 +36,41 @@ const PAGE: Beside = Beside {
     end: ".partial.html",
 };
 
-/// Returns the page of an answer's timetable, with what its proof proves; none if the answer has none of them.
-fn page_of(alloc: Global, instance: &[u8], answer: &Answer) -> Result<Option<Vec<u8>>, AppFault> {
-    let (Some(table), Some(proof)) = (&answer.table, &answer.proof) else {
-        return Ok(None);
-    };
+/// Returns the page of a timetable, with what a proof proves: for the timetables that keep the wishes, if there are any.
+fn proof_page(
+    alloc: Global,
+    given: Given<'_>,
+    table: &[u8],
+    proof: &[u8],
+) -> Result<Vec<u8>, CommandFault> {
     let mut proofs = [Peeked::new(alloc, Pieces::new(proof, PIECE_BYTES, 0))];
     let mut page = Vec::new(alloc);
     let sink = &mut Writing::new(&mut page);
-    proved_page(alloc, instance, table, UNNAMED, &mut proofs, STYLE, sink)?;
-    Ok(Some(page))
+    let Given { instance, wishes } = given;
+    let Some(wishes) = wishes else {
+        proved_page(alloc, instance, table, UNNAMED, &mut proofs, STYLE, sink)?;
+        return Ok(page);
+    };
+    let texts = PageTexts {
+        files: KeptFiles { instance, wishes },
+        solution: table,
+        names: UNNAMED,
+        style: STYLE,
+    };
+    kept_page(alloc, texts, &mut proofs, sink)?;
+    Ok(page)
+}
+
+/// Returns the page of an answer's timetable, with what its proof proves; none if the answer has none of them.
+fn page_of(
+    alloc: Global,
+    given: Given<'_>,
+    answer: &Answer,
+) -> Result<Option<Vec<u8>>, CommandFault> {
+    let (Some(table), Some(proof)) = (&answer.table, &answer.proof) else {
+        return Ok(None);
+    };
+    Ok(Some(proof_page(alloc, given, table, proof)?))
 }
 
 /// The place for these files.
@@ -103,12 +131,15 @@ impl<'a, 'i, R: World> PartialFiles<'a, 'i, R> {
     fn make_page<E: Write>(
         &self,
         err: &mut E,
-        instance: &[u8],
+        given: Given<'_>,
         answer: &Answer,
     ) -> Result<Option<Vec<u8>>, AllocError> {
-        match page_of(self.rt.alloc(), instance, answer) {
+        match page_of(self.rt.alloc(), given, answer) {
             Ok(page) => Ok(page),
-            Err(AppFault::OutOfMemory | AppFault::CannotWrite) => Err(AllocError),
+            Err(
+                CommandFault::OutOfMemory
+                | CommandFault::Call(AppFault::OutOfMemory | AppFault::CannotWrite),
+            ) => Err(AllocError),
             Err(fault) => {
                 let _ = writeln!(err, "left out: {fault}");
                 Ok(None)
@@ -120,10 +151,10 @@ impl<'a, 'i, R: World> PartialFiles<'a, 'i, R> {
     pub fn write<E: Write>(
         &self,
         err: &mut E,
-        instance: &[u8],
+        given: Given<'_>,
         answer: &Answer,
     ) -> Result<Batch, AllocError> {
-        let page = self.make_page(err, instance, answer)?;
+        let page = self.make_page(err, given, answer)?;
         let batch = Batch::new(self.rt.alloc());
         let batch = self.write_file(err, batch, TABLE, &answer.table)?;
         self.write_file(err, batch, PAGE, &page)

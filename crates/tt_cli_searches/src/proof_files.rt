@@ -28,7 +28,7 @@ pub struct ProofFolder<'a> {
 }
 
 /// Returns the text of the file of a proof that holds under wishes.
-fn with_wishes_line(alloc: Global, proof: &[u8]) -> Result<Vec<u8>, AllocError> {
+pub fn with_wishes_line(alloc: Global, proof: &[u8]) -> Result<Vec<u8>, AllocError> {
     let mut text = Vec::new(alloc);
     text.extend_from_slice(&WISHES_LINE)?;
     text.extend_from_slice(proof)?;
@@ -62,12 +62,7 @@ impl<'a> ProofFolder<'a> {
     }
 
     /// Adds a proof to a batch.
-    fn write_one<R: World>(
-        self,
-        rt: &R,
-        batch: Batch,
-        proof: &[u8],
-    ) -> Result<Batch, AllocError> {
+    fn write_one<R: World>(self, rt: &R, batch: Batch, proof: &[u8]) -> Result<Batch, AllocError> {
         if self.is_under_wishes {
             self.write_wished(rt, batch, proof)
         } else {

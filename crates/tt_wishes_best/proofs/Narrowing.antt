@@ -6,6 +6,7 @@ use Rattle.tt_instance.specs.Problem.{Problem}
 use Rattle.tt_instance.specs.Cells.{InRange}
 use Rattle.tt_instance.specs.declared.cell.Cell.{Cell}
 use Rattle.tt_table.specs.Table.{IsTimetable}
+use Rattle.tt_rules.specs.Score.{IsFeasible}
 use Rattle.tt_wishes.specs.declared.wish.Wish.{Wish}
 use Rattle.tt_wishes_narrow.specs.Narrowed.{narrowed}
 use Rattle.tt_wishes_best.specs.Kept.{IsNarrowing}
@@ -38,3 +39,9 @@ pub given_of_narrowed : (w : Wishing) (given : Option (List Cell)) → IsNarrowi
     → IfSome given (IsTimetable w.narrow.now)
 given_of_narrowed w None is fits = tt
 given_of_narrowed w (Some t) is fits = table_of_narrowed w t is fits
+
+-- a feasible timetable of the narrowed instance that may be found
+pub found_of_instance : (w : Wishing) (found : Option (List Cell)) → IsNarrowing w → IfSome found (IsFeasible w.narrow.now)
+    → IfSome found (IsTimetable w.instance.now)
+found_of_instance w None is feasible = tt
+found_of_instance w (Some t) is feasible = table_of_instance w t is feasible.timetable

@@ -4,11 +4,13 @@
 mod bounds;
 mod comparing;
 mod searching;
+mod solving;
 mod trying;
 mod watch;
 mod wishing;
 
 pub use searching::find_best_kept;
+pub use solving::{Solved, solve_kept};
 pub use tt_best::{Rounds, Start, Week};
 pub use watch::WatchKept;
 pub use wishing::Wishing;

@@ -15,13 +15,26 @@ use tt_table::Timetable;
 use tt_watch::Watch;
 use tt_wishes_search::{Basis, Search as WishedSearch, Stay, Wished, improve_wished};
 
-/// The number of steps and of runs of a search that repairs a timetable.
-const REPAIR_STEPS: u64 = 200_000;
+/// The number of steps for each lecture in a run that repairs a timetable, the maximum number of its steps, and the number of runs.
+const STEPS_OF_A_LECTURE: u64 = 1_000;
+
+const MOST_STEPS: u64 = 200_000;
 
 const REPAIR_RUNS: u64 = 3;
 
 /// No price for lectures that leave their places.
 const FREE: Stay = Stay { period: 0, room: 0 };
+
+/// Returns the search that repairs a timetable.
+fn repair_of(table: &Timetable, seed: u64) -> WishedSearch {
+    let lectures = table.len() as u64;
+    WishedSearch {
+        seed,
+        steps: lectures.saturating_mul(STEPS_OF_A_LECTURE).min(MOST_STEPS),
+        runs: REPAIR_RUNS,
+        stay: FREE,
+    }
+}
 
 /// Searches from a timetable for one that breaks hard rules and wishes less often, or equally often at a lower cost.
 fn repair<W: Watch>(
@@ -39,12 +52,7 @@ fn repair<W: Watch>(
         wishes: wishing.wishes,
         older: &older,
     };
-    let search = WishedSearch {
-        seed,
-        steps: REPAIR_STEPS,
-        runs: REPAIR_RUNS,
-        stay: FREE,
-    };
+    let search = repair_of(&start, seed);
     let Wished { table, weight: _ } = improve_wished(
         alloc,
         wishing.instance,

@@ -1,10 +1,6 @@
 -- The results of the steps of `best_kept`.
 use Rattle.std.specs.Prelude.{◌≡◌, ℕ, List, Option, Err, ⊤}
 use Rattle.tt_instance.specs.Problem.{Problem}
-use Rattle.tt_instance.specs.declared.cell.Cell.{Cell}
-use Rattle.tt_rules.specs.Score.{IsFeasible}
-use Rattle.tt_wishes.specs.Wishes.{broken_wishes}
-use Rattle.tt_wishes.specs.declared.wish.Wish.{Wish}
 use Rattle.tt_wishes_narrow.specs.Narrowed.{narrowed}
 use Rattle.tt_page_text.specs.declared.fault.LabelsFault.TheVariants as labels
 use Rattle.tt_call_answers.specs.declared.fault.AppFault.TheVariants as app
@@ -21,10 +17,6 @@ use Rattle.tt_call_best_kept.specs.declared.reading.Read.{Read}
 pub record IsRead (f : KeptFiles) (r : Read) : Type 0 where
   pub spelled : SpellsKept f r.instance r.wishes.items
   pub narrow : r.narrow ≡ narrowed r.instance r.wishes.items
-
--- The timetable breaks neither a hard rule nor a wish.
-abbrev pub BreaksNothing : Problem → List Wish → List Cell → Type 0
-BreaksNothing p ws t = IsFeasible p t × (broken_wishes t ws ≡ 0)
 
 -- Memory ran out, or the given solution has this error.
 abbrev pub IsStartFault : Problem → Option (List ℕ) → KeptFault → Type 0

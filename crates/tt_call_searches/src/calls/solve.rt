@@ -68,7 +68,7 @@ fn put_end(out: &mut Vec<u8>, finished: bool) -> Result<(), AllocError>
 }
 
 /// Returns the line of a search's result.
-fn line_of(
+pub fn line_of(
     alloc: Global,
     instance: &Instance<'_>,
     best: &Option<Timetable>,
@@ -121,7 +121,7 @@ fn second_text(alloc: Global, bound: Bound, nodes: &[Node]) -> Result<Option<Vec
 }
 
 /// Writes a tree in the least version that has its claims; `None` if its text is too long.
-fn least_text(alloc: Global, bound: Bound, nodes: &[Node]) -> Result<Option<Vec<u8>>, AllocError>
+pub fn least_text(alloc: Global, bound: Bound, nodes: &[Node]) -> Result<Option<Vec<u8>>, AllocError>
     requires { IsPreorder nodes.now }
     ensures { IfOk result (λ text. MatchOption text (IsOverLong bound nodes.now) (λ v. IsProofFile bound nodes.now v.items)) }
 {

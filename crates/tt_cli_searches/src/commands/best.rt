@@ -2,9 +2,8 @@
 
 use crate::best_files::{BestFiles, BestShelf, PAGE, PARTIAL, TABLE, TREE};
 use crate::best_keeper::BestKeeper;
-use crate::kept_reasons::FailedKept;
+use crate::given::Given;
 use crate::proof_files::{GROUPS, PRICES};
-use crate::reasons::Failed;
 use crate::saving::kept_table;
 use std::alloc::{AllocError, Global};
 use std::cell::Cell;
@@ -29,13 +28,6 @@ struct Texts {
     table: Option<Vec<u8>>,
     /// The proofs of an earlier run.
     proofs: Vec<Vec<u8>>,
-}
-
-/// The bytes of an instance, and of wishes, if there are any.
-#[derive(Clone, Copy)]
-struct Given<'a> {
-    instance: &'a [u8],
-    wishes: Option<&'a [u8]>,
 }
 
 /// Searches, shows the progress on standard error, and keeps what was found on the way if the options ask for it.
@@ -109,24 +101,12 @@ fn say_why<E: Write>(
     given: Given<'_>,
     answer: &BestAnswer,
 ) -> Result<(), AllocError> {
-    let Given { instance, wishes } = given;
-    if let (Some(wishes), Some(partial)) = (wishes, &answer.partial) {
-        let failed = FailedKept {
-            instance,
-            wishes,
-            partial,
-        };
-        return failed.say_why(alloc, err);
-    }
     let tree = answer
         .proofs
         .iter()
         .find(|proof| kind_of_front(proof) == FileKind::Tree);
-    let failed = Failed {
-        instance,
-        proof: tree.map(|proof| proof.as_slice()),
-    };
-    failed.say_why(alloc, err)
+    let partial = answer.partial.as_ref().map(|text| text.as_slice());
+    given.say_why(alloc, err, partial, tree.map(|proof| proof.as_slice()))
 }
 
 /// Searches, and writes the results.

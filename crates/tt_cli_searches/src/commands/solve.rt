@@ -1,52 +1,25 @@
 //! The files of `solve`.
 
+use crate::given::Given;
 use crate::partial::PartialFiles;
-use crate::reasons::Failed;
 use crate::saving::kept_table;
-use std::alloc::{AllocError, Global};
+use crate::tree_files::{TreeFile, TreeShelf};
+use std::alloc::AllocError;
 use std::io::Write;
-use tt_call_answers::{Answer, AppFault};
+use tt_call_answers::Answer;
 use tt_call_searches::{TreeEffort, solve};
+use tt_call_solve_kept::{KeptFiles, solve_kept};
 use tt_cli_arguments::{MAX_SOLVE_NODES, SolveRequest, TreeSearch};
 use tt_cli_files::{Batch, Ready, Role};
 use tt_cli_saving::{
-    CommandFault, Input, Inputs, Keeper, Prepared, Reply, Shelf, Target, Ticker, World, reply_with,
-    ticker_of,
+    CommandFault, Input, Inputs, Keeper, Prepared, Reply, Target, Ticker, World, read_if_given,
+    reply_with, ticker_of,
 };
-
-/// The file in which the proof of a tree is stored on the way.
-struct ProofShelf<'s, R: World> {
-    rt: &'s R,
-    proof: &'s mut Prepared<R::File>,
-}
-
-impl<'s, R: World> Drop for ProofShelf<'s, R> {
-    fn drop(self) {
-        let ProofShelf { rt: _, proof: _ } = self;
-    }
-}
-
-impl<'s, R: World> Shelf for ProofShelf<'s, R> {
-    fn put_proofs(&mut self, proofs: &[Vec<u8>]) -> Result<bool, AllocError> {
-        if !matches!(self.proof.ready, Ready::Place(_)) {
-            return Ok(false);
-        }
-        let mut batch = Batch::new(self.rt.alloc());
-        for proof in proofs {
-            batch = self.proof.write(self.rt, batch, proof)?;
-        }
-        Ok(batch.put_or_remove(self.rt))
-    }
-
-    fn clear(&mut self, batch: Batch) -> Result<Batch, AllocError> {
-        Ok(batch)
-    }
-}
 
 /// The outputs of `solve`.
 struct Outputs<F> {
     table: Prepared<F>,
-    proof: Prepared<F>,
+    proof: TreeFile<F>,
 }
 
 impl<F: Drop> Drop for Outputs<F> {
@@ -56,13 +29,13 @@ impl<F: Drop> Drop for Outputs<F> {
 }
 
 impl<F> Outputs<F> {
-    /// Returns a batch with the files of a timetable that breaks hard rules. There are none if the best timetable's output is no file.
+    /// Returns a batch with the files of a timetable that breaks hard rules or wishes. There are none if the best timetable's output is no file.
     fn write_partial<R: World<File = F>, E: Write>(
         &self,
         rt: &R,
         err: &mut E,
         inputs: &Inputs<'_>,
-        instance: &[u8],
+        given: Given<'_>,
         answer: &Answer,
     ) -> Result<Batch, AllocError> {
         if !matches!(self.table.ready, Ready::Place(_)) {
@@ -73,7 +46,7 @@ impl<F> Outputs<F> {
             inputs,
             path: self.table.label.path.as_str(),
         };
-        files.write(err, instance, answer)
+        files.write(err, given, answer)
     }
 
     /// Returns a batch with the files of an answer.
@@ -82,50 +55,48 @@ impl<F> Outputs<F> {
         rt: &R,
         err: &mut E,
         inputs: &Inputs<'_>,
-        instance: &[u8],
+        given: Given<'_>,
         answer: &Answer,
     ) -> Result<Batch, AllocError> {
         let batch = if answer.status == 0 {
             self.table
                 .write_given(rt, Batch::new(rt.alloc()), &answer.table)?
         } else {
-            self.write_partial(rt, err, inputs, instance, answer)?
+            self.write_partial(rt, err, inputs, given, answer)?
         };
-        self.proof.write_given(rt, batch, &answer.proof)
+        match &answer.proof {
+            Some(proof) => self.proof.write(rt, batch, proof),
+            None => Ok(batch),
+        }
     }
-}
-
-/// Says on standard error why no timetable was found.
-fn say_why<E: Write>(
-    alloc: Global,
-    err: &mut E,
-    instance: &[u8],
-    answer: &Answer,
-) -> Result<(), AllocError> {
-    let failed = Failed {
-        instance,
-        proof: answer.proof.as_ref().map(|proof| proof.as_slice()),
-    };
-    failed.say_why(alloc, err)
 }
 
 /// Searches for a best timetable, shows the progress on standard error, and keeps timetables and proofs on the way if the options ask for it.
 fn solve_shown<'k, R: World, E: Write>(
     rt: &'k R,
     ticker: &'k mut Ticker<'_, R, E>,
-    instance: &'k [u8],
+    given: Given<'k>,
     outputs: &'k mut Outputs<R::File>,
     search: TreeSearch,
-) -> Result<Answer, AppFault> {
+) -> Result<Answer, CommandFault> {
+    let Given { instance, wishes } = given;
     let Outputs { table, proof } = outputs;
-    let table = kept_table(rt.alloc(), instance, table, search.keeps, true);
-    let shelf = ProofShelf { rt, proof };
+    // A timetable on the way may break wishes, so under wishes only proofs are kept.
+    let keeps_tables = search.keeps && wishes.is_none();
+    let table = kept_table(rt.alloc(), instance, table, keeps_tables, true);
+    let shelf = TreeShelf { rt, tree: proof };
     let mut keeper = Keeper::new(rt, ticker, search.seconds, table, shelf, search.keeps);
     let effort = TreeEffort {
         seed: search.seed,
         nodes: search.nodes.clamp(1, MAX_SOLVE_NODES),
     };
-    solve(rt.alloc(), instance, effort, &mut keeper)
+    match wishes {
+        Some(wishes) => {
+            let files = KeptFiles { instance, wishes };
+            Ok(solve_kept(rt.alloc(), files, effort, &mut keeper)?)
+        }
+        None => Ok(solve(rt.alloc(), instance, effort, &mut keeper)?),
+    }
 }
 
 /// Returns the answer of `solve`, once the timetable and the proof are in their files.
@@ -136,6 +107,7 @@ pub fn answer_solve<R: World, E: Write>(
 ) -> Result<Reply, CommandFault> {
     let mut inputs = Inputs::new(rt.alloc());
     let instance = inputs.add(Input::Instance, request.instance)?;
+    let wishes = inputs.add_given(Input::Wishes, request.wishes)?;
     let table = Target {
         role: Role::Solution,
         path: request.out,
@@ -147,19 +119,29 @@ pub fn answer_solve<R: World, E: Write>(
     let table = table.find(rt, &inputs)?;
     let proof = proof.find(rt, &inputs)?.check_apart(rt, &table)?;
     let instance = instance.read(rt)?;
+    let wishes = read_if_given(rt, wishes)?;
+    let given = Given {
+        instance: &instance,
+        wishes: wishes.as_ref().map(|wishes| wishes.as_slice()),
+    };
     let mut outputs = Outputs {
         table: table.prepare(rt)?,
-        proof: proof.prepare(rt)?,
+        proof: TreeFile {
+            file: proof.prepare(rt)?,
+            is_under_wishes: wishes.is_some(),
+        },
     };
     let answer = {
         let mut ticker = ticker_of(rt, err, "solve", request.showing);
-        let answer = solve_shown(rt, &mut ticker, &instance, &mut outputs, request.search);
+        let answer = solve_shown(rt, &mut ticker, given, &mut outputs, request.search);
         ticker.clear();
         answer?
     };
     if answer.status != 0 {
-        say_why(rt.alloc(), err, &instance, &answer)?;
+        let partial = answer.table.as_ref().map(|text| text.as_slice());
+        let proof = answer.proof.as_ref().map(|text| text.as_slice());
+        given.say_why(rt.alloc(), err, partial, proof)?;
     }
-    let batch = outputs.write(rt, err, &inputs, &instance, &answer)?;
+    let batch = outputs.write(rt, err, &inputs, given, &answer)?;
     reply_with(rt, batch, answer.status, answer.out)
 }
