@@ -139,6 +139,7 @@ FILES = {
 BESIDE = {".partial": "output solution", ".partial.html": "output page"}
 CLASH = b"wishes: lines 2 and 3 clash: no feasible timetable keeps both\n"
 SOLVE_GAP = {"out": None, "out.proof": None}
+SOLVE_NONE = {"out.partial": None, "out.partial.html": None, "out.proof": None}
 PARTS_OF_GAP = {"groups.proof": None, "rooms.proof": None}
 BEST_OF_GAP = {"best.sol": None, "page.html": None, "tree.proof": None}
 BEST_OF_NONE = {"partial.sol": None, "page.html": None, "tree.proof": None}
@@ -197,7 +198,11 @@ COMMANDS = [
     Command("solve gap - out.proof --nodes 100", written={"out.proof": None}),
     Command("solve gap out - --nodes 100", written={"out": None}),
     Command("solve gap - -", 2, b"", not_written("proof", "-", "is also output solution")),
-    Command("solve same out out.proof", 1, b"cost none bound none finished\n", None, {"out.partial": None, "out.partial.html": None, "out.proof": None}),
+    Command("solve same out out.proof", 1, b"cost none bound none finished\n", None, SOLVE_NONE),
+    Command("solve gap out out.proof --wishes empty", out=b"cost 5 bound 5 finished\nkept 0\n", written=SOLVE_GAP),
+    Command("solve gap out out.proof --wishes empty --keep", out=b"cost 5 bound 5 finished\nkept 0\n", written=SOLVE_GAP, hurry=HURRY),
+    Command("solve gap out out.proof --wishes bad", 2, b"", b"refused: wishes: UnknownWord at byte 0\n"),
+    Command("solve mini out out.proof --wishes clashing", 1, b"cost none bound none finished\nkept 2\n", None, SOLVE_NONE),
     Command("report mini mini.sol --by room", out=b"room R\n0 0 a\n0 1 b\n0 2\n"),
     Command("report mini mini.sol --by room --quiet", out=b"room R\n0 0 a\n0 1 b\n0 2\n"),
     Command("report mini mini.sol --by teacher", out=b"teacher t1\n0 0 a R\n0 1\n0 2\nteacher t2\n0 0\n0 1 b R\n0 2\n"),

@@ -2,6 +2,7 @@
 
 use std::alloc::{AllocError, Global};
 use std::io::Write;
+use tt_cli_saving::show_clash;
 use tt_inspect::explain_shortages;
 use tt_instance::Instance;
 use tt_instance_read::read_instance;
@@ -53,8 +54,9 @@ impl<'a> FailedKept<'a> {
         String::from_str(alloc, UNKNOWN)
     }
 
-    /// Says the reason on standard error. A failed write has no effect.
+    /// Says on standard error which wishes clash, if that is found, and the reason. A failed write has no effect.
     pub fn say_why<E: Write>(&self, alloc: Global, err: &mut E) -> Result<(), AllocError> {
+        show_clash(alloc, err, self.instance, self.wishes);
         let text = self.explain(alloc)?;
         let _ = err.write_all(text.as_bytes());
         Ok(())

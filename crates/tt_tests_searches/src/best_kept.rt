@@ -1,6 +1,7 @@
 //! The call `best_kept`.
 
 use crate::counting::Counting;
+use crate::weeks::WEEK;
 use std::alloc::Global;
 use std::test::Fail;
 use tt_app::{BestAnswer, BestSearch, UNNAMED};
@@ -9,10 +10,6 @@ use tt_testing_samples::{MINI, MINI_SOLUTION};
 
 /// A number of questions that no search in this file reaches.
 const PATIENT: u64 = u64::MAX;
-
-/// Two courses, and two rooms on two days of two periods.
-const WEEK: &str =
-    "Name: Week\nCourses: 2\nRooms: 2\nDays: 2\nPeriods_per_day: 2\nCurricula: 0\nConstraints: 0\n\nCOURSES:\na t1 2 2 10\nb t2 1 1 10\n\nROOMS:\nA 10\nB 10\n\nCURRICULA:\n\nUNAVAILABILITY_CONSTRAINTS:\n\nEND.\n";
 
 /// Returns the answer for an instance and wishes.
 fn best_of(

@@ -9,3 +9,7 @@ mod best_kept;
 mod counting;
 #[cfg(test)]
 mod ended;
+#[cfg(test)]
+mod solve_kept;
+#[cfg(test)]
+mod weeks;
