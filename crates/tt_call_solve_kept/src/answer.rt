@@ -4,7 +4,7 @@ ghost use Rattle.std.specs.Prelude.{◌≡◌, ◌++◌, length, if◌then◌els
 ghost use Rattle.tt_table.specs.Table.{IsTimetable};
 ghost use Rattle.tt_call_answers.specs.Lines.{solve_line};
 ghost use Rattle.tt_call_kept.specs.Kept.{kept_line};
-ghost use Rattle.tt_call_solve_kept.specs.SolvedKept.{IsShown, IsKeptTable};
+ghost use Rattle.tt_call_solve_kept.specs.SolvedKept.{IsKeptTable, IsShown};
 
 use std::alloc::{AllocError, Global};
 use tt_call_answers::Answer;

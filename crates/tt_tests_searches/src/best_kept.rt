@@ -46,7 +46,13 @@ fn all_wishes_are_kept(rt: HostRuntime) -> Result<(), Fail> {
 #[test]
 fn wishes_that_cannot_be_kept(rt: HostRuntime) -> Result<(), Fail> {
     let mut watch = Counting::new(rt.alloc(), PATIENT);
-    let answer = best_of(rt.alloc(), WEEK, None, "closed * 0 *\nclosed * 1 *", &mut watch)?;
+    let answer = best_of(
+        rt.alloc(),
+        WEEK,
+        None,
+        "closed * 0 *\nclosed * 1 *",
+        &mut watch,
+    )?;
     assert!(rt; answer.out.as_slice() == b"cost none bound none\nkept 2\n".as_slice());
     assert_eq!(rt; answer.status, 1);
     assert!(rt; answer.table.is_none() && answer.partial.is_some());

@@ -47,9 +47,11 @@ returns c =
       sum = subst (λ (b : Bound). IsSum (narrowed p ws) (texts_of copies.field-0.items) b) c.in-AtLeast.is sum;
       holds = holds_at;
       within = holds_at t c.requires.unbroken.0 c.requires.unbroken.1;
-      page = subst (λ (b : Bound). ShowsPage page.field-0 (page_text p t a.look.now.labels.now (kept_of b) a.look.now.style.now)) c.in-AtLeast.is
+      page = subst (λ (b : Bound). ShowsPage page.field-0 (page_text p t a.look.now.labels.now (kept_of b) a.look.now.style.now))
+          c.in-AtLeast.is
           page.ensures;
       no_partial = refl;
-      text = subst (λ (n : ℕ). found.field-0.items ≡ best_line n c.in-AtLeast.points ++ kept_line (length ws)) c.cost_of-cost.ensures found.ensures;
+      text = subst (λ (n : ℕ). found.field-0.items ≡ best_line n c.in-AtLeast.points ++ kept_line (length ws)) c.cost_of-cost.ensures
+          found.ensures;
       status = refl;
     }

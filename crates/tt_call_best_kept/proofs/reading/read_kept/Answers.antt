@@ -16,7 +16,8 @@ pub returns-in_err-wishes-clause-fault : goal.returns-in_err-wishes-clause-fault
 returns-in_err-wishes-clause-fault c =
     let e = err_from_is_err_and c.from_residual-in_err-wishes.result c.from_residual-in_err-wishes.ensures.1 in
     rw (e.1, e.2)
-    (tells_wishes c.args.files c.in_ok-instance.instance c.in_err-wishes.field-0.0 c.in_ok-instance.ensures.found c.in_err-wishes.ensures.exact)
+    (tells_wishes c.args.files c.in_ok-instance.instance c.in_err-wishes.field-0.0 c.in_ok-instance.ensures.found
+    c.in_err-wishes.ensures.exact)
 
 pub returns-in_err-again-clause-fault : goal.returns-in_err-again-clause-fault
 returns-in_err-again-clause-fault c =

@@ -23,20 +23,23 @@ pub returns-in_err-instance-clause-yes : goal.returns-in_err-instance-clause-yes
 returns-in_err-instance-clause-yes g c =
     let e = err_from_is_err_and c.from_residual.result c.from_residual.ensures.1 in
     λ p t ws bytes b spelled ok none given h within. rw (e.1, e.2)
-    (instance_silent c.args.files c.args.solution.now p t ws spelled (cost p t) b (length ws) c.in_err-instance.field-0.0 c.in_err-instance.ensures.exact)
+    (instance_silent c.args.files c.args.solution.now p t ws spelled (cost p t) b (length ws) c.in_err-instance.field-0.0
+    c.in_err-instance.ensures.exact)
 
 pub returns-in_err-wishes-clause-yes : goal.returns-in_err-wishes-clause-yes
 returns-in_err-wishes-clause-yes g c =
     let e = err_from_is_err_and c.from_residual-in_err-wishes.result c.from_residual-in_err-wishes.ensures.1 in
     λ p t ws bytes b spelled ok none given h within. rw (e.1, e.2)
-    (wishes_silent c.args.files c.args.solution.now p t ws spelled (cost p t) b (length ws) c.in_ok-instance.instance c.in_err-wishes.field-0.0
+    (wishes_silent c.args.files c.args.solution.now p t ws spelled (cost p t) b (length ws) c.in_ok-instance.instance
+    c.in_err-wishes.field-0.0
     c.in_ok-instance.ensures.found c.in_err-wishes.ensures.exact)
 
 pub returns-in_err-table-clause-yes : goal.returns-in_err-table-clause-yes
 returns-in_err-table-clause-yes g c =
     let e = err_from_is_err_and c.from_residual-in_err-table.result c.from_residual-in_err-table.ensures.1 in
     λ p t ws bytes b spelled ok none given h within. rw (e.1, e.2)
-    (solution_silent c.args.files c.args.solution.now p t ws spelled (cost p t) b (length ws) c.in_ok-instance.instance c.in_err-table.field-0.0
+    (solution_silent c.args.files c.args.solution.now p t ws spelled (cost p t) b (length ws) c.in_ok-instance.instance
+    c.in_err-table.field-0.0
     c.in_ok-instance.ensures.found c.in_err-table.ensures.exact)
 
 pub returns-then-not-feasible-clause-found : goal.returns-then-not-feasible-clause-found

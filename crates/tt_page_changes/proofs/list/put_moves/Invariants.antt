@@ -5,4 +5,5 @@ use Rattle.tt_page_changes.specs.Changed.{change_item}
 use Rattle.tt_page_changes.proofs.list.put_moves.Given as goal
 
 abbrev pub invariant-loop-change : goal.invariant-loop-change
-invariant-loop-change l = l.out ≡ put_text l.initial.out (flat_map (change_item l.instance l.labels l.words) (take l.change-index l.changes))
+invariant-loop-change l = l.out ≡ put_text l.initial.out (flat_map (change_item l.instance l.labels l.words)
+    (take l.change-index l.changes))

@@ -13,9 +13,11 @@ loop-chunk-preserved-then-not-is_empty c =
     let valid = c.in-Some.chunk.valid.now in
     let some : 0 < length c.in-Some.chunk.invalid.now = search rules in
     let is = utf8_lossy_chunk _ _ _ _ steps.0 steps.3.0 steps.3.1 some in
-    chunk_put _ c.loop-chunk.out c.put_quoted_letters.new.out c.put_quoted_letter.new.out (utf8_chunks_rest c.loop-chunk.chunk-iterator) valid
+    chunk_put _ c.loop-chunk.out c.put_quoted_letters.new.out c.put_quoted_letter.new.out (utf8_chunks_rest c.loop-chunk.chunk-iterator)
+    valid
     (utf8_chunks_rest c.next.new.self)
-    (subst IsUtf8 c.valid.ensures c.valid.utf8) is (rw c.valid.ensures at c.put_quoted_letters.ensures) c.put_quoted_letter.ensures c.loop-chunk.invariant
+    (subst IsUtf8 c.valid.ensures c.valid.utf8) is (rw c.valid.ensures at c.put_quoted_letters.ensures) c.put_quoted_letter.ensures
+    c.loop-chunk.invariant
 
 pub loop-chunk-preserved : goal.loop-chunk-preserved
 loop-chunk-preserved c =
