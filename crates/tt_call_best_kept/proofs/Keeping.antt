@@ -4,19 +4,12 @@ use Rattle.tt_instance.specs.Problem.{Problem}
 use Rattle.tt_instance.specs.declared.cell.Cell.{Cell}
 use Rattle.tt_wishes.specs.declared.wish.Wish.{Wish}
 use Rattle.tt_wishes_narrow.specs.Narrowed.{narrowed}
-use Rattle.tt_wishes_narrow.proofs.Keeping.{stays_feasible}
 use Rattle.tt_leaf.specs.declared.leaf.Bound.{Bound}
 use Rattle.tt_leaf.specs.declared.leaf.Bound.TheVariants as bound
 use Rattle.tt_proof_check.specs.Derives.{HoldsOfAll}
 use Rattle.tt_proof_sum.specs.Sums.{IsSum}
 use Rattle.tt_call_best_kept.specs.BestKept.{BreaksNothing}
-use Rattle.tt_call_kept.specs.Kept.{HoldsOfKept}
-
--- a bound of the narrowed instance holds of the timetables that keep the wishes
-pub holds_of_kept : (p n : Problem) (ws : List Wish) (b : Bound) → n ≡ narrowed p ws → HoldsOfAll n b → HoldsOfKept p ws b
-holds_of_kept p n ws b is holds =
-    let here : HoldsOfAll (narrowed p ws) b = subst (λ (q : Problem). HoldsOfAll q b) is holds in
-    λ t feasible kept. here t (stays_feasible p t ws feasible kept)
+use Rattle.tt_call_kept.proofs.Holding.{holds_of_narrowed}
 
 -- the sum of copied proofs, in the narrowed instance
 pub sum_of_kept : (p n : Problem) (ws : List Wish) (copies files : List (List ℕ)) (b : Bound) → n ≡ narrowed p ws → copies ≡ files
@@ -30,4 +23,4 @@ pub some_kept : (p n : Problem) (ws : List Wish) (t : List Cell) (b : Bound) →
     → b ≡ bound.Nothing → ⊥
 some_kept p n ws t b is holds unbroken none =
     let here = subst (λ (x : Bound). HoldsOfAll n x) none holds in
-    holds_of_kept p n ws bound.Nothing is here t unbroken.0 unbroken.1
+    holds_of_narrowed p n ws bound.Nothing is here t unbroken.0 unbroken.1

@@ -17,7 +17,7 @@ use Rattle.tt_call_kept.specs.Kept.{IsBrokenKept, IsTextAnswer, IsYesKept, Spell
 use Rattle.tt_call_kept.specs.declared.files.KeptFiles.{KeptFiles}
 use Rattle.tt_table.specs.Spelling.{SpellsTable}
 use Rattle.tt_proof_check.proofs.Files.{one_table}
-use Rattle.tt_call_kept.proofs.Holding.{holds_of_kept}
+use Rattle.tt_call_kept.proofs.Holding.{holds_of_narrowed}
 use Rattle.tt_call_kept.proofs.Summed.{spelled_kept_once}
 
 abbrev pub broken_by : Score → ℕ
@@ -79,7 +79,7 @@ module _ (f : KeptFiles) (s : List ℕ) (p : Problem) (t : List Cell) (ws : List
     kept = none;
     bound = b;
     sum = λ proofs given. subst (λ (q : Problem). IsSum q proofs (AtLeast b)) same (sum proofs given);
-    holds = holds_of_kept p ws (AtLeast b) (subst (λ (q : Problem). HoldsOfAll q (AtLeast b)) same holds);
+    holds = holds_of_narrowed p narrow ws (AtLeast b) same holds;
     answer = subst (λ (k : ℕ). IsTextAnswer (yes_line (cost p t) b ++ kept_line k) 0 a) count
         (subst (λ (k : ℕ). IsTextAnswer (yes_line k b ++ kept_line n) 0 a) (costs ∙ cost_is p t score is) answer);
   }

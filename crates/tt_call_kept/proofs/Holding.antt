@@ -1,5 +1,5 @@
 -- A bound of the narrowed instance holds of the timetables that keep the wishes.
-use Rattle.std.proofs.Common.{List}
+use Rattle.std.proofs.Common.{◌≡◌, List, subst}
 use Rattle.tt_instance.specs.Problem.{Problem}
 use Rattle.tt_leaf.specs.declared.leaf.Bound.{Bound}
 use Rattle.tt_proof_check.specs.Derives.{HoldsOfAll}
@@ -10,3 +10,7 @@ use Rattle.tt_call_kept.specs.Kept.{HoldsOfKept}
 
 pub holds_of_kept : (p : Problem) (ws : List Wish) (b : Bound) → HoldsOfAll (narrowed p ws) b → HoldsOfKept p ws b
 holds_of_kept p ws b holds = λ t ok none. holds t (stays_feasible p t ws ok none)
+
+-- the same for an instance that is the narrowed one
+pub holds_of_narrowed : (p n : Problem) (ws : List Wish) (b : Bound) → n ≡ narrowed p ws → HoldsOfAll n b → HoldsOfKept p ws b
+holds_of_narrowed p n ws b is holds = holds_of_kept p ws b (subst (λ (q : Problem). HoldsOfAll q b) is holds)

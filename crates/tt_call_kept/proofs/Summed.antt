@@ -17,7 +17,7 @@ use Rattle.tt_call_answers.specs.declared.answer.Answer.{Answer}
 use Rattle.tt_call_kept.specs.Kept.{IsKeptAnswer, IsNarrowed, IsSummedKept, IsSumRefusal, SpellsKept}
 use Rattle.tt_call_kept.specs.declared.fault.KeptFault.TheVariants as fault
 use Rattle.tt_call_kept.specs.declared.files.KeptFiles.{KeptFiles}
-use Rattle.tt_call_kept.proofs.Holding.{holds_of_kept}
+use Rattle.tt_call_kept.proofs.Holding.{holds_of_narrowed}
 use Rattle.tt_call_kept.proofs.Refused.{tells_sum}
 
 -- the bytes spell one instance and one list of wishes
@@ -52,7 +52,7 @@ summed f gives narrow n b a is sum holds answer = record {
   spelled = is.spelled;
   bound = b;
   sum = λ proofs given. subst (λ (q : Problem). IsSum q proofs b) is.is (sum proofs given);
-  holds = holds_of_kept is.problem is.listed b (subst (λ (q : Problem). HoldsOfAll q b) is.is holds);
+  holds = holds_of_narrowed is.problem narrow is.listed b is.is holds;
   answer = subst (λ (k : ℕ). IsKeptAnswer b k a) is.count answer;
 }
 

@@ -1,11 +1,12 @@
 -- What a refusal of `kept_page` says, from the results of its steps.
-use Rattle.std.proofs.Common.{◌≡◌, ℕ, List, Option, Ok, Err, refl}
+use Rattle.std.proofs.Common.{◌≡◌, ◌∙◌, ℕ, List, Option, Ok, Err, ap, refl}
 use Rattle.tt_text.specs.Reading.{FailsUnless}
 use Rattle.tt_text.specs.Sinks.{TakesPart}
 use Rattle.tt_instance.specs.Problem.{Problem}
 use Rattle.tt_instance.specs.Spelling.{Spells}
 use Rattle.tt_instance.specs.declared.cell.Cell.{Cell}
 use Rattle.tt_instance_read.specs.Reading.{instance_of, Fails}
+use Rattle.tt_instance_read.proofs.Laws.{spelled_once}
 use Rattle.tt_instance_read.specs.declared.fault.InstanceFault.{InstanceFault}
 use Rattle.tt_instance_read.specs.declared.fault.InstanceFault.TheVariants as instance
 use Rattle.tt_table.specs.Reading.{solution_of, Fails as FailsTable}
@@ -40,6 +41,10 @@ use Rattle.tt_call_kept.specs.declared.fault.KeptFault.TheVariants as fault
 use Rattle.tt_call_names.specs.Names.{labels_for}
 use Rattle.tt_call_kept_page.specs.Paged.{IsKeptPageRefusal}
 use Rattle.tt_call_kept_page.specs.declared.paging.PageTexts.{PageTexts}
+
+-- an instance that wishes narrow is the one that another reading of the bytes gives
+pub narrowed_there : (i : List ℕ) (p q n : Problem) (ws : List Wish) → Spells i p → Spells i q → n ≡ narrowed q ws → n ≡ narrowed p ws
+narrowed_there i p q n ws one other is = is ∙ ap (λ r. narrowed r ws) (spelled_once i q p other one)
 
 module _ (a : PageTexts) (gives : List (List ℕ) → Type 0) (before after : Option (List ℕ)) where
   -- an error of the instance is reported

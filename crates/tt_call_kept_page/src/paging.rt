@@ -48,7 +48,8 @@ pub fn kept_page<R: Peek, W: Sink>(
     let table = read_solution(alloc, &instance, solution)?;
     let labels = labels_for(alloc, &instance, names)?;
     let wishes = read_wishes(alloc, &instance, files.wishes)?;
-    let narrow = narrow(alloc, read_instance(alloc, files.instance)?, &wishes)?;
+    let again = read_instance(alloc, files.instance)?;
+    let narrow = narrow(alloc, again, &wishes)?;
     let bound = sum_proofs(alloc, &narrow, proofs)?;
     let proved = Proved::kept(bound);
     let look = Look {

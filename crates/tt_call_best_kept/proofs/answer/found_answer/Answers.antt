@@ -10,7 +10,8 @@ use Rattle.tt_parts.specs.Found.{texts_of}
 use Rattle.tt_call_answers.specs.Lines.{best_line}
 use Rattle.tt_call_kept.specs.Kept.{HoldsOfKept, kept_line}
 use Rattle.tt_call_searches.specs.Best.{ShowsPage}
-use Rattle.tt_call_best_kept.proofs.Keeping.{holds_of_kept, some_kept, sum_of_kept}
+use Rattle.tt_call_kept.proofs.Holding.{holds_of_narrowed}
+use Rattle.tt_call_best_kept.proofs.Keeping.{some_kept, sum_of_kept}
 use Rattle.tt_call_best_kept.proofs.answer.found_answer.Goals as goal
 
 pub unreachable-requires : goal.unreachable-requires
@@ -34,7 +35,7 @@ returns c =
     let same = copies.ensures ∙ ap (λ (l : List (Vec ℕ Global)). texts_of l) c.deref.ensures.value in
     let sum = sum_of_kept p n ws (texts_of copies.field-0.items) (texts_of parts.proofs.items) parts.bound c.requires.narrow same
     c.requires.parts.sum in
-    let holds : HoldsOfKept p ws parts.bound = holds_of_kept p n ws parts.bound c.requires.narrow c.requires.parts.holds in
+    let holds : HoldsOfKept p ws parts.bound = holds_of_narrowed p n ws parts.bound c.requires.narrow c.requires.parts.holds in
     let holds_at = subst (λ (b : Bound). HoldsOfKept p ws b) c.in-AtLeast.is holds in
     record {
       table = t;

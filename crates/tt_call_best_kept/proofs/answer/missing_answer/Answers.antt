@@ -2,7 +2,8 @@ use Rattle.std.proofs.Common.{ℕ, List, refl, ap, ◌∙◌}
 use Rattle.std.specs.Prelude.{Vec}
 use Rattle.std.specs.Global.{Global}
 use Rattle.tt_parts.specs.Found.{texts_of}
-use Rattle.tt_call_best_kept.proofs.Keeping.{holds_of_kept, sum_of_kept}
+use Rattle.tt_call_kept.proofs.Holding.{holds_of_narrowed}
+use Rattle.tt_call_best_kept.proofs.Keeping.{sum_of_kept}
 use Rattle.tt_call_best_kept.proofs.answer.missing_answer.Goals as goal
 
 pub returns : goal.returns
@@ -22,7 +23,7 @@ returns c =
       bound = parts.bound;
       sum = sum_of_kept p n ws (texts_of copies.field-0.items) (texts_of parts.proofs.items) parts.bound c.requires.narrow same
           c.requires.parts.sum;
-      holds = holds_of_kept p n ws parts.bound c.requires.narrow c.requires.parts.holds;
+      holds = holds_of_narrowed p n ws parts.bound c.requires.narrow c.requires.parts.holds;
       page = c.in_ok-kept_page.ensures;
       no_file = refl;
       text = c.in_ok-missing_text.ensures;

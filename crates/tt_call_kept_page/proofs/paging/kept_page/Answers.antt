@@ -1,0 +1,104 @@
+use Rattle.std.proofs.Common.{◌≡◌, List, Err, refl, ap, subst}
+use Rattle.std.proofs.lemmas.Result.{err_from_is_err_and}
+use Rattle.tt_instance.specs.Problem.{Problem}
+use Rattle.tt_wishes.specs.declared.wish.Wish.{Wish}
+use Rattle.tt_wishes_narrow.specs.Narrowed.{narrowed}
+use Rattle.tt_proof_sum.specs.Added.{Give}
+use Rattle.tt_proof_sum.specs.Faults.{IsSumStop}
+use Rattle.tt_proof_sum.specs.Sums.{IsSum}
+use Rattle.tt_page.proofs.Kept.{proved_of_kept}
+use Rattle.tt_call_kept.proofs.Holding.{holds_of_narrowed}
+use Rattle.tt_call_kept_page.proofs.Telling.{narrowed_there, tells_instance, tells_names, tells_output, tells_solution, tells_sum, tells_wishes}
+use Rattle.tt_call_kept_page.proofs.paging.kept_page.Goals as goal
+
+pub returns-in_err-instance-clause-fault : goal.returns-in_err-instance-clause-fault
+returns-in_err-instance-clause-fault g c =
+    let e = err_from_is_err_and c.from_residual.result c.from_residual.ensures.1 in
+    rw (e.1, e.2)
+    (tells_instance c.args.texts (Give g.R.Source.remaining c.args.proofs.now) _ _ c.in_err-instance.field-0.0 c.in_err-instance.ensures.exact)
+
+pub returns-in_err-table-clause-fault : goal.returns-in_err-table-clause-fault
+returns-in_err-table-clause-fault g c =
+    let e = err_from_is_err_and c.from_residual-in_err-table.result c.from_residual-in_err-table.ensures.1 in
+    rw (e.1, e.2)
+    (tells_solution c.args.texts (Give g.R.Source.remaining c.args.proofs.now) _ _ c.in_ok-instance.instance c.in_ok-instance.ensures.found
+    c.in_err-table.field-0.0 c.in_err-table.ensures.exact)
+
+pub returns-in_err-labels-clause-fault : goal.returns-in_err-labels-clause-fault
+returns-in_err-labels-clause-fault g c =
+    let e = err_from_is_err_and c.from_residual-in_err-labels.result c.from_residual-in_err-labels.ensures.1 in
+    rw (e.1, e.2)
+    (tells_names c.args.texts (Give g.R.Source.remaining c.args.proofs.now) _ _ c.in_ok-instance.instance c.in_ok-table.table
+    (record { spelled = c.in_ok-instance.ensures.found; solved = c.in_ok-table.ensures.found }) c.in_err-labels.field-0.0 c.in_err-labels.ensures)
+
+pub returns-in_err-wishes-clause-fault : goal.returns-in_err-wishes-clause-fault
+returns-in_err-wishes-clause-fault g c =
+    let e = err_from_is_err_and c.from_residual-in_err-wishes.result c.from_residual-in_err-wishes.ensures.1 in
+    rw (e.1, e.2)
+    (tells_wishes c.args.texts (Give g.R.Source.remaining c.args.proofs.now) _ _ c.in_ok-instance.instance c.in_ok-instance.ensures.found
+    c.in_err-wishes.field-0.0 c.in_err-wishes.ensures.exact)
+
+pub returns-in_err-again-clause-fault : goal.returns-in_err-again-clause-fault
+returns-in_err-again-clause-fault g c =
+    let e = err_from_is_err_and c.from_residual-in_err-again.result c.from_residual-in_err-again.ensures.1 in
+    rw (e.1, e.2)
+    (tells_instance c.args.texts (Give g.R.Source.remaining c.args.proofs.now) _ _ c.in_err-again.field-0.0 c.in_err-again.ensures.exact)
+
+pub returns-in_err-bound-clause-fault : goal.returns-in_err-bound-clause-fault
+returns-in_err-bound-clause-fault g c =
+    let e = err_from_is_err_and c.from_residual-in_err-bound.result c.from_residual-in_err-bound.ensures.1 in
+    let narrow = c.in_ok-narrow.narrow in
+    let ws = c.in_ok-wishes.wishes.items in
+    let made = subst (λ (us : List Wish). narrow ≡ narrowed c.in_ok-again.again us) c.deref.ensures.value c.in_ok-narrow.ensures in
+    let is = narrowed_there c.args.texts.files.instance.now c.in_ok-instance.instance c.in_ok-again.again narrow ws
+    c.in_ok-instance.ensures.found c.in_ok-again.ensures.found made in
+    let stop = c.in_err-bound.field-0.0 in
+    rw (e.1, e.2)
+    (tells_sum c.args.texts (Give g.R.Source.remaining c.args.proofs.now) _ _ c.in_ok-instance.instance c.in_ok-instance.ensures.found ws stop
+    c.in_ok-wishes.ensures.found
+    (λ proofs given. subst (λ (q : Problem). IsSumStop q proofs stop.file stop.stop) is (c.in_err-bound.ensures.fault proofs given)))
+
+pub returns-in_err-page-clause-fault : goal.returns-in_err-page-clause-fault
+returns-in_err-page-clause-fault g c =
+    let e = err_from_is_err_and c.from_residual-in_err-page.result c.from_residual-in_err-page.ensures.1 in
+    let narrow = c.in_ok-narrow.narrow in
+    let ws = c.in_ok-wishes.wishes.items in
+    let made = subst (λ (us : List Wish). narrow ≡ narrowed c.in_ok-again.again us) c.deref.ensures.value c.in_ok-narrow.ensures in
+    let is = narrowed_there c.args.texts.files.instance.now c.in_ok-instance.instance c.in_ok-again.again narrow ws
+    c.in_ok-instance.ensures.found c.in_ok-again.ensures.found made in
+    let bound = c.in_ok-bound.bound in
+    rw (e.1, e.2)
+    (tells_output c.args.texts (Give g.R.Source.remaining c.args.proofs.now) _ _ c.in_ok-instance.instance c.in_ok-table.table
+    (record { spelled = c.in_ok-instance.ensures.found; solved = c.in_ok-table.ensures.found })
+    c.in_ok-labels.labels ws bound c.in_err-page.field-0.0 c.in_ok-labels.ensures c.in_ok-wishes.ensures.found
+    (λ proofs given. subst (λ (q : Problem). IsSum q proofs bound) is (c.in_ok-bound.ensures.found proofs given))
+    (λ failed. c.in_err-page.ensures.part (ap (λ f. Err f) failed)) c.in_err-page.ensures.size)
+
+pub page-requires-clause-shown : goal.page-requires-clause-shown
+page-requires-clause-shown g c = proved_of_kept c.in_ok-instance.instance c.in_ok-bound.bound
+
+pub returns-clause-written : goal.returns-clause-written
+returns-clause-written g c =
+    let narrow = c.in_ok-narrow.narrow in
+    let ws = c.in_ok-wishes.wishes.items in
+    let made = subst (λ (us : List Wish). narrow ≡ narrowed c.in_ok-again.again us) c.deref.ensures.value c.in_ok-narrow.ensures in
+    let is = narrowed_there c.args.texts.files.instance.now c.in_ok-instance.instance c.in_ok-again.again narrow ws
+    c.in_ok-instance.ensures.found c.in_ok-again.ensures.found made in
+    let bound = c.in_ok-bound.bound in
+    record {
+      bound = bound;
+      paged = record {
+        problem = c.in_ok-instance.instance;
+        table = c.in_ok-table.table;
+        labels = c.in_ok-labels.labels;
+        both = record { spelled = c.in_ok-instance.ensures.found; solved = c.in_ok-table.ensures.found };
+        named = c.in_ok-labels.ensures;
+        within = c.in_ok-page.ensures.size;
+        written = c.in_ok-page.ensures.written;
+        done = refl;
+      };
+      listed = ws;
+      spelled = c.in_ok-wishes.ensures.found;
+      sum = λ proofs given. subst (λ (q : Problem). IsSum q proofs bound) is (c.in_ok-bound.ensures.found proofs given);
+      holds = holds_of_narrowed c.in_ok-instance.instance narrow ws bound is c.in_ok-bound.ensures.holds;
+    }
