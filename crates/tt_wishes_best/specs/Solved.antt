@@ -1,5 +1,5 @@
 -- The results of a search by a tree under wishes.
-use Rattle.std.specs.Prelude.{◌≡◌, ℕ, Bool, List, Option, IfSome}
+use Rattle.std.specs.Prelude.{ℕ, Bool, List, Option, IfSome}
 use Rattle.tt_instance.specs.declared.cell.Cell.{Cell}
 use Rattle.tt_table.specs.Table.{IsTimetable}
 use Rattle.tt_leaf.specs.declared.leaf.Bound.{Bound}
