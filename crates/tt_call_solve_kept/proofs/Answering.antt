@@ -1,6 +1,6 @@
 -- The answer of `solve_kept`, from the results of its steps.
 use Rattle.std.proofs.Common.{◌≡◌, ℕ, Bool, List, Option, Some, None, subst, sym}
-use Rattle.std.specs.Prelude.{IfSome}
+use Rattle.std.specs.Prelude.{IfSome, IsSomeAnd, MatchOption, Vec}
 use Rattle.tt_instance.specs.Problem.{Problem}
 use Rattle.tt_instance.specs.declared.cell.Cell.{Cell}
 use Rattle.tt_table.specs.Table.{IsTimetable}
@@ -10,11 +10,12 @@ use Rattle.tt_leaf.specs.declared.leaf.Bound.{Bound}
 use Rattle.tt_proof_read.specs.declared.node.Node.{Node}
 use Rattle.tt_branch.specs.Outcomes.{IsOutcomeUntil}
 use Rattle.tt_call_answers.specs.declared.fault.AppFault.TheVariants as app
-use Rattle.tt_call_kept.specs.Kept.{IsFileRefusal, SpellsKept}
+use Rattle.tt_call_searches.specs.Solved.{IsOverLong, IsProofFile}
+use Rattle.tt_call_kept.specs.Kept.{IsFileRefusal}
 use Rattle.tt_call_kept.specs.declared.fault.KeptFault.{KeptFault}
 use Rattle.tt_call_kept.specs.declared.fault.KeptFault.TheVariants as fault
 use Rattle.tt_call_kept.specs.declared.files.KeptFiles.{KeptFiles}
-use Rattle.tt_call_solve_kept.specs.SolvedKept.{IsKeptTable, IsSearchedKept, IsSolveKeptRefusal}
+use Rattle.tt_call_solve_kept.specs.SolvedKept.{IsKeptTable, IsSolveKeptRefusal}
 
 -- a timetable that is kept is one of the instance
 pub kept_fits : (p : Problem) (ws : List Wish) (t : List Cell) (kept : Option (List Cell)) → IsTimetable p t → IsKeptTable p ws t kept
@@ -28,10 +29,22 @@ tells_files f limit ended (fault.Call app.ProofTooLarge) h = absurd h
 tells_files f limit ended e h = h
 
 -- a search in the instance that the wishes narrow
-pub searched_kept : (f : KeptFiles) (p n : Problem) (ws : List Wish) (limit : ℕ) (ended : Type 0) (best : Option (List Cell)) (b : Bound)
-    (nodes : List Node) (finished : Bool) → SpellsKept f p ws → n ≡ narrowed p ws → IsOutcomeUntil n limit ended best b nodes finished
-    → IsSearchedKept f p ws limit ended best b nodes finished
-searched_kept f p n ws limit ended best b nodes finished spelled is outcome = record {
-  spelled = spelled;
-  outcome = subst (λ (q : Problem). IsOutcomeUntil q limit ended best b nodes finished) is outcome;
-}
+pub outcome_there : (p n : Problem) (ws : List Wish) (limit : ℕ) (ended : Type 0) (best : Option (List Cell)) (b : Bound) (nodes : List Node)
+    (finished : Bool) → n ≡ narrowed p ws → IsOutcomeUntil n limit ended best b nodes finished
+    → IsOutcomeUntil (narrowed p ws) limit ended best b nodes finished
+outcome_there p n ws limit ended best b nodes finished is outcome =
+    subst (λ (q : Problem). IsOutcomeUntil q limit ended best b nodes finished) is outcome
+
+-- a proof without a text is too large
+pub over_long : {A : Type 0} (b : Bound) (nodes here : List Node) (text : Option (Vec ℕ A)) → here ≡ nodes → text ≡ None
+    → MatchOption text (IsOverLong b here) (λ v. IsProofFile b here v.items) → IsOverLong b nodes
+over_long b nodes here None is none h = subst (λ (ns : List Node). IsOverLong b ns) is h
+over_long b nodes here (Some v) is none h = absurd cc
+
+-- the text that is given is the proof's
+pub proof_given : {A : Type 0} (b : Bound) (nodes here : List Node) (text given : Option (Vec ℕ A)) (v : Vec ℕ A) → here ≡ nodes
+    → text ≡ Some v → given ≡ Some v → MatchOption text (IsOverLong b here) (λ w. IsProofFile b here w.items)
+    → IsSomeAnd given (λ w. IsProofFile b nodes w.items)
+proof_given {A} b nodes here text given v is there same h =
+    let file = subst (λ (o : Option (Vec ℕ A)). MatchOption o (IsOverLong b here) (λ w. IsProofFile b here w.items)) there h in
+    rw same (subst (λ (ns : List Node). IsProofFile b ns v.items) is file)

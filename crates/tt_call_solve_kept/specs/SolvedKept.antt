@@ -1,5 +1,5 @@
 -- The answer of `solve --wishes` for the bytes of an instance and of wishes.
-use Rattle.std.specs.Prelude.{◌≡◌, ◌×◌, ◌⊎◌, ℕ, ◌++◌, Bool, List, length, Option, Some, None, if◌then◌else◌, is_some, IsSomeAnd}
+use Rattle.std.specs.Prelude.{◌≡◌, ℕ, ◌++◌, Bool, List, length, Option, Some, None, if◌then◌else◌, is_some, IsSomeAnd}
 use Rattle.tt_instance.specs.Problem.{Problem}
 use Rattle.tt_instance.specs.declared.cell.Cell.{Cell}
 use Rattle.tt_table.specs.Spelling.{solution_text}
@@ -34,40 +34,44 @@ pub record IsShown (p : Problem) (ws : List Wish) (t : List Cell) (b : Bound) (f
   pub status : a.status ≡ (if is_some kept then 0 else 1)
   pub table : IsSomeAnd a.table (λ v. v.items ≡ solution_text p t)
 
--- A tree was searched in the instance that the spelled wishes narrow.
-pub record IsSearchedKept (f : KeptFiles) (p : Problem) (ws : List Wish) (limit : ℕ) (ended : Type 0) (best : Option (List Cell)) (b : Bound)
-    (nodes : List Node) (finished : Bool) : Type 0 where
-  pub spelled : SpellsKept f p ws
-  pub outcome : IsOutcomeUntil (narrowed p ws) limit ended best b nodes finished
+-- The answer shows a timetable that is no worse under the wishes than the best one of a search by a tree in the narrowed instance. The search opens
+-- at most this many nodes; it opens all of them, unless each is closed before or the search was ended. The proof is its, and its bound holds of every
+-- timetable that breaks neither a hard rule nor a wish.
+pub record IsSolvedKeptOf (p : Problem) (ws : List Wish) (limit : ℕ) (ended : Type 0) (a : Answer) : Type 0 where
+  pub best : Option (List Cell)
+  pub bound : Bound
+  pub nodes : List Node
+  pub finished : Bool
+  pub outcome : IsOutcomeUntil (narrowed p ws) limit ended best bound nodes finished
+  pub holds : HoldsOfKept p ws bound
+  pub table : List Cell
+  pub fits : IsTimetable p table
+  pub no_worse : IsNoWorseThan p ws best table
+  pub shown : IsShown p ws table bound finished a
+  pub proof : IsSomeAnd a.proof (λ v. IsProofFile bound nodes v.items)
 
--- The answer shows a timetable of the spelled instance that is no worse under the wishes than the best one of a search of the narrowed instance. The
--- search opens at most this many nodes; it opens all of them, unless each is closed before or the search was ended. The proof is its, and its bound
--- holds of every timetable that breaks neither a hard rule nor a wish.
+-- The answer is one for the spelled instance and wishes.
 pub record IsSolvedKept (f : KeptFiles) (limit : ℕ) (ended : Type 0) (a : Answer) : Type 0 where
   pub problem : Problem
   pub listed : List Wish
+  pub spelled : SpellsKept f problem listed
+  pub answer : IsSolvedKeptOf problem listed limit ended a
+
+-- The proof of such a search is larger than a file may be.
+pub record IsTooLargeOf (p : Problem) (ws : List Wish) (limit : ℕ) (ended : Type 0) : Type 0 where
   pub best : Option (List Cell)
   pub bound : Bound
   pub nodes : List Node
   pub finished : Bool
-  pub searched : IsSearchedKept f problem listed limit ended best bound nodes finished
-  pub holds : HoldsOfKept problem listed bound
-  pub table : List Cell
-  pub fits : IsTimetable problem table
-  pub no_worse : IsNoWorseThan problem listed best table
-  pub shown : IsShown problem listed table bound finished a
-  pub proof : IsSomeAnd a.proof (λ v. IsProofFile bound nodes v.items)
+  pub outcome : IsOutcomeUntil (narrowed p ws) limit ended best bound nodes finished
+  pub large : IsOverLong bound nodes
 
--- The proof of such a search is larger than a file may be.
+-- The proof of such a search for the spelled instance and wishes is too large.
 pub record IsTooLargeKept (f : KeptFiles) (limit : ℕ) (ended : Type 0) : Type 0 where
   pub problem : Problem
   pub listed : List Wish
-  pub best : Option (List Cell)
-  pub bound : Bound
-  pub nodes : List Node
-  pub finished : Bool
-  pub searched : IsSearchedKept f problem listed limit ended best bound nodes finished
-  pub large : IsOverLong bound nodes
+  pub spelled : SpellsKept f problem listed
+  pub large : IsTooLargeOf problem listed limit ended
 
 -- A refusal reports the first error: the instance's, then that of the wishes, and then that the proof is too large.
 abbrev pub IsSolveKeptRefusal : KeptFiles → ℕ → Type 0 → KeptFault → Type 0

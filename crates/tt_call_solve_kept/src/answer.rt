@@ -1,6 +1,6 @@
 //! The answer of `solve_kept`.
 
-ghost use Rattle.std.specs.Prelude.{◌≡◌, ◌++◌, length, if◌then◌else◌, is_some, IfOk, IfSome, Some};
+ghost use Rattle.std.specs.Prelude.{◌≡◌, ◌++◌, length, IfOk, IfSome, Some};
 ghost use Rattle.tt_table.specs.Table.{IsTimetable};
 ghost use Rattle.tt_call_answers.specs.Lines.{solve_line};
 ghost use Rattle.tt_call_kept.specs.Kept.{kept_line};
@@ -12,13 +12,13 @@ use tt_call_best_kept::{breaks_nothing, put_wishes};
 use tt_call_searches::line_of;
 use tt_leaf::Bound;
 use tt_table::{Timetable, write_solution};
-use tt_wishes_best::Wishing;
+use tt_wishes_best::{Solved, Wishing};
 
 /// The end of a search by a tree: its bound, and whether each node is closed.
 #[derive(Clone, Copy, Debug)]
-pub struct End {
-    pub bound: Bound,
-    pub finished: bool,
+struct End {
+    bound: Bound,
+    finished: bool,
 }
 
 /// Returns the timetable, if it breaks neither a hard rule nor a wish.
@@ -48,21 +48,27 @@ fn text_of(
     Ok(out)
 }
 
-/// Returns the answer with a timetable and the text of a proof.
+/// Returns the answer with the timetable of a search and the text of its proof.
 #[tactic(auto, using(crate::proofs::Answering::kept_fits))]
 pub fn answer_of(
     alloc: Global,
     wishing: Wishing<'_, '_>,
-    table: Timetable,
-    end: End,
+    solved: Solved,
     proof: Vec<u8>,
 ) -> Result<Answer, AllocError>
-    requires { IsTimetable wishing.instance.now table }
-    ensures shown { IfOk result (IsShown wishing.entry.instance.now wishing.entry.wishes.now table end.bound end.finished) }
+    requires { IsTimetable wishing.instance.now solved.table }
+    ensures shown { IfOk result (IsShown wishing.entry.instance.now wishing.entry.wishes.now solved.table solved.bound solved.finished) }
     ensures proof { IfOk result (λ a. a.proof ≡ Some proof) }
 {
+    let Solved {
+        table,
+        bound,
+        finished,
+        ..
+    } = solved;
     let text = write_solution(alloc, wishing.instance, &table)?;
     let kept = if_kept(wishing, table);
+    let end = End { bound, finished };
     Ok(Answer {
         status: if kept.is_some() { 0 } else { 1 },
         out: text_of(alloc, wishing, &kept, end)?,

@@ -3,6 +3,7 @@
 
 mod answer;
 mod calling;
+mod searching;
 
 pub use calling::solve_kept;
 pub use tt_call_kept::{KeptFault, KeptFiles};

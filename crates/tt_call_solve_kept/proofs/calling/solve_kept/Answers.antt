@@ -1,6 +1,5 @@
 use Rattle.std.proofs.lemmas.Result.{err_from_is_err_and}
-use Rattle.tt_call_kept.proofs.Holding.{holds_of_narrowed}
-use Rattle.tt_call_solve_kept.proofs.Answering.{searched_kept, tells_files}
+use Rattle.tt_call_solve_kept.proofs.Answering.{tells_files}
 use Rattle.tt_call_solve_kept.proofs.calling.solve_kept.Goals as goal
 
 pub returns-in_err-instance-clause-fault : goal.returns-in_err-instance-clause-fault
