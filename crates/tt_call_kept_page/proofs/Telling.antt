@@ -1,5 +1,5 @@
 -- What a refusal of `kept_page` says, from the results of its steps.
-use Rattle.std.proofs.Common.{◌≡◌, ◌∙◌, ℕ, List, Option, Ok, Err, ap, refl}
+use Rattle.std.proofs.Common.{◌≡◌, ◌∙◌, ℕ, List, Option, Ok, ap, refl}
 use Rattle.tt_text.specs.Reading.{FailsUnless}
 use Rattle.tt_text.specs.Sinks.{TakesPart}
 use Rattle.tt_instance.specs.Problem.{Problem}

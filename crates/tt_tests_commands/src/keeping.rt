@@ -83,9 +83,17 @@ fn a_solution_that_breaks_a_wish_is_broken(rt: HostRuntime) -> Result<(), Fail> 
 #[test]
 fn wishes_are_refused_before_the_solution_and_the_proof(rt: HostRuntime) -> Result<(), Fail> {
     for (wishes, solution, refused) in [
-        ("closed S 0 0", "a R 0", "refused: wishes: UnknownRoom at byte 7\n"),
+        (
+            "closed S 0 0",
+            "a R 0",
+            "refused: wishes: UnknownRoom at byte 7\n",
+        ),
         (CLOSED, "a R 0", "refused: solution: Ended at byte 5\n"),
-        (CLOSED, "a R 0 0 a R 0 1", "refused: proof 1: Expected CTTP at byte 0\n"),
+        (
+            CLOSED,
+            "a R 0 0 a R 0 1",
+            "refused: proof 1: Expected CTTP at byte 0\n",
+        ),
     ] {
         let outcome = kept(rt.alloc(), &CHECK, "wish", wishes, solution)?;
         assert_eq!(rt; outcome.answer(), (2, "", refused));

@@ -121,7 +121,11 @@ fn second_text(alloc: Global, bound: Bound, nodes: &[Node]) -> Result<Option<Vec
 }
 
 /// Writes a tree in the least version that has its claims; `None` if its text is too long.
-pub fn least_text(alloc: Global, bound: Bound, nodes: &[Node]) -> Result<Option<Vec<u8>>, AllocError>
+pub fn least_text(
+    alloc: Global,
+    bound: Bound,
+    nodes: &[Node],
+) -> Result<Option<Vec<u8>>, AllocError>
     requires { IsPreorder nodes.now }
     ensures { IfOk result (λ text. MatchOption text (IsOverLong bound nodes.now) (λ v. IsProofFile bound nodes.now v.items)) }
 {

@@ -1,4 +1,5 @@
-use Rattle.std.proofs.Common.{◌≡◌, List, Err, refl, ap, subst}
+use Rattle.std.proofs.Common.{◌≡◌, ℕ, List, Err, refl, sym, ap, subst}
+use Rattle.std.specs.Io.KnownBytes.{Appends}
 use Rattle.std.proofs.lemmas.Result.{err_from_is_err_and}
 use Rattle.tt_instance.specs.Problem.{Problem}
 use Rattle.tt_wishes.specs.declared.wish.Wish.{Wish}
@@ -6,6 +7,12 @@ use Rattle.tt_wishes_narrow.specs.Narrowed.{narrowed}
 use Rattle.tt_proof_sum.specs.Added.{Give}
 use Rattle.tt_proof_sum.specs.Faults.{IsSumStop}
 use Rattle.tt_proof_sum.specs.Sums.{IsSum}
+use Rattle.tt_text.specs.Sinks.{TakesPart}
+use Rattle.tt_page.specs.Faults.{ExplainsSize}
+use Rattle.tt_page.specs.Limits.{IsWithinLimit}
+use Rattle.tt_page.specs.Pages.{page_text}
+use Rattle.tt_page.specs.Proofs.{IsProvedOf}
+use Rattle.tt_page.specs.declared.proved.Proved.{Proved}
 use Rattle.tt_page.proofs.Kept.{proved_of_kept}
 use Rattle.tt_call_kept.proofs.Holding.{holds_of_narrowed}
 use Rattle.tt_call_kept_page.proofs.Telling.{narrowed_there, tells_instance, tells_names, tells_output, tells_solution, tells_sum, tells_wishes}
@@ -72,10 +79,15 @@ returns-in_err-page-clause-fault g c =
     (record { spelled = c.in_ok-instance.ensures.found; solved = c.in_ok-table.ensures.found })
     c.in_ok-labels.labels ws bound c.in_err-page.field-0.0 c.in_ok-labels.ensures c.in_ok-wishes.ensures.found
     (λ proofs given. subst (λ (q : Problem). IsSum q proofs bound) is (c.in_ok-bound.ensures.found proofs given))
-    (λ failed. c.in_err-page.ensures.part (ap (λ f. Err f) failed)) c.in_err-page.ensures.size)
+    (λ failed. subst (λ (x : Proved). TakesPart (g.W.Sink.contents c.args.sink.now) (g.W.Sink.contents c.page.new.sink) (page_text c.in_ok-instance.instance c.in_ok-table.table c.in_ok-labels.labels x
+    c.args.texts.style.now)) c.kept-proved.ensures (c.in_err-page.ensures.part (ap (λ f. Err f) failed)))
+    (subst (λ (x : Proved). ExplainsSize c.in_err-page.field-0.0 (page_text c.in_ok-instance.instance c.in_ok-table.table
+    c.in_ok-labels.labels x c.args.texts.style.now)) c.kept-proved.ensures c.in_err-page.ensures.size))
 
 pub page-requires-clause-shown : goal.page-requires-clause-shown
-page-requires-clause-shown g c = proved_of_kept c.in_ok-instance.instance c.in_ok-bound.bound
+page-requires-clause-shown g c =
+    subst (λ (x : Proved). IsProvedOf c.in_ok-instance.instance x) (sym c.kept-proved.ensures)
+    (proved_of_kept c.in_ok-instance.instance c.in_ok-bound.bound)
 
 pub returns-clause-written : goal.returns-clause-written
 returns-clause-written g c =
@@ -85,6 +97,7 @@ returns-clause-written g c =
     let is = narrowed_there c.args.texts.files.instance.now c.in_ok-instance.instance c.in_ok-again.again narrow ws
     c.in_ok-instance.ensures.found c.in_ok-again.ensures.found made in
     let bound = c.in_ok-bound.bound in
+    let text : Proved → List ℕ = λ x. page_text c.in_ok-instance.instance c.in_ok-table.table c.in_ok-labels.labels x c.args.texts.style.now in
     record {
       bound = bound;
       paged = record {
@@ -93,8 +106,8 @@ returns-clause-written g c =
         labels = c.in_ok-labels.labels;
         both = record { spelled = c.in_ok-instance.ensures.found; solved = c.in_ok-table.ensures.found };
         named = c.in_ok-labels.ensures;
-        within = c.in_ok-page.ensures.size;
-        written = c.in_ok-page.ensures.written;
+        within = subst (λ (x : Proved). IsWithinLimit (text x)) c.kept-proved.ensures c.in_ok-page.ensures.size;
+        written = subst (λ (x : Proved). Appends (g.W.Sink.contents c.args.sink.now) (g.W.Sink.contents c.page.new.sink) (text x)) c.kept-proved.ensures c.in_ok-page.ensures.written;
         done = refl;
       };
       listed = ws;
