@@ -1,6 +1,6 @@
 //! Files of proofs; at most one is open at a time.
 
-ghost use Rattle.std.specs.Prelude.{◌≡◌, true};
+ghost use Rattle.std.specs.Prelude.{◌≡◌, ◌≤◌, true, length, IfOk};
 
 use crate::fault::CommandFault;
 use crate::front::Front;
@@ -69,14 +69,47 @@ impl<'r, 'p, 't, R: World, E: Write> ProofFile<'r, 'p, 't, R, E> {
         ReadFailed
     }
 
-    /// Reads the first line of a proof that may be one under wishes.
-    fn read_front(&mut self) -> io::Result<()> {
-        if self.is_under_wishes
-            && let Some(file) = &mut self.file
-        {
-            self.front = Some(Front::read_from(file)?);
+    /// Opens the file, and reads the first line of a proof that may be one under wishes.
+    fn open(&mut self) -> io::Result<()>
+        ensures { self.new.failed ≡ self.old.failed }
+    {
+        let mut file = open_counted(self.rt, self.path, Some(self.number), self.shown)?;
+        if self.is_under_wishes {
+            self.front = Some(Front::read_from(&mut file)?);
         }
+        self.file = Some(file);
         Ok(())
+    }
+
+    /// Gives the bytes of the first line, as many as the buffer takes, and returns their number.
+    fn give_front(&mut self, buffer: &mut [u8]) -> usize
+        ensures failed { self.new.failed ≡ self.old.failed }
+        ensures within { result ≤ length buffer.new }
+    {
+        match self.front {
+            Some(mut front) => {
+                let count = front.give(buffer);
+                self.front = Some(front);
+                count
+            }
+            None => 0,
+        }
+    }
+
+    /// Reads from the open file, and closes it at its end.
+    fn read_open(&mut self, buffer: &mut [u8]) -> io::Result<usize>
+        ensures failed { self.new.failed ≡ self.old.failed }
+        ensures within { IfOk result (λ n. n ≤ length buffer.new) }
+    {
+        let Some(file) = &mut self.file else {
+            return Ok(0);
+        };
+        let count = file.read(buffer)?;
+        if count == 0 && !buffer.is_empty() {
+            self.ended = true;
+            self.file = None;
+        }
+        Ok(count)
     }
 }
 
@@ -91,32 +124,17 @@ impl<'r, 'p, 't, R: World, E: Write> Source for ProofFile<'r, 'p, 't, R, E> {
         if self.ended {
             return Ok(0);
         }
-        if self.file.is_none() {
-            match open_counted(self.rt, self.path, Some(self.number), self.shown) {
-                Ok(file) => self.file = Some(file),
-                Err(reason) => return Err(self.fail(reason)),
-            }
-            if let Err(reason) = self.read_front() {
-                return Err(self.fail(reason));
-            }
+        if self.file.is_none()
+            && let Err(reason) = self.open()
+        {
+            return Err(self.fail(reason));
         }
-        if let Some(front) = &mut self.front {
-            let count = front.give(buffer);
-            if count > 0 {
-                return Ok(count);
-            }
+        let count = self.give_front(buffer);
+        if count > 0 {
+            return Ok(count);
         }
-        let Some(file) = &mut self.file else {
-            return Ok(0);
-        };
-        match file.read(buffer) {
-            Ok(count) => {
-                if count == 0 && !buffer.is_empty() {
-                    self.ended = true;
-                    self.file = None;
-                }
-                Ok(count)
-            }
+        match self.read_open(buffer) {
+            Ok(count) => Ok(count),
             Err(reason) => Err(self.fail(reason)),
         }
     }
