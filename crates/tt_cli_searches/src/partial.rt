@@ -37,10 +37,10 @@ const PAGE: Beside = Beside {
 };
 
 /// Returns the page of a timetable, with what a proof proves: for the timetables that keep the wishes, if there are any.
-fn proof_page(
+fn proof_page<'x>(
     alloc: Global,
-    given: Given<'_>,
-    table: &[u8],
+    given: Given<'x>,
+    table: &'x [u8],
     proof: &[u8],
 ) -> Result<Vec<u8>, CommandFault> {
     let mut proofs = [Peeked::new(alloc, Pieces::new(proof, PIECE_BYTES, 0))];
@@ -62,10 +62,10 @@ fn proof_page(
 }
 
 /// Returns the page of an answer's timetable, with what its proof proves; none if the answer has none of them.
-fn page_of(
+fn page_of<'x>(
     alloc: Global,
-    given: Given<'_>,
-    answer: &Answer,
+    given: Given<'x>,
+    answer: &'x Answer,
 ) -> Result<Option<Vec<u8>>, CommandFault> {
     let (Some(table), Some(proof)) = (&answer.table, &answer.proof) else {
         return Ok(None);
@@ -128,11 +128,11 @@ impl<'a, 'i, R: World> PartialFiles<'a, 'i, R> {
     }
 
     /// Returns the page of an answer. If it can't be made, standard error says why, and it is left out.
-    fn make_page<E: Write>(
+    fn make_page<'x, E: Write>(
         &self,
         err: &mut E,
-        given: Given<'_>,
-        answer: &Answer,
+        given: Given<'x>,
+        answer: &'x Answer,
     ) -> Result<Option<Vec<u8>>, AllocError> {
         match page_of(self.rt.alloc(), given, answer) {
             Ok(page) => Ok(page),
@@ -148,11 +148,11 @@ impl<'a, 'i, R: World> PartialFiles<'a, 'i, R> {
     }
 
     /// Returns a batch with the timetable of an answer and its page.
-    pub fn write<E: Write>(
+    pub fn write<'x, E: Write>(
         &self,
         err: &mut E,
-        given: Given<'_>,
-        answer: &Answer,
+        given: Given<'x>,
+        answer: &'x Answer,
     ) -> Result<Batch, AllocError> {
         let page = self.make_page(err, given, answer)?;
         let batch = Batch::new(self.rt.alloc());

@@ -30,13 +30,13 @@ impl<F: Drop> Drop for Outputs<F> {
 
 impl<F> Outputs<F> {
     /// Returns a batch with the files of a timetable that breaks hard rules or wishes. There are none if the best timetable's output is no file.
-    fn write_partial<R: World<File = F>, E: Write>(
+    fn write_partial<'x, R: World<File = F>, E: Write>(
         &self,
         rt: &R,
         err: &mut E,
         inputs: &Inputs<'_>,
-        given: Given<'_>,
-        answer: &Answer,
+        given: Given<'x>,
+        answer: &'x Answer,
     ) -> Result<Batch, AllocError> {
         if !matches!(self.table.ready, Ready::Place(_)) {
             return Ok(Batch::new(rt.alloc()));
@@ -50,13 +50,13 @@ impl<F> Outputs<F> {
     }
 
     /// Returns a batch with the files of an answer.
-    fn write<R: World<File = F>, E: Write>(
+    fn write<'x, R: World<File = F>, E: Write>(
         &mut self,
         rt: &R,
         err: &mut E,
         inputs: &Inputs<'_>,
-        given: Given<'_>,
-        answer: &Answer,
+        given: Given<'x>,
+        answer: &'x Answer,
     ) -> Result<Batch, AllocError> {
         let batch = if answer.status == 0 {
             self.table
