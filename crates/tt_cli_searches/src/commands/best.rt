@@ -30,6 +30,15 @@ struct Texts {
     proofs: Vec<Vec<u8>>,
 }
 
+impl Texts {
+    fn given(&self) -> Given<'_> {
+        Given {
+            instance: &self.instance,
+            wishes: self.wishes.as_ref().map(|wishes| wishes.as_slice()),
+        }
+    }
+}
+
 /// Searches, shows the progress on standard error, and keeps what was found on the way if the options ask for it.
 fn search_shown<'k, R: World, E: Write>(
     files: &'k BestFiles<'_, R>,
@@ -143,10 +152,7 @@ fn find_best<R: World, E: Write>(
         start: texts.table.as_ref().map(|text| text.as_slice()),
         proofs: &texts.proofs,
     };
-    let given = Given {
-        instance: &texts.instance,
-        wishes: texts.wishes.as_ref().map(|text| text.as_slice()),
-    };
+    let given = texts.given();
     let answer = {
         let mut ticker = ticker_of(rt, err, "best", request.showing);
         let answer = search_shown(&files, &mut ticker, given, &mut table, search, request);
