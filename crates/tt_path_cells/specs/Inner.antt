@@ -13,3 +13,6 @@ pub mod Touching
 pub mod Words
 pub mod Shelves
 pub mod Asking
+pub mod Spots
+pub mod Bases
+pub mod Demands

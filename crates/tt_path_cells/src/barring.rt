@@ -8,9 +8,10 @@ ghost use Rattle.tt_path_cells.specs.Inner.Tables.{IsTable, Loses};
 use crate::courses::courses_of;
 use crate::periods::{is_allowed, slots_of};
 use crate::removing::remove_rooms;
+use crate::spot::Spot;
 use std::alloc::AllocError;
 use tt_bits::Trail;
-use tt_instance::Instance;
+use tt_instance::{Instance, Slot};
 use tt_path::Pattern;
 
 /// Removes a course's cells that agree with a pattern which gives this day and this period.
@@ -19,21 +20,25 @@ fn remove_at(
     table: &mut Trail,
     pattern: &Pattern,
     course: u32,
-    day: u32,
-    period: u32,
+    slot: Slot,
 ) -> Result<(), AllocError>
     requires course { course < length instance.now.courses }
-    requires day { pattern.now.day ≡ Some day }
-    requires period { pattern.now.period ≡ Some period }
+    requires day { pattern.now.day ≡ Some slot.day }
+    requires period { pattern.now.period ≡ Some slot.period }
     requires table { IsTable instance.now table.old.words }
     ensures ok { OnOk result (Loses instance.now table.old.words
         (λ x. (x.course == course) && has_place_of pattern.now x) table.new.words) }
     ensures unchanged { table.new.earlier ≡ table.old.earlier }
 {
-    if day >= instance.days() || period >= instance.periods() {
+    if slot.day >= instance.days() || slot.period >= instance.periods() {
         return Ok(());
     }
-    remove_rooms(instance, table, pattern.room, course, day, period)?;
+    let spot = Spot {
+        room: pattern.room,
+        course,
+        slot,
+    };
+    remove_rooms(instance, table, spot)?;
     Ok(())
 }
 
@@ -58,14 +63,15 @@ fn remove_within(
         if !is_allowed(instance, pattern, slot) {
             continue;
         }
-        remove_rooms(
-            instance,
-            table,
-            pattern.room,
+        let spot = Spot {
+            room: pattern.room,
             course,
-            slot / periods,
-            slot % periods,
-        )?;
+            slot: Slot {
+                day: slot / periods,
+                period: slot % periods,
+            },
+        };
+        remove_rooms(instance, table, spot)?;
     }
     Ok(())
 }
@@ -84,7 +90,7 @@ fn remove_of(
     ensures unchanged { table.new.earlier ≡ table.old.earlier }
 {
     if let (Some(day), Some(period)) = (pattern.day, pattern.period) {
-        remove_at(instance, table, pattern, course, day, period)?;
+        remove_at(instance, table, pattern, course, Slot { day, period })?;
         return Ok(());
     }
     remove_within(instance, table, pattern, course)?;

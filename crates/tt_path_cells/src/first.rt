@@ -8,9 +8,10 @@ ghost use Rattle.tt_path_cells.specs.Inner.First.{AreFull};
 
 use crate::places::width;
 use crate::removing::remove_rooms;
+use crate::spot::Spot;
 use std::alloc::{AllocError, Global};
 use tt_bits::{Trail, below};
-use tt_instance::Instance;
+use tt_instance::{Instance, Slot};
 
 /// Creates the words of a table that has all cells.
 fn full_words(alloc: Global, instance: &Instance<'_>) -> Result<Vec<u64>, AllocError>
@@ -46,7 +47,12 @@ pub fn first_table(alloc: Global, instance: &Instance<'_>) -> Result<Trail, Allo
         if course >= courses || day >= days || period >= periods {
             continue;
         }
-        remove_rooms(instance, &mut table, None, course, day, period)?;
+        let spot = Spot {
+            room: None,
+            course,
+            slot: Slot { day, period },
+        };
+        remove_rooms(instance, &mut table, spot)?;
     }
     Ok(table)
 }

@@ -4,64 +4,63 @@ ghost use Rattle.std.specs.Prelude.{◌≡◌, ◌<◌, ◌==◌, ◌&&◌, ℕ,
 ghost use Rattle.std.specs.List.{list_all};
 ghost use Rattle.tt_list_laws.specs.Words.{has_number};
 ghost use Rattle.tt_path.specs.Inner.Nested.{courses_of};
-ghost use Rattle.tt_instance_links.specs.Inner.Linked.{AreConflicts};
 ghost use Rattle.tt_path_cells.specs.Inner.Rooms.{has_room};
 ghost use Rattle.tt_instance.specs.Cells.{all_rooms};
 ghost use Rattle.tt_path_cells.specs.Inner.Tables.{is_open, is_placed, IsTable, Loses};
 ghost use Rattle.tt_path_cells.specs.Inner.Struck.{is_lost_to, loses_room};
 ghost use Rattle.tt_path_cells.specs.Inner.Shown.{is_struck};
+ghost use Rattle.tt_path_cells.specs.Inner.Spots.{IsSlot};
+ghost use Rattle.tt_path_cells.specs.Inner.Bases.{IsBasis};
+ghost use Rattle.tt_path_cells.specs.Inner.Demands.{IsDemand};
 
 use crate::asking::{common_rooms, has_period};
+use crate::basis::Basis;
+use crate::demand::Demand;
 use crate::removing::{keep_rooms, remove_rooms};
 use crate::rooms::Rooms;
+use crate::spot::Spot;
 use std::alloc::AllocError;
 use tt_bits::Trail;
-use tt_instance::Instance;
-use tt_instance_links::Conflicts;
+use tt_instance::{Instance, Slot};
 use tt_path::Pattern;
 
 /// Returns the rooms that a course loses in the period if another course must have one of its free rooms.
 fn rooms_lost_to(
-    instance: &Instance<'_>,
-    free: &Trail,
+    basis: &Basis<'_, '_>,
     pattern: &Pattern,
-    day: u32,
-    period: u32,
+    slot: Slot,
     other: u32,
     course: u32,
 ) -> Rooms
-    requires day { day < instance.now.days }
-    requires period { period < instance.now.periods }
-    requires free { IsTable instance.now free.now.words }
+    requires slot { IsSlot basis.now.instance.now slot }
+    requires free { IsTable basis.now.instance.now basis.now.free.now.words }
     ensures { (r : ℕ) → has_room result r
-        ≡ is_lost_to instance.now free.now.words pattern.now day period course r other }
+        ≡ is_lost_to basis.now.instance.now basis.now.free.now.words pattern.now slot.day slot.period course r other }
 {
+    let instance = basis.instance;
     if other >= instance.courses() || instance.conflict(other, course) {
         return Rooms::All;
     }
-    common_rooms(instance, free, pattern.room, other, day, period)
+    let spot = Spot {
+        room: pattern.room,
+        course: other,
+        slot,
+    };
+    common_rooms(instance, basis.free, spot)
 }
 
 /// Returns the rooms that a course loses in the period if one of the courses, none of them this one, must have one of its
 /// free rooms.
-fn lost_rooms(
-    instance: &Instance<'_>,
-    free: &Trail,
-    pattern: &Pattern,
-    day: u32,
-    period: u32,
-    courses: &[u32],
-    course: u32,
-) -> Rooms
-    requires day { day < instance.now.days }
-    requires period { period < instance.now.periods }
-    requires free { IsTable instance.now free.now.words }
+fn lost_rooms(basis: &Basis<'_, '_>, demand: &Demand<'_>, slot: Slot, course: u32) -> Rooms
+    requires slot { IsSlot basis.now.instance.now slot }
+    requires free { IsTable basis.now.instance.now basis.now.free.now.words }
     ensures { (r : ℕ) → has_room result r
-        ≡ list_all (is_lost_to instance.now free.now.words pattern.now day period course r) courses.now }
+        ≡ list_all (is_lost_to basis.now.instance.now basis.now.free.now.words demand.now.pattern.now slot.day slot.period
+        course r) demand.now.courses.now }
 {
     let mut lost = Rooms::All;
-    for other in courses {
-        lost = lost.both(rooms_lost_to(instance, free, pattern, day, period, *other, course));
+    for other in demand.courses {
+        lost = lost.both(rooms_lost_to(basis, demand.pattern, slot, *other, course));
         if matches!(lost, Rooms::Nothing) {
             return Rooms::Nothing;
         }
@@ -75,24 +74,32 @@ fn remove_lost(
     live: &mut Trail,
     lost: Rooms,
     course: u32,
-    day: u32,
-    period: u32,
+    slot: Slot,
 ) -> Result<(), AllocError>
     requires course { course < length instance.now.courses }
-    requires day { day < instance.now.days }
-    requires period { period < instance.now.periods }
+    requires slot { IsSlot instance.now slot }
     requires live { IsTable instance.now live.old.words }
     ensures ok { OnOk result (Loses instance.now live.old.words
-        (λ x. is_placed course day period x && has_room lost x.room) live.new.words) }
+        (λ x. is_placed course slot.day slot.period x && has_room lost x.room) live.new.words) }
     ensures unchanged { live.new.earlier ≡ live.old.earlier }
 {
     match lost {
         Rooms::All => {
-            remove_rooms(instance, live, None, course, day, period)?;
+            let spot = Spot {
+                room: None,
+                course,
+                slot,
+            };
+            remove_rooms(instance, live, spot)?;
             Ok(())
         }
         Rooms::One(room) => {
-            remove_rooms(instance, live, Some(room), course, day, period)?;
+            let spot = Spot {
+                room: Some(room),
+                course,
+                slot,
+            };
+            remove_rooms(instance, live, spot)?;
             Ok(())
         }
         Rooms::Nothing => Ok(()),
@@ -101,60 +108,64 @@ fn remove_lost(
 
 /// Removes the cells that a course loses in the period if one of the courses must have one of its free rooms.
 fn strike(
-    instance: &Instance<'_>,
-    free: &Trail,
+    basis: &Basis<'_, '_>,
     live: &mut Trail,
-    pattern: &Pattern,
-    day: u32,
-    period: u32,
-    courses: &[u32],
+    demand: &Demand<'_>,
+    slot: Slot,
     course: u32,
 ) -> Result<(), AllocError>
-    requires courses { courses.now ≡ courses_of instance.now pattern.now.who }
-    requires day { day < instance.now.days }
-    requires period { period < instance.now.periods }
-    requires free { IsTable instance.now free.now.words }
-    requires live { IsTable instance.now live.old.words }
-    requires course { course < length instance.now.courses }
-    ensures ok { OnOk result (Loses instance.now live.old.words
-        (λ x. is_placed course day period x
-        && loses_room instance.now free.now.words pattern.now day period courses.now x.course x.room)
-        live.new.words) }
+    requires demand { IsDemand basis.now.instance.now demand.now }
+    requires slot { IsSlot basis.now.instance.now slot }
+    requires free { IsTable basis.now.instance.now basis.now.free.now.words }
+    requires live { IsTable basis.now.instance.now live.old.words }
+    requires course { course < length basis.now.instance.now.courses }
+    ensures ok { OnOk result (Loses basis.now.instance.now live.old.words
+        (λ x. is_placed course slot.day slot.period x
+        && loses_room basis.now.instance.now basis.now.free.now.words demand.now.pattern.now slot.day slot.period
+        demand.now.courses.now x.course x.room) live.new.words) }
     ensures unchanged { live.new.earlier ≡ live.old.earlier }
 {
-    if !has_period(instance, live, None, course, day, period) {
+    let instance = basis.instance;
+    let anywhere = Spot {
+        room: None,
+        course,
+        slot,
+    };
+    if !has_period(instance, live, anywhere) {
         return Ok(());
     }
-    if pattern.who.has_course(instance, course) {
-        keep_rooms(instance, live, free, pattern.room, course, day, period)?;
+    if demand.pattern.who.has_course(instance, course) {
+        let spot = Spot {
+            room: demand.pattern.room,
+            course,
+            slot,
+        };
+        keep_rooms(instance, live, basis.free, spot)?;
         return Ok(());
     }
-    let lost = lost_rooms(instance, free, pattern, day, period, courses, course);
-    remove_lost(instance, live, lost, course, day, period)?;
+    let lost = lost_rooms(basis, demand, slot, course);
+    remove_lost(instance, live, lost, course, slot)?;
     Ok(())
 }
 
 /// Removes the cells that each course loses in the period if one of the courses must have one of its free rooms.
 fn kill(
-    instance: &Instance<'_>,
-    free: &Trail,
+    basis: &Basis<'_, '_>,
     live: &mut Trail,
-    pattern: &Pattern,
-    day: u32,
-    period: u32,
-    courses: &[u32],
+    demand: &Demand<'_>,
+    slot: Slot,
 ) -> Result<(), AllocError>
-    requires courses { courses.now ≡ courses_of instance.now pattern.now.who }
-    requires day { day < instance.now.days }
-    requires period { period < instance.now.periods }
-    requires free { IsTable instance.now free.now.words }
-    requires live { IsTable instance.now live.old.words }
-    ensures ok { OnOk result (Loses instance.now live.old.words
-        (is_struck instance.now free.now.words pattern.now day period courses.now) live.new.words) }
+    requires demand { IsDemand basis.now.instance.now demand.now }
+    requires slot { IsSlot basis.now.instance.now slot }
+    requires free { IsTable basis.now.instance.now basis.now.free.now.words }
+    requires live { IsTable basis.now.instance.now live.old.words }
+    ensures ok { OnOk result (Loses basis.now.instance.now live.old.words
+        (is_struck basis.now.instance.now basis.now.free.now.words demand.now.pattern.now slot.day slot.period
+        demand.now.courses.now) live.new.words) }
     ensures unchanged { live.new.earlier ≡ live.old.earlier }
 {
-    for course in 0..instance.courses() {
-        strike(instance, free, live, pattern, day, period, courses, course)?;
+    for course in 0..basis.instance.courses() {
+        strike(basis, live, demand, slot, course)?;
     }
     Ok(())
 }
@@ -165,21 +176,24 @@ fn strike_period(
     instance: &Instance<'_>,
     live: &mut Trail,
     courses: &[u32],
-    day: u32,
-    period: u32,
+    slot: Slot,
 ) -> Result<(), AllocError>
-    requires day { day < instance.now.days }
-    requires period { period < instance.now.periods }
+    requires slot { IsSlot instance.now slot }
     requires live { IsTable instance.now live.old.words }
     ensures ok { OnOk result (Loses instance.now live.old.words
-        (λ x. has_number courses.now x.course && ((x.day == day) && (x.period == period))) live.new.words) }
+        (λ x. has_number courses.now x.course && ((x.day == slot.day) && (x.period == slot.period))) live.new.words) }
     ensures unchanged { live.new.earlier ≡ live.old.earlier }
 {
     for course in courses {
         if *course >= instance.courses() {
             continue;
         }
-        remove_rooms(instance, live, None, *course, day, period)?;
+        let spot = Spot {
+            room: None,
+            course: *course,
+            slot,
+        };
+        remove_rooms(instance, live, spot)?;
     }
     Ok(())
 }
@@ -189,23 +203,26 @@ fn strike_room_of(
     instance: &Instance<'_>,
     live: &mut Trail,
     room: u32,
-    day: u32,
-    period: u32,
+    slot: Slot,
     course: u32,
     other: u32,
 ) -> Result<(), AllocError>
-    requires day { day < instance.now.days }
-    requires period { period < instance.now.periods }
+    requires slot { IsSlot instance.now slot }
     requires other { other < length instance.now.courses }
     requires live { IsTable instance.now live.old.words }
     ensures ok { OnOk result (Loses instance.now live.old.words
-        (λ x. is_placed other day period x && (not (x.course == course) && (room == x.room))) live.new.words) }
+        (λ x. is_placed other slot.day slot.period x && (not (x.course == course) && (room == x.room))) live.new.words) }
     ensures unchanged { live.new.earlier ≡ live.old.earlier }
 {
     if other == course {
         return Ok(());
     }
-    remove_rooms(instance, live, Some(room), other, day, period)?;
+    let spot = Spot {
+        room: Some(room),
+        course: other,
+        slot,
+    };
+    remove_rooms(instance, live, spot)?;
     Ok(())
 }
 
@@ -215,64 +232,72 @@ fn strike_room(
     instance: &Instance<'_>,
     live: &mut Trail,
     room: u32,
-    day: u32,
-    period: u32,
+    slot: Slot,
     course: u32,
 ) -> Result<(), AllocError>
-    requires day { day < instance.now.days }
-    requires period { period < instance.now.periods }
+    requires slot { IsSlot instance.now slot }
     requires live { IsTable instance.now live.old.words }
     ensures ok { OnOk result (Loses instance.now live.old.words
-        (λ x. (x.day == day) && (x.period == period) && (not (x.course == course) && (room == x.room))) live.new.words) }
+        (λ x. (x.day == slot.day) && (x.period == slot.period) && (not (x.course == course) && (room == x.room)))
+        live.new.words) }
     ensures unchanged { live.new.earlier ≡ live.old.earlier }
 {
     for other in 0..instance.courses() {
-        strike_room_of(instance, live, room, day, period, course, other)?;
+        strike_room_of(instance, live, room, slot, course, other)?;
     }
     Ok(())
 }
 
-/// Does what `kill` does for one course, from the rooms that equal each of its free rooms: the courses that conflict with it lose the period,
-/// and if it has only one free room, all other courses lose that room.
+/// Does what `kill` does for one course, from the rooms that equal each of its free rooms: the courses that conflict with it lose
+/// the period, and if it has only one free room, all other courses lose that room.
 #[inline(always)]
 pub fn kill_one(
-    instance: &Instance<'_>,
-    links: &Conflicts,
-    free: &Trail,
+    basis: &Basis<'_, '_>,
     live: &mut Trail,
     pattern: &Pattern,
-    day: u32,
-    period: u32,
+    slot: Slot,
     course: u32,
     common: Rooms,
 ) -> Result<(), AllocError>
-    requires one { courses_of instance.now pattern.now.who ≡ course ∷ [] }
-    requires links { AreConflicts instance.now links.now }
-    requires day { day < instance.now.days }
-    requires period { period < instance.now.periods }
-    requires course { course < length instance.now.courses }
+    requires one { courses_of basis.now.instance.now pattern.now.who ≡ course ∷ [] }
+    requires basis { IsBasis basis.now }
+    requires slot { IsSlot basis.now.instance.now slot }
+    requires course { course < length basis.now.instance.now.courses }
     requires common { (r : ℕ) → has_room common r ≡ list_all
-        (λ k. not (is_open instance.now free.now.words pattern.now.room course day period k) || (k == r)) (all_rooms instance.now) }
-    requires free { IsTable instance.now free.now.words }
-    requires live { IsTable instance.now live.old.words }
-    ensures ok { OnOk result (Loses instance.now live.old.words
-        (is_struck instance.now free.now.words pattern.now day period (course ∷ [])) live.new.words) }
+        (λ k. not (is_open basis.now.instance.now basis.now.free.now.words pattern.now.room course slot.day slot.period k)
+        || (k == r)) (all_rooms basis.now.instance.now) }
+    requires live { IsTable basis.now.instance.now live.old.words }
+    ensures ok { OnOk result (Loses basis.now.instance.now live.old.words
+        (is_struck basis.now.instance.now basis.now.free.now.words pattern.now slot.day slot.period (course ∷ []))
+        live.new.words) }
     ensures unchanged { live.new.earlier ≡ live.old.earlier }
 {
+    let instance = basis.instance;
+    let conflicts = basis.links.conflicts_of(course);
+    let spot = Spot {
+        room: pattern.room,
+        course,
+        slot,
+    };
     match common {
         Rooms::Nothing => {
-            strike_period(instance, live, links.conflicts_of(course), day, period)?;
-            keep_rooms(instance, live, free, pattern.room, course, day, period)?;
+            strike_period(instance, live, conflicts, slot)?;
+            keep_rooms(instance, live, basis.free, spot)?;
             Ok(())
         }
         Rooms::One(room) => {
-            strike_period(instance, live, links.conflicts_of(course), day, period)?;
-            strike_room(instance, live, room, day, period, course)?;
-            keep_rooms(instance, live, free, pattern.room, course, day, period)?;
+            strike_period(instance, live, conflicts, slot)?;
+            strike_room(instance, live, room, slot, course)?;
+            keep_rooms(instance, live, basis.free, spot)?;
             Ok(())
         }
         Rooms::All => {
-            kill(instance, free, live, pattern, day, period, &[course])?;
+            let courses = [course];
+            let demand = Demand {
+                pattern,
+                courses: &courses,
+            };
+            kill(basis, live, &demand, slot)?;
             Ok(())
         }
     }
@@ -280,33 +305,33 @@ pub fn kill_one(
 
 /// Does what `kill` does, by the lists of conflicts if that is faster.
 pub fn kill_by_links(
-    instance: &Instance<'_>,
-    links: &Conflicts,
-    free: &Trail,
+    basis: &Basis<'_, '_>,
     live: &mut Trail,
-    pattern: &Pattern,
-    day: u32,
-    period: u32,
-    courses: &[u32],
+    demand: &Demand<'_>,
+    slot: Slot,
 ) -> Result<(), AllocError>
-    requires courses { courses.now ≡ courses_of instance.now pattern.now.who }
-    requires links { AreConflicts instance.now links.now }
-    requires day { day < instance.now.days }
-    requires period { period < instance.now.periods }
-    requires free { IsTable instance.now free.now.words }
-    requires live { IsTable instance.now live.old.words }
-    ensures ok { OnOk result (Loses instance.now live.old.words
-        (is_struck instance.now free.now.words pattern.now day period courses.now) live.new.words) }
+    requires demand { IsDemand basis.now.instance.now demand.now }
+    requires basis { IsBasis basis.now }
+    requires slot { IsSlot basis.now.instance.now slot }
+    requires live { IsTable basis.now.instance.now live.old.words }
+    ensures ok { OnOk result (Loses basis.now.instance.now live.old.words
+        (is_struck basis.now.instance.now basis.now.free.now.words demand.now.pattern.now slot.day slot.period
+        demand.now.courses.now) live.new.words) }
     ensures unchanged { live.new.earlier ≡ live.old.earlier }
 {
-    if courses.len() == 1 && courses[0] < instance.courses() {
+    let pattern = demand.pattern;
+    let courses = demand.courses;
+    if courses.len() == 1 && courses[0] < basis.instance.courses() {
         let course = courses[0];
-        let common = common_rooms(instance, free, pattern.room, course, day, period);
-        kill_one(
-            instance, links, free, live, pattern, day, period, course, common,
-        )?;
+        let spot = Spot {
+            room: pattern.room,
+            course,
+            slot,
+        };
+        let common = common_rooms(basis.instance, basis.free, spot);
+        kill_one(basis, live, pattern, slot, course, common)?;
         return Ok(());
     }
-    kill(instance, free, live, pattern, day, period, courses)?;
+    kill(basis, live, demand, slot)?;
     Ok(())
 }

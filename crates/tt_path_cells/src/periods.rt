@@ -1,14 +1,16 @@
 //! The periods in which a yes-fact has a free cell.
 
-ghost use Rattle.std.specs.Prelude.{◌≡◌, ◌<◌, ◌≤◌, ◌*◌, length, MatchOption};
-ghost use Rattle.tt_path.specs.Facts.{agrees};
+ghost use Rattle.std.specs.Prelude.{◌≡◌, ◌<◌, ◌≤◌, ◌*◌, MatchOption};
 ghost use Rattle.tt_path_cells.specs.Inner.Tables.{IsTable};
 ghost use Rattle.tt_path_cells.specs.Inner.Struck.{is_left_to, is_left};
 ghost use Rattle.tt_path_cells.specs.Inner.Slots.{is_allowed, is_left_in, Covers, IsNone, IsFirst};
+ghost use Rattle.tt_path_cells.specs.Inner.Spots.{IsSlot};
 
 use crate::asking::has_period;
-use tt_bits::Trail;
-use tt_instance::Instance;
+use crate::basis::Basis;
+use crate::demand::Demand;
+use crate::spot::Spot;
+use tt_instance::{Instance, Slot};
 use tt_path::{Pattern, is_none_or_equal};
 
 /// Returns bounds of the numbers of the periods that a pattern allows.
@@ -37,74 +39,57 @@ pub fn is_allowed(instance: &Instance<'_>, pattern: &Pattern, slot: u32) -> bool
 }
 
 /// Returns whether a course has a free room in the period that the pattern allows.
-fn is_left_to(
-    instance: &Instance<'_>,
-    free: &Trail,
-    pattern: &Pattern,
-    day: u32,
-    period: u32,
-    course: u32,
-) -> bool
-    requires day { day < instance.now.days }
-    requires period { period < instance.now.periods }
-    requires free { IsTable instance.now free.now.words }
-    ensures { result ≡ is_left_to instance.now free.now.words pattern.now day period course }
+fn is_left_to(basis: &Basis<'_, '_>, pattern: &Pattern, slot: Slot, course: u32) -> bool
+    requires slot { IsSlot basis.now.instance.now slot }
+    requires free { IsTable basis.now.instance.now basis.now.free.now.words }
+    ensures { result ≡ is_left_to basis.now.instance.now basis.now.free.now.words pattern.now slot.day slot.period course }
 {
-    course < instance.courses() && has_period(instance, free, pattern.room, course, day, period)
+    let spot = Spot {
+        room: pattern.room,
+        course,
+        slot,
+    };
+    course < basis.instance.courses() && has_period(basis.instance, basis.free, spot)
 }
 
 /// Returns whether one of the courses has a free room in the period that the pattern allows.
 #[inline(always)]
-pub fn is_left(
-    instance: &Instance<'_>,
-    free: &Trail,
-    pattern: &Pattern,
-    day: u32,
-    period: u32,
-    courses: &[u32],
-) -> bool
-    requires day { day < instance.now.days }
-    requires period { period < instance.now.periods }
-    requires free { IsTable instance.now free.now.words }
-    ensures { result ≡ is_left instance.now free.now.words pattern.now day period courses.now }
+pub fn is_left(basis: &Basis<'_, '_>, demand: &Demand<'_>, slot: Slot) -> bool
+    requires slot { IsSlot basis.now.instance.now slot }
+    requires free { IsTable basis.now.instance.now basis.now.free.now.words }
+    ensures { result ≡ is_left basis.now.instance.now basis.now.free.now.words demand.now.pattern.now slot.day slot.period
+        demand.now.courses.now }
 {
-    courses.iter().any(|course| is_left_to(instance, free, pattern, day, period, *course))
+    let pattern = demand.pattern;
+    demand
+        .courses
+        .iter()
+        .any(|course| is_left_to(basis, pattern, slot, *course))
 }
 
 /// Returns whether the pattern allows the period with this number and one of the courses has a free room there.
-pub fn is_left_in(
-    instance: &Instance<'_>,
-    free: &Trail,
-    pattern: &Pattern,
-    courses: &[u32],
-    slot: u32,
-) -> bool
-    requires slot { slot < instance.now.days * instance.now.periods }
-    requires free { IsTable instance.now free.now.words }
-    ensures { result ≡ is_left_in instance.now free.now.words pattern.now courses.now slot }
+pub fn is_left_in(basis: &Basis<'_, '_>, demand: &Demand<'_>, slot: u32) -> bool
+    requires slot { slot < basis.now.instance.now.days * basis.now.instance.now.periods }
+    requires free { IsTable basis.now.instance.now basis.now.free.now.words }
+    ensures { result ≡ is_left_in basis.now.instance.now basis.now.free.now.words demand.now.pattern.now
+        demand.now.courses.now slot }
 {
-    let periods = instance.periods();
+    let periods = basis.instance.periods();
     let day = slot / periods;
     let period = slot % periods;
-    is_allowed(instance, pattern, slot) && is_left(instance, free, pattern, day, period, courses)
+    is_allowed(basis.instance, demand.pattern, slot) && is_left(basis, demand, Slot { day, period })
 }
 
 /// Returns the first of these periods in which one of the courses has a free room that the pattern allows.
-pub fn first_left(
-    instance: &Instance<'_>,
-    free: &Trail,
-    pattern: &Pattern,
-    courses: &[u32],
-    from: u32,
-    to: u32,
-) -> Option<u32>
-    requires to { to ≤ instance.now.days * instance.now.periods }
-    requires free { IsTable instance.now free.now.words }
-    ensures { let left = is_left_in instance.now free.now.words pattern.now courses.now in
+pub fn first_left(basis: &Basis<'_, '_>, demand: &Demand<'_>, from: u32, to: u32) -> Option<u32>
+    requires to { to ≤ basis.now.instance.now.days * basis.now.instance.now.periods }
+    requires free { IsTable basis.now.instance.now basis.now.free.now.words }
+    ensures { let left = is_left_in basis.now.instance.now basis.now.free.now.words demand.now.pattern.now
+        demand.now.courses.now in
         MatchOption result (IsNone left from to) (λ k. IsFirst left from to k) }
 {
     for slot in from..to {
-        if is_left_in(instance, free, pattern, courses, slot) {
+        if is_left_in(basis, demand, slot) {
             return Some(slot);
         }
     }

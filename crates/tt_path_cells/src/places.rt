@@ -1,14 +1,16 @@
 //! The places of the words of rooms.
 
 ghost use Rattle.std.specs.Prelude.{◌≡◌, ◌<◌, ◌≤◌, ◌+◌, ◌*◌, ℕ, length};
-ghost use Rattle.tt_instance.specs.Cells.{slot, cell};
+ghost use Rattle.tt_instance.specs.Cells.{cell};
 ghost use Rattle.tt_path.specs.Facts.{agrees};
 ghost use Rattle.tt_bits.specs.Inner.Bits.{has_bit};
 ghost use Rattle.tt_path_cells.specs.Inner.Words.{width, place, size};
 ghost use Rattle.tt_path_cells.specs.Inner.Tables.{has_cell, is_open, IsTable};
+ghost use Rattle.tt_path_cells.specs.Inner.Spots.{IsSlot, IsSpot};
 
+use crate::spot::Spot;
 use tt_bits::{Trail, both, one};
-use tt_instance::Instance;
+use tt_instance::{Instance, Slot};
 
 /// Returns how many words the rooms take.
 pub fn width(instance: &Instance<'_>) -> u32
@@ -19,12 +21,11 @@ pub fn width(instance: &Instance<'_>) -> u32
 }
 
 /// Returns the place of a word of rooms of a course in a period.
-pub fn place(instance: &Instance<'_>, course: u32, day: u32, period: u32, block: u32) -> usize
+pub fn place(instance: &Instance<'_>, course: u32, slot: Slot, block: u32) -> usize
     requires course { course < length instance.now.courses }
-    requires day { day < instance.now.days }
-    requires period { period < instance.now.periods }
+    requires slot { IsSlot instance.now slot }
     requires block { block < width instance.now }
-    ensures value { result ≡ place instance.now course day period + block }
+    ensures value { result ≡ place instance.now course slot.day slot.period + block }
     ensures within { result < size instance.now }
 {
     let courses = instance.courses();
@@ -33,9 +34,9 @@ pub fn place(instance: &Instance<'_>, course: u32, day: u32, period: u32, block:
     let width = width(instance);
     prove!(course < courses);
     prove!(block < width);
-    let slot = (course as usize * days as usize + day as usize) * periods as usize
-        + period as usize;
-    slot * width as usize + block as usize
+    let row = course as usize * days as usize + slot.day as usize;
+    let column = row * periods as usize + slot.period as usize;
+    column * width as usize + block as usize
 }
 
 /// Returns the bits of a block that are the given room's, or all bits if no room is given.
@@ -54,43 +55,31 @@ pub fn cells_word(
     instance: &Instance<'_>,
     table: &Trail,
     course: u32,
-    day: u32,
-    period: u32,
+    slot: Slot,
     block: u32,
 ) -> u64
     requires course { course < length instance.now.courses }
-    requires day { day < instance.now.days }
-    requires period { period < instance.now.periods }
+    requires slot { IsSlot instance.now slot }
     requires block { block < width instance.now }
     requires table { IsTable instance.now table.now.words }
     ensures { (k : ℕ) → k < 64 → has_bit result k
-        ≡ has_cell instance.now table.now.words (cell course (block * 64 + k) (slot day period)) }
+        ≡ has_cell instance.now table.now.words (cell course (block * 64 + k) slot) }
 {
     if table.word(table.len() - 1) == 0 {
-        table.word(place(instance, course, day, period, block))
+        table.word(place(instance, course, slot, block))
     } else {
         0
     }
 }
 
-/// Returns a word of rooms of a course in a period, only with the given room if one is given, or 0 if the bits aren't in force.
-pub fn open_word(
-    instance: &Instance<'_>,
-    table: &Trail,
-    room: Option<u32>,
-    course: u32,
-    day: u32,
-    period: u32,
-    block: u32,
-) -> u64
-    requires course { course < length instance.now.courses }
-    requires day { day < instance.now.days }
-    requires period { period < instance.now.periods }
+/// Returns a word of rooms of a spot, or 0 if the bits aren't in force.
+pub fn open_word(instance: &Instance<'_>, table: &Trail, spot: Spot, block: u32) -> u64
+    requires spot { IsSpot instance.now spot }
     requires block { block < width instance.now }
     requires table { IsTable instance.now table.now.words }
     ensures { (k : ℕ) → k < 64 → has_bit result k
-        ≡ is_open instance.now table.now.words room course day period (block * 64 + k) }
+        ≡ is_open instance.now table.now.words spot.room spot.course spot.slot.day spot.slot.period (block * 64 + k) }
 {
-    let word = cells_word(instance, table, course, day, period, block);
-    both(word, allowed(room, block))
+    let word = cells_word(instance, table, spot.course, spot.slot, block);
+    both(word, allowed(spot.room, block))
 }

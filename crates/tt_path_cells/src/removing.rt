@@ -1,69 +1,61 @@
 //! Removing cells from a table.
 
-ghost use Rattle.std.specs.Prelude.{◌≡◌, ◌<◌, ◌&&◌, true, false, not, length, OnOk, OnErr};
+ghost use Rattle.std.specs.Prelude.{◌≡◌, ◌&&◌, true, false, not, OnOk};
 ghost use Rattle.tt_instance.specs.declared.cell.Cell.{Cell};
 ghost use Rattle.tt_path.specs.Facts.{agrees};
 ghost use Rattle.tt_path_cells.specs.Inner.Tables.{has_cell, is_placed, IsTable, Loses};
+ghost use Rattle.tt_path_cells.specs.Inner.Spots.{IsSpot};
 
 use crate::places::{allowed, open_word, place, width};
+use crate::spot::Spot;
 use std::alloc::AllocError;
 use tt_bits::{Trail, clear, others};
 use tt_instance::Instance;
 
-/// Removes the course's cells in a period, in the given room if one is given.
+/// Removes the cells of a spot.
 #[inline(always)]
 pub fn remove_rooms(
     instance: &Instance<'_>,
     table: &mut Trail,
-    room: Option<u32>,
-    course: u32,
-    day: u32,
-    period: u32,
+    spot: Spot,
 ) -> Result<(), AllocError>
-    requires course { course < length instance.now.courses }
-    requires day { day < instance.now.days }
-    requires period { period < instance.now.periods }
+    requires spot { IsSpot instance.now spot }
     requires table { IsTable instance.now table.old.words }
     ensures ok { OnOk result (Loses instance.now table.old.words
-        (λ x. is_placed course day period x && agrees room x.room) table.new.words) }
+        (λ x. is_placed spot.course spot.slot.day spot.slot.period x && agrees spot.room x.room) table.new.words) }
     ensures unchanged { table.new.earlier ≡ table.old.earlier }
 {
     for block in 0..width(instance) {
         clear(
             table,
-            place(instance, course, day, period, block),
-            allowed(room, block),
+            place(instance, spot.course, spot.slot, block),
+            allowed(spot.room, block),
         )?;
     }
     Ok(())
 }
 
-/// Removes the course's cells in a period except those that another table has, in the given room if one is given.
+/// Removes the course's cells in the spot's period, in whichever rooms, except those of the spot that another table has.
 #[inline(always)]
 pub fn keep_rooms(
     instance: &Instance<'_>,
     table: &mut Trail,
     kept: &Trail,
-    room: Option<u32>,
-    course: u32,
-    day: u32,
-    period: u32,
+    spot: Spot,
 ) -> Result<(), AllocError>
-    requires course { course < length instance.now.courses }
-    requires day { day < instance.now.days }
-    requires period { period < instance.now.periods }
+    requires spot { IsSpot instance.now spot }
     requires table { IsTable instance.now table.old.words }
     requires kept { IsTable instance.now kept.now.words }
     ensures ok { OnOk result (Loses instance.now table.old.words
-        (λ x. is_placed course day period x && not (has_cell instance.now kept.now.words x && agrees room x.room))
-        table.new.words) }
+        (λ x. is_placed spot.course spot.slot.day spot.slot.period x
+        && not (has_cell instance.now kept.now.words x && agrees spot.room x.room)) table.new.words) }
     ensures unchanged { table.new.earlier ≡ table.old.earlier }
 {
     for block in 0..width(instance) {
-        let word = open_word(instance, kept, room, course, day, period, block);
+        let word = open_word(instance, kept, spot, block);
         clear(
             table,
-            place(instance, course, day, period, block),
+            place(instance, spot.course, spot.slot, block),
             others(word),
         )?;
     }

@@ -9,7 +9,9 @@ use Rattle.tt_list_laws.proofs.Truth.{not-not}
 pub returns : goal.returns
 returns c =
     let a = c.args in
+    let spot = a.spot in
     let w = c.open_word.result in
     ap not c.is_empty.ensures ∙ not-not (list_any (has_bit w) bits)
-    ∙ any_bits (has_bit w) (λ k. is_open a.instance.now a.table.now.words a.room a.course a.day a.period (a.block * 64 + k))
+    ∙ any_bits (has_bit w)
+    (λ k. is_open a.instance.now a.table.now.words spot.room spot.course spot.slot.day spot.slot.period (a.block * 64 + k))
     c.open_word.ensures

@@ -5,8 +5,10 @@ use Rattle.tt_path_cells.specs.Inner.Shown.{is_struck}
 use Rattle.tt_path_cells.proofs.killing.kill.Given as goal
 
 abbrev pub invariant-loop-course : goal.invariant-loop-course
-invariant-loop-course l = record {
-  loses : Loses l.instance l.fn.live.words
-      (λ x. nat_lt x.course l.course && is_struck l.instance l.free.words l.pattern l.day l.period l.courses x) l.live.words;
-  earlier : l.live.earlier ≡ l.fn.live.earlier;
-}
+invariant-loop-course l =
+    let p = l.basis.instance.now in
+    record {
+      loses : Loses p l.fn.live.words (λ x. nat_lt x.course l.course &&
+          is_struck p l.basis.free.now.words l.demand.pattern.now l.slot.day l.slot.period l.demand.courses.now x) l.live.words;
+      earlier : l.live.earlier ≡ l.fn.live.earlier;
+    }

@@ -6,15 +6,18 @@ use Rattle.tt_path_cells.proofs.killing.kill_by_links.Goals as goal
 
 pub kill_one-requires-clause-one : goal.kill_one-requires-clause-one
 kill_one-requires-clause-one c =
-    let ks = c.args.courses.now in
+    let ks = c.args.demand.now.courses.now in
     let one : length ks ≡ 1 = omega arith in
-    sym c.requires.courses ∙ list_of_one ks one
+    sym c.requires.demand.courses ∙ list_of_one ks one
 
 pub returns-then-courses-clause-ok : goal.returns-then-courses-clause-ok
 returns-then-courses-clause-ok c =
     let a = c.args in
-    let p = a.instance.now in
-    let ks = a.courses.now in
+    let basis = a.basis.now in
+    let demand = a.demand.now in
+    let p = basis.instance.now in
+    let ks = demand.courses.now in
     let one : length ks ≡ 1 = omega arith in
-    subst (λ l. Loses p a.live.now.words (is_struck p a.free.now.words a.pattern.now a.day a.period l) c.kill_one.new.live.words)
+    let struck = is_struck p basis.free.now.words demand.pattern.now a.slot.day a.slot.period in
+    subst (λ l. Loses p a.live.now.words (struck l) c.kill_one.new.live.words)
     (sym (list_of_one ks one)) c.in_ok-kill_one.ensures.ok

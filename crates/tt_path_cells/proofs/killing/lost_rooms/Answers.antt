@@ -10,10 +10,12 @@ use Rattle.tt_path_cells.proofs.killing.lost_rooms.Goals as goal
 pub returns-then-matches : goal.returns-then-matches
 returns-then-matches c = λ r.
     let a = c.args in
-    let ks = a.courses.now in
+    let basis = a.basis.now in
+    let demand = a.demand.now in
+    let ks = demand.courses.now in
     let i = c.loop-other.other-index in
     let here : i < length ks = omega arith in
-    let beside = is_lost_to a.instance.now a.free.now.words a.pattern.now a.day a.period a.course r in
+    let beside = is_lost_to basis.instance.now basis.free.now.words demand.pattern.now a.slot.day a.slot.period a.course r in
     let none : has_room c.both-lost.result r ≡ false = elim c.match-matches.branch [
       | in-Nothing w ↦ ap (λ l. has_room l r) w.in-Nothing.is
       | in_default w ↦ absurd (both_ways c.match-matches.matches w.matches-is c.if-matches.true)

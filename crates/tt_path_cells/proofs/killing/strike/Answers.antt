@@ -49,49 +49,58 @@ no_cell p live c d s none x h e = false_from_ne_true (has_cell p live x) (λ k.
 pub returns-then-not-has_period-clause-ok : goal.returns-then-not-has_period-clause-ok
 returns-then-not-has_period-clause-ok c =
     let a = c.args in
-    let p = a.instance.now in
+    let basis = a.basis.now in
+    let demand = a.demand.now in
+    let p = basis.instance.now in
     let live = a.live.now.words in
-    let lost = λ (x : Cell). loses_room p a.free.now.words a.pattern.now a.day a.period a.courses.now x.course x.room in
-    loses-absent p live (λ x. is_placed a.course a.day a.period x && lost x) c.requires.live
-    (λ x h e. no_cell p live a.course a.day a.period (sym c.has_period.ensures ∙ c.if-not-has_period.true) x h
-    (and_parts (is_placed a.course a.day a.period x) (lost x) e).0)
+    let lost = λ (x : Cell).
+    loses_room p basis.free.now.words demand.pattern.now a.slot.day a.slot.period demand.courses.now x.course x.room in
+    loses-absent p live (λ x. is_placed a.course a.slot.day a.slot.period x && lost x) c.requires.live
+    (λ x h e. no_cell p live a.course a.slot.day a.slot.period (sym c.has_period.ensures ∙ c.if-not-has_period.true) x h
+    (and_parts (is_placed a.course a.slot.day a.slot.period x) (lost x) e).0)
 
 pub returns-then-has_course-clause-ok : goal.returns-then-has_course-clause-ok
 returns-then-has_course-clause-ok c =
     let a = c.args in
-    let p = a.instance.now in
-    let free = a.free.now.words in
-    let g = a.pattern.now in
-    let ks = a.courses.now in
-    let here : has_number ks a.course ≡ true = ap (λ l. has_number l a.course) c.requires.courses ∙ who-has p g.who a.course
+    let basis = a.basis.now in
+    let demand = a.demand.now in
+    let p = basis.instance.now in
+    let free = basis.free.now.words in
+    let g = demand.pattern.now in
+    let ks = demand.courses.now in
+    let here : has_number ks a.course ≡ true = ap (λ l. has_number l a.course) c.requires.demand.courses ∙ who-has p g.who a.course
     ∙ sym c.has_course.ensures ∙ c.if-has_course.true in
     loses-same p a.live.now.words c.keep_rooms.new.table.words
-    (λ x. is_placed a.course a.day a.period x && not (has_cell p free x && agrees g.room x.room))
-    (λ x. is_placed a.course a.day a.period x && loses_room p free g a.day a.period ks x.course x.room) c.in_ok-keep_rooms.ensures.ok
-    (λ x h. both_where (is_placed a.course a.day a.period x) (not (has_cell p free x && agrees g.room x.room))
-    (loses_room p free g a.day a.period ks x.course x.room) (λ e.
-    let at = placed_at a.course a.day a.period x e in
+    (λ x. is_placed a.course a.slot.day a.slot.period x && not (has_cell p free x && agrees g.room x.room))
+    (λ x. is_placed a.course a.slot.day a.slot.period x && loses_room p free g a.slot.day a.slot.period ks x.course x.room)
+    c.in_ok-keep_rooms.ensures.ok
+    (λ x h. both_where (is_placed a.course a.slot.day a.slot.period x) (not (has_cell p free x && agrees g.room x.room))
+    (loses_room p free g a.slot.day a.slot.period ks x.course x.room) (λ e.
+    let at = placed_at a.course a.slot.day a.slot.period x e in
     ap (λ d. not (has_cell p free (cell x.course x.room (slot d x.period)) && agrees g.room x.room)) at.1
-    ∙ ap (λ s. not (has_cell p free (cell x.course x.room (slot a.day s)) && agrees g.room x.room)) at.2
-    ∙ one_of (has_number ks x.course) (is_open p free g.room x.course a.day a.period x.room)
-    (list_all (is_lost_to p free g a.day a.period x.course x.room) ks) (ap (has_number ks) at.0 ∙ here)))
+    ∙ ap (λ s. not (has_cell p free (cell x.course x.room (slot a.slot.day s)) && agrees g.room x.room)) at.2
+    ∙ one_of (has_number ks x.course) (is_open p free g.room x.course a.slot.day a.slot.period x.room)
+    (list_all (is_lost_to p free g a.slot.day a.slot.period x.course x.room) ks) (ap (has_number ks) at.0 ∙ here)))
 
 pub returns-clause-ok : goal.returns-clause-ok
 returns-clause-ok c =
     let a = c.args in
-    let p = a.instance.now in
-    let free = a.free.now.words in
-    let g = a.pattern.now in
-    let ks = a.courses.now in
-    let none : has_number ks a.course ≡ false = ap (λ l. has_number l a.course) c.requires.courses ∙ who-has p g.who a.course
+    let basis = a.basis.now in
+    let demand = a.demand.now in
+    let p = basis.instance.now in
+    let free = basis.free.now.words in
+    let g = demand.pattern.now in
+    let ks = demand.courses.now in
+    let none : has_number ks a.course ≡ false = ap (λ l. has_number l a.course) c.requires.demand.courses ∙ who-has p g.who a.course
     ∙ sym c.has_course.ensures ∙ c.if-has_course.false in
     loses-same p a.live.now.words c.remove_lost.new.live.words
-    (λ x. is_placed a.course a.day a.period x && has_room c.lost_rooms-lost.result x.room)
-    (λ x. is_placed a.course a.day a.period x && loses_room p free g a.day a.period ks x.course x.room) c.in_ok-remove_lost.ensures.ok
-    (λ x h. both_where (is_placed a.course a.day a.period x) (has_room c.lost_rooms-lost.result x.room)
-    (loses_room p free g a.day a.period ks x.course x.room) (λ e.
-    let at = placed_at a.course a.day a.period x e in
+    (λ x. is_placed a.course a.slot.day a.slot.period x && has_room c.lost_rooms-lost.result x.room)
+    (λ x. is_placed a.course a.slot.day a.slot.period x && loses_room p free g a.slot.day a.slot.period ks x.course x.room)
+    c.in_ok-remove_lost.ensures.ok
+    (λ x h. both_where (is_placed a.course a.slot.day a.slot.period x) (has_room c.lost_rooms-lost.result x.room)
+    (loses_room p free g a.slot.day a.slot.period ks x.course x.room) (λ e.
+    let at = placed_at a.course a.slot.day a.slot.period x e in
     c.lost_rooms-lost.ensures x.room
-    ∙ ap (λ i. list_all (is_lost_to p free g a.day a.period i x.room) ks) (sym at.0)
-    ∙ none_of (has_number ks x.course) (not (is_open p free g.room x.course a.day a.period x.room))
-    (list_all (is_lost_to p free g a.day a.period x.course x.room) ks) (ap (has_number ks) at.0 ∙ none)))
+    ∙ ap (λ i. list_all (is_lost_to p free g a.slot.day a.slot.period i x.room) ks) (sym at.0)
+    ∙ none_of (has_number ks x.course) (not (is_open p free g.room x.course a.slot.day a.slot.period x.room))
+    (list_all (is_lost_to p free g a.slot.day a.slot.period x.course x.room) ks) (ap (has_number ks) at.0 ∙ none)))

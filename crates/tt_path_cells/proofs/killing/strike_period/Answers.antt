@@ -16,12 +16,12 @@ loop-course-preserved c =
     let ks = a.courses.now in
     let i = c.loop-course.course-index in
     let here : i < length ks = omega arith in
-    let at = λ (x : Cell). (x.day == a.day) && (x.period == a.period) in
+    let at = λ (x : Cell). (x.day == a.slot.day) && (x.period == a.slot.period) in
     record {
       loses = loses-more p a.live.now.words c.loop-course.live.words c.remove_rooms.new.table.words
-          (λ x. has_number (take i ks) x.course && at x) (λ x. is_placed (slice_index_or ks i 0) a.day a.period x && true)
+          (λ x. has_number (take i ks) x.course && at x) (λ x. is_placed (slice_index_or ks i 0) a.slot.day a.slot.period x && true)
           (λ x. has_number (take (i + 1) ks) x.course && at x) c.loop-course.invariant.loses c.in_ok-remove_rooms.ensures.ok
-          (λ x h. course_next_at ks i here x.course (x.day == a.day) (x.period == a.period));
+          (λ x h. course_next_at ks i here x.course (x.day == a.slot.day) (x.period == a.slot.period));
       earlier = c.remove_rooms.ensures.unchanged ∙ c.loop-course.invariant.earlier;
     }
 
@@ -31,5 +31,6 @@ returns-clause-ok c =
     let ks = a.courses.now in
     let end : c.loop-course.course-index ≡ length ks = omega arith in
     loses-same a.instance.now a.live.now.words c.loop-course.live.words _
-    (λ x. has_number ks x.course && ((x.day == a.day) && (x.period == a.period))) c.loop-course.invariant.loses
-    (λ x h. ap (λ l. has_number l x.course && ((x.day == a.day) && (x.period == a.period))) (ap (λ n. take n ks) end ∙ take-length ks))
+    (λ x. has_number ks x.course && ((x.day == a.slot.day) && (x.period == a.slot.period))) c.loop-course.invariant.loses
+    (λ x h. ap (λ l. has_number l x.course && ((x.day == a.slot.day) && (x.period == a.slot.period)))
+    (ap (λ n. take n ks) end ∙ take-length ks))

@@ -7,6 +7,6 @@ use Rattle.tt_path_cells.proofs.killing.strike_period.Given as goal
 abbrev pub invariant-loop-course : goal.invariant-loop-course
 invariant-loop-course l = record {
   loses : Loses l.instance l.fn.live.words
-      (λ x. has_number (take l.course-index l.courses) x.course && ((x.day == l.day) && (x.period == l.period))) l.live.words;
+      (λ x. has_number (take l.course-index l.courses) x.course && ((x.day == l.slot.day) && (x.period == l.slot.period))) l.live.words;
   earlier : l.live.earlier ≡ l.fn.live.earlier;
 }

@@ -10,7 +10,7 @@ pub loop-other-init : goal.loop-other-init
 loop-other-init c =
     let a = c.args in
     let p = a.instance.now in
-    let gone = λ (x : Cell). (x.day == a.day) && (x.period == a.period) && (not (x.course == a.course) && (a.room == x.room)) in
+    let gone = λ (x : Cell). (x.day == a.slot.day) && (x.period == a.slot.period) && (not (x.course == a.course) && (a.room == x.room)) in
     record {
       loses = loses-none p a.live.now.words (λ x. nat_lt x.course 0 && gone x) c.requires.live
           (λ x h. ap (λ b. b && gone x) (le-ltb x.course 0 (omega arith)));
@@ -26,12 +26,12 @@ loop-other-preserved c =
     let p = a.instance.now in
     let n = c.loop-other.other in
     let room = λ (x : Cell). not (x.course == a.course) && (a.room == x.room) in
-    let gone = λ (x : Cell). (x.day == a.day) && (x.period == a.period) && room x in
+    let gone = λ (x : Cell). (x.day == a.slot.day) && (x.period == a.slot.period) && room x in
     record {
       loses = loses-more p a.live.now.words c.loop-other.live.words c.strike_room_of.new.live.words (λ x. nat_lt x.course n && gone x)
-          (λ x. is_placed n a.day a.period x && room x) (λ x. nat_lt x.course (n + 1) && gone x) c.loop-other.invariant.loses
+          (λ x. is_placed n a.slot.day a.slot.period x && room x) (λ x. nat_lt x.course (n + 1) && gone x) c.loop-other.invariant.loses
           c.in_ok-strike_room_of.ensures.ok
-          (λ x h. course_next n x.course (x.day == a.day) (x.period == a.period) (room x));
+          (λ x h. course_next n x.course (x.day == a.slot.day) (x.period == a.slot.period) (room x));
       earlier = c.strike_room_of.ensures.unchanged ∙ c.loop-other.invariant.earlier;
     }
 
@@ -40,7 +40,7 @@ returns-clause-ok c =
     let a = c.args in
     let p = a.instance.now in
     let n = c.loop-other.other in
-    let gone = λ (x : Cell). (x.day == a.day) && (x.period == a.period) && (not (x.course == a.course) && (a.room == x.room)) in
+    let gone = λ (x : Cell). (x.day == a.slot.day) && (x.period == a.slot.period) && (not (x.course == a.course) && (a.room == x.room)) in
     let end : length p.courses ≤ n = omega (arith, c.courses-other-end.ensures.value) in
     loses-same p a.live.now.words c.loop-other.live.words (λ x. nat_lt x.course n && gone x) gone c.loop-other.invariant.loses
     (λ x h. let l = h.course in ap (λ b. b && gone x) (lt-ltb x.course n (omega arith)))

@@ -7,6 +7,6 @@ abbrev pub invariant-loop-other : goal.invariant-loop-other
 invariant-loop-other l = record {
   loses : Loses l.instance l.fn.live.words
       (λ x. nat_lt x.course l.other &&
-      ((x.day == l.day) && (x.period == l.period) && (not (x.course == l.course) && (l.room == x.room)))) l.live.words;
+      ((x.day == l.slot.day) && (x.period == l.slot.period) && (not (x.course == l.course) && (l.room == x.room)))) l.live.words;
   earlier : l.live.earlier ≡ l.fn.live.earlier;
 }

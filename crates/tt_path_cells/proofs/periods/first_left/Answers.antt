@@ -9,7 +9,7 @@ loop-slot-init c = record { none = λ k a b. absurd (omega arith) }
 pub loop-slot-preserved : goal.loop-slot-preserved
 loop-slot-preserved c =
     let a = c.args in
-    let left = is_left_in a.instance.now a.free.now.words a.pattern.now a.courses.now in
+    let left = is_left_in a.basis.now.instance.now a.basis.now.free.now.words a.demand.now.pattern.now a.demand.now.courses.now in
     let n = c.loop-slot.slot in
     record {
       none = λ k from upto. elim (cases_lt k n) [

@@ -15,8 +15,8 @@ returns-then-word-eq0 c = λ k h.
     let force : in_force p words ≡ true = eq-eqb (slice_index_or words (size p) 0) 0 (ap (λ i. slice_index_or words i 0) (sym last)
     ∙ sym c.word.ensures ∙ c.if-word-eq0.true) in
     ap (λ n. has_bit n k) (c.word-then-word-eq0.ensures ∙ ap (λ i. slice_index_or words i 0) c.place.ensures.value)
-    ∙ sym (cell-bit p words a.course a.day a.period a.block k h
-    ∙ ap (λ b. b && has_bit (word_at p words a.course a.day a.period a.block) k) force)
+    ∙ sym (cell-bit p words a.course a.slot.day a.slot.period a.block k h
+    ∙ ap (λ b. b && has_bit (word_at p words a.course a.slot.day a.slot.period a.block) k) force)
 
 pub returns-else-word-eq0 : goal.returns-else-word-eq0
 returns-else-word-eq0 c = λ k h.
@@ -27,5 +27,5 @@ returns-else-word-eq0 c = λ k h.
     let force : in_force p words ≡ false = ne_eqb (slice_index_or words (size p) 0) 0
     (λ e. c.if-word-eq0.false (c.word.ensures ∙ ap (λ i. slice_index_or words i 0) last ∙ e)) in
     has_bit-none k
-    ∙ sym (cell-bit p words a.course a.day a.period a.block k h
-    ∙ ap (λ b. b && has_bit (word_at p words a.course a.day a.period a.block) k) force)
+    ∙ sym (cell-bit p words a.course a.slot.day a.slot.period a.block k h
+    ∙ ap (λ b. b && has_bit (word_at p words a.course a.slot.day a.slot.period a.block) k) force)

@@ -6,11 +6,11 @@ pub returns-clause-within : goal.returns-clause-within
 returns-clause-within c =
     let a = c.args in
     let p = a.instance.now in
-    let w = word_within p (record { course = a.course; day = a.day; period = a.period; block = a.block; number = 0 })
+    let w = word_within p (record { course = a.course; day = a.slot.day; period = a.slot.period; block = a.block; number = 0 })
     (record {
       course = c.requires.course;
-      day = c.requires.day;
-      period = c.requires.period;
+      day = c.requires.slot.day;
+      period = c.requires.slot.period;
       block = c.requires.block;
       number = omega arith;
     }) in

@@ -5,8 +5,11 @@ use Rattle.tt_path_cells.specs.Inner.Words.{is_here, Drops}
 use Rattle.tt_path_cells.proofs.removing.keep_rooms.Given as goal
 
 abbrev pub invariant-loop-block : goal.invariant-loop-block
-invariant-loop-block l = record {
-  drops : Drops l.instance l.fn.table.words l.table.words (λ b. is_here l.course l.day l.period b && nat_lt b.block l.block && not
-      (is_open l.instance l.kept.words l.room l.course l.day l.period (b.block * 64 + b.number)));
-  earlier : l.table.earlier ≡ l.fn.table.earlier;
-}
+invariant-loop-block l =
+    let spot = l.spot in
+    record {
+      drops : Drops l.instance l.fn.table.words l.table.words
+          (λ b. is_here spot.course spot.slot.day spot.slot.period b && nat_lt b.block l.block && not
+          (is_open l.instance l.kept.words spot.room spot.course spot.slot.day spot.slot.period (b.block * 64 + b.number)));
+      earlier : l.table.earlier ≡ l.fn.table.earlier;
+    }
