@@ -16,7 +16,7 @@ use Rattle.tt_path.specs.Live.{is_barred, excludes, is_dead, is_live}
 use Rattle.tt_path.specs.Inner.Nested.{is_excluded}
 use Rattle.tt_path.specs.declared.facts.Pattern.{Pattern}
 use Rattle.tt_path.specs.declared.facts.Fact.{Fact}
-use Rattle.tt_path_cells.specs.Inner.Tables.{has_cell, IsTable, Shows}
+use Rattle.tt_path_tables.specs.Inner.Tables.{has_cell, IsTable, Shows}
 use Rattle.tt_path_cells.specs.Inner.Touching.{can_touch}
 use Rattle.tt_path_cells.specs.Inner.Shown.{is_free_of, AreListed, Settles, Renews}
 use Rattle.tt_path_cells.specs.Inner.Shelves.{no_pattern, pattern_at}

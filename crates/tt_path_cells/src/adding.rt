@@ -4,14 +4,11 @@ ghost use Rattle.std.specs.Prelude.{◌≡◌, false, [], ◌∷◌, ◌++◌, O
 ghost use Rattle.std.specs.List.{list_any};
 ghost use Rattle.tt_path.specs.Facts.{same_pattern};
 ghost use Rattle.tt_instance_links.specs.Inner.Linked.{AreConflicts};
-ghost use Rattle.tt_path_cells.specs.Inner.Tables.{IsTable};
+ghost use Rattle.tt_path_tables.specs.Inner.Tables.{IsTable};
 ghost use Rattle.tt_path_cells.specs.Inner.Shown.{Adds};
 
 use crate::added::Added;
 use crate::again::{Denial, settle_again};
-use crate::barring::remove_matched;
-use crate::basis::Basis;
-use crate::removing::remove_all;
 use crate::settling::settle;
 use crate::shelves::YesFacts;
 use crate::tables::Tables;
@@ -19,6 +16,7 @@ use crate::watching::{NO_WATCH, Watches};
 use std::alloc::AllocError;
 use tt_instance::Instance;
 use tt_instance_links::Conflicts;
+use tt_path_tables::{Basis, remove_all, remove_matched};
 
 /// Changes the tables for a no-fact. `yes` has the patterns of the yes-facts; if one of them is the no-fact's, no cell is live.
 fn deny<'a>(

@@ -1,17 +1,13 @@
 //! The older yes-facts after a no-fact.
 
 ghost use Rattle.std.specs.Prelude.{◌≡◌, ◌<◌, ◌≤◌, length, OnOk};
-ghost use Rattle.tt_path_cells.specs.Inner.Tables.{IsTable};
+ghost use Rattle.tt_path_tables.specs.Inner.Tables.{IsTable};
 ghost use Rattle.tt_path_cells.specs.Inner.Touching.{can_agree, can_share, can_touch};
 ghost use Rattle.tt_path_cells.specs.Inner.Shown.{Renews};
 ghost use Rattle.tt_path_cells.specs.Inner.Shelves.{pattern_at, row_of, shelf_of, shelves};
 ghost use Rattle.tt_path_cells.specs.Inner.Asking.{Asks};
-ghost use Rattle.tt_path_cells.specs.Inner.Bases.{IsBasis};
+ghost use Rattle.tt_path_tables.specs.Inner.Bases.{IsBasis};
 
-use crate::basis::Basis;
-use crate::courses::courses_of;
-use crate::periods::slots_of;
-use crate::removing::is_cleared;
 use crate::settling::settle;
 use crate::shelves::{YesFacts, shelf_at};
 use crate::watching::Watches;
@@ -19,6 +15,7 @@ use std::alloc::AllocError;
 use tt_bits::Trail;
 use tt_instance::Instance;
 use tt_path::{Pattern, Who};
+use tt_path_tables::{Basis, courses_of, is_cleared, slots_of};
 
 /// Returns whether some number agrees with both, as far as they are given.
 fn can_agree(first: Option<u32>, second: Option<u32>) -> bool

@@ -5,13 +5,9 @@ ghost use Rattle.tt_path.specs.declared.path.TheConstants.{MAX_FACTS};
 
 use crate::added::Added;
 use crate::adding::add;
-use crate::asking::{has_cell, has_period, periods_of};
-use crate::first::first_table;
 use crate::listing::{list_fact, unlist_fact};
 use crate::order::{Ranked, RoomOrder};
-use crate::places::cells_word;
 use crate::shelves::YesFacts;
-use crate::spot::Spot;
 use crate::tables::Tables;
 use crate::watching::Watches;
 use std::alloc::{AllocError, Global};
@@ -20,6 +16,7 @@ use tt_bits::is_empty;
 use tt_instance::{Instance, Slot};
 use tt_instance_links::Conflicts;
 use tt_path::{Cell, Fact, Pattern};
+use tt_path_tables::{Spot, cells_word, first_table, has_cell, has_period, periods_of};
 
 /// The facts, which of them are the first yes-facts of their patterns, these patterns, the cells that are not barred, and the live ones.
 #[derive(Drop)]

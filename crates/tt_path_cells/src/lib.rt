@@ -4,23 +4,11 @@
 mod added;
 mod adding;
 mod again;
-mod asking;
-mod barring;
-mod basis;
 mod cells;
-mod courses;
-mod demand;
-mod first;
-mod killing;
 mod listing;
 mod order;
-mod periods;
-mod places;
-mod removing;
-mod rooms;
 mod settling;
 mod shelves;
-mod spot;
 mod tables;
 mod watching;
 

@@ -2,27 +2,22 @@
 
 ghost use Rattle.std.specs.Prelude.{◌≡◌, ◌<◌, [], ◌∷◌, length, Some, OnOk};
 ghost use Rattle.tt_path.specs.Inner.Nested.{courses_of};
-ghost use Rattle.tt_path_cells.specs.Inner.Tables.{IsTable};
-ghost use Rattle.tt_path_cells.specs.Inner.Slots.{is_left_in, Covers, IsFirst};
+ghost use Rattle.tt_path_tables.specs.Inner.Tables.{IsTable};
+ghost use Rattle.tt_path_tables.specs.Inner.Slots.{is_left_in, Covers, IsFirst};
 ghost use Rattle.tt_path_cells.specs.Inner.Shown.{Settles};
-ghost use Rattle.tt_path_cells.specs.Inner.Spots.{IsSlot};
-ghost use Rattle.tt_path_cells.specs.Inner.Bases.{IsBasis};
-ghost use Rattle.tt_path_cells.specs.Inner.Demands.{IsDemand};
+ghost use Rattle.tt_path_tables.specs.Inner.Spots.{IsSlot};
+ghost use Rattle.tt_path_tables.specs.Inner.Bases.{IsBasis};
+ghost use Rattle.tt_path_tables.specs.Inner.Demands.{IsDemand};
 
-use crate::asking::common_rooms;
-use crate::basis::Basis;
-use crate::courses::courses_of;
-use crate::demand::Demand;
-use crate::killing::{kill_by_links, kill_one};
-use crate::periods::{first_left, is_left, slots_of};
-use crate::removing::remove_all;
-use crate::rooms::Rooms;
-use crate::spot::Spot;
 use crate::watching::{NO_WATCH, Watch, is_spread};
 use std::alloc::AllocError;
 use tt_bits::Trail;
 use tt_instance::Slot;
 use tt_path::Pattern;
+use tt_path_tables::{
+    Basis, Demand, Rooms, Spot, common_rooms, courses_of, first_left, is_left, kill_by_links,
+    kill_one, remove_all, slots_of,
+};
 
 /// Removes the live cells that a pattern excludes, if its first free period is this one. Returns this period and the next free one.
 fn settle_from(

@@ -1,13 +1,11 @@
 //! Two periods in which a yes-fact had a free cell when it was last looked at: as long as it has one in each, it excludes no cell.
 
 ghost use Rattle.std.specs.Prelude.{◌≡◌, true};
-ghost use Rattle.tt_path_cells.specs.Inner.Tables.{IsTable};
+ghost use Rattle.tt_path_tables.specs.Inner.Tables.{IsTable};
 ghost use Rattle.tt_path_cells.specs.Inner.Spread.{IsSpread};
 
-use crate::basis::Basis;
-use crate::demand::Demand;
-use crate::periods::is_left_in;
 use std::alloc::{AllocError, Global};
+use tt_path_tables::{Basis, Demand, is_left_in};
 
 /// The numbers of two periods, the first below the second; other numbers say that none are known.
 #[derive(Clone, Copy)]

@@ -6,7 +6,7 @@ use Rattle.tt_instance.specs.declared.cell.Cell.{Cell}
 use Rattle.tt_path.specs.Live.{is_live, excludes}
 use Rattle.tt_path.specs.declared.facts.Fact.{Fact}
 use Rattle.tt_path.specs.declared.facts.Pattern.{Pattern}
-use Rattle.tt_path_cells.specs.Inner.Tables.{has_cell, IsTable, Shows}
+use Rattle.tt_path_tables.specs.Inner.Tables.{has_cell, IsTable, Shows}
 use Rattle.tt_path_cells.specs.Inner.Touching.{can_touch}
 use Rattle.tt_path_cells.specs.Inner.Shown.{is_free_of, AreListed}
 use Rattle.tt_path_cells.specs.Inner.Shelves.{pattern_at}

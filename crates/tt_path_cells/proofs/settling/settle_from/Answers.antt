@@ -1,7 +1,7 @@
 use Rattle.std.proofs.Common.{◌+◌, ◌*◌, ◌/◌, ◌%◌, ◌<◌, subst, arith}
-use Rattle.tt_path_cells.specs.Inner.Tables.{Loses}
-use Rattle.tt_path_cells.specs.Inner.Slots.{is_left_in, IsNone, IsFirst}
-use Rattle.tt_path_cells.specs.Inner.Shown.{is_struck}
+use Rattle.tt_path_tables.specs.Inner.Tables.{Loses}
+use Rattle.tt_path_tables.specs.Inner.Struck.{is_struck}
+use Rattle.tt_path_tables.specs.Inner.Slots.{is_left_in, IsNone, IsFirst}
 use Rattle.tt_path_cells.proofs.Settled.{settles-several, settles-here}
 use Rattle.tt_path_cells.proofs.settling.settle_from.Goals as goal
 

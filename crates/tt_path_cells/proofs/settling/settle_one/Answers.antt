@@ -1,7 +1,6 @@
 use Rattle.std.proofs.Common.{◌≡◌, false, true, sym, subst}
-use Rattle.tt_path_cells.specs.Inner.Tables.{Loses}
-use Rattle.tt_path_cells.specs.Inner.Struck.{is_left}
-use Rattle.tt_path_cells.specs.Inner.Shown.{is_struck}
+use Rattle.tt_path_tables.specs.Inner.Tables.{Loses}
+use Rattle.tt_path_tables.specs.Inner.Struck.{is_left, is_struck}
 use Rattle.tt_path_cells.proofs.OneLeft.{none_left, left_unless_all}
 use Rattle.tt_path_cells.proofs.Settled.{settles-none, settles-there}
 use Rattle.tt_path_cells.proofs.settling.settle_one.Goals as goal

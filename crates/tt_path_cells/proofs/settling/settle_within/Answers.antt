@@ -1,5 +1,5 @@
 use Rattle.std.proofs.Common.{ℕ, zero, suc, ◌*◌, ◌<◌, subst, arith}
-use Rattle.tt_path_cells.specs.Inner.Slots.{is_left_in, IsNone}
+use Rattle.tt_path_tables.specs.Inner.Slots.{is_left_in, IsNone}
 use Rattle.tt_path_cells.specs.Inner.Spread.{IsSpread}
 use Rattle.tt_path_cells.proofs.Settled.{settles-nowhere, settles-several}
 use Rattle.tt_path_cells.proofs.settling.settle_within.Goals as goal
