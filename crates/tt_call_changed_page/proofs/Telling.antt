@@ -89,7 +89,8 @@ page_unwritten old new page.OutOfMemory large memory is = memory refl
 
 -- ---- refusals
 
-module _ (i s : List ℕ) (form : ChangedForm) (style : List ℕ) (n : ℕ) (gives : List (List ℕ) → Type 0) (before after : Option (List ℕ)) (p : Problem) (t : List Cell) (spelled : Spells i p) (solved : SpellsTable p s t) where
+module _ (i s : List ℕ) (form : ChangedForm) (style : List ℕ) (n : ℕ) (gives : List (List ℕ) → Type 0) (before after : Option (List ℕ))
+    (p : Problem) (t : List Cell) (spelled : Spells i p) (solved : SpellsTable p s t) where
   abbrev both : SpellsBoth i s p t
   both = record { spelled = spelled; solved = solved }
 
