@@ -7,7 +7,7 @@ use tt_call_answers::{Answer, AppFault};
 use tt_call_kept_page::{PageTexts, kept_page};
 use tt_call_names::UNNAMED;
 use tt_call_solve_kept::KeptFiles;
-use tt_call_texts::proved_page;
+use tt_call_texts::{ProvedTexts, proved_page};
 use tt_cli_files::{Batch, Role};
 use tt_cli_saving::{CommandFault, Inputs, Prepared, Target, World};
 use tt_page::STYLE;
@@ -48,7 +48,13 @@ fn proof_page<'x>(
     let sink = &mut Writing::new(&mut page);
     let Given { instance, wishes } = given;
     let Some(wishes) = wishes else {
-        proved_page(alloc, instance, table, UNNAMED, &mut proofs, STYLE, sink)?;
+        let texts = ProvedTexts {
+            instance,
+            solution: table,
+            names: UNNAMED,
+            style: STYLE,
+        };
+        proved_page(alloc, texts, &mut proofs, sink)?;
         return Ok(page);
     };
     let texts = PageTexts {
