@@ -384,12 +384,18 @@ class Runs:
         if role == "output page":
             return text.endswith(b"</html>\n")
         words = ["validate", self.instance(), "/dev/stdin"] if role == "output solution" else ["sum", self.instance(), "/dev/stdin"]
+        if role == "output proof":
+            words += self.wishes()
         done = subprocess.run([PROGRAM, *words], cwd=self.shelf.folder, input=text, capture_output=True)
         is_strict = self.command.words.split()[0] != "improve"
         return done.returncode == 0 or (done.returncode == 1 and not is_strict)
 
     def instance(self):
         return self.command.split()[1][0]
+
+    def wishes(self):
+        """The option of the wishes under which the proofs of a command hold, if it has some. Without it they are refused."""
+        return [word for option in self.command.split()[2] if option[0] == "--wishes" for word in option]
 
     def is_own(self, outcome, files):
         """Whether a run ended as the one without a refusal. With --keep an older file has its other name only if a step on the way was stored."""

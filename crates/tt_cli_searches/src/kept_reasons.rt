@@ -56,7 +56,7 @@ impl<'a> FailedKept<'a> {
 
     /// Says on standard error which wishes clash, if that is found, and the reason. A failed write has no effect.
     pub fn say_why<E: Write>(&self, alloc: Global, err: &mut E) -> Result<(), AllocError> {
-        show_clash(alloc, err, self.instance, self.wishes);
+        show_clash(alloc, err, self.instance, self.wishes)?;
         let text = self.explain(alloc)?;
         let _ = err.write_all(text.as_bytes());
         Ok(())

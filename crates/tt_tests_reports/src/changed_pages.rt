@@ -50,9 +50,10 @@ fn page_of(
     older: &str,
     options: &[&str],
 ) -> Result<String, Fail> {
-    match paged(alloc, week, solution, older, options)? {
-        (_, Some(text)) => Ok(text),
-        (outcome, None) => Err(Fail::new(format_args!("{}", outcome.err))),
+    let (outcome, page) = paged(alloc, week, solution, older, options)?;
+    match page {
+        Some(text) => Ok(text),
+        None => Err(Fail::new(format_args!("{}", outcome.err))),
     }
 }
 

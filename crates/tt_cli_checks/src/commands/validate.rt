@@ -53,7 +53,7 @@ pub fn answer_validate<R: World, E: Write>(
     let answer = match wishes {
         Some(wishes) => {
             let answer = validate_wishes(alloc, &instance, &solution, &wishes)?;
-            show_clash(alloc, err, &instance, &wishes);
+            show_clash(alloc, err, &instance, &wishes)?;
             answer
         }
         None => validate(alloc, &instance, &solution)?,

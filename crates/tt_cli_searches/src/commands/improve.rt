@@ -107,7 +107,7 @@ pub fn answer_improve<R: World, E: Write>(
         solution = drop_and_list(rt.alloc(), err, &instance, &solution)?;
     }
     if let Some(wishes) = &wishes {
-        show_clash(rt.alloc(), err, &instance, wishes);
+        show_clash(rt.alloc(), err, &instance, wishes)?;
     }
     let start = Start {
         instance: &instance,
