@@ -712,7 +712,8 @@ def kept_searches(desk):
     assert (desk.folder / "best" / "page.html").read_bytes().endswith(b"</html>\n")
     # A proof of an earlier step that the best timetable doesn't rest on has its other name.
     left = [it.name for it in (desk.folder / "best").iterdir() if not it.name.startswith("tt-")]
-    assert set(left) <= {"best.sol", "page.html", "groups.proof", "tree.proof", "tree.proof.old"}, f"{left}"
+    proofs = {f"{kind}.proof{end}" for kind in ("groups", "prices", "tree") for end in ("", ".old")}
+    assert set(left) <= {"best.sol", "page.html", *proofs}, f"{left}"
     return ", ".join(said)
 
 

@@ -5,10 +5,10 @@ use std::io::Write;
 use tt_cli_saving::show_clash;
 use tt_inspect::explain_shortages;
 use tt_instance::Instance;
-use tt_instance_read::read_instance;
+use tt_instance_read::{InstanceFault, read_instance};
 use tt_rules::score;
-use tt_table::read_solution;
-use tt_wishes::{broken_wishes, read_wishes};
+use tt_table::{SolutionFault, read_solution};
+use tt_wishes::{WishesFault, broken_wishes, read_wishes};
 
 /// The line of a search whose timetable can't be read again.
 const UNKNOWN: &str =
@@ -27,11 +27,15 @@ pub struct FailedKept<'a> {
 impl<'a> FailedKept<'a> {
     /// Says how often the timetable breaks hard rules and wishes; nothing if it can't be read.
     fn count(&self, alloc: Global, instance: &Instance<'_>) -> Result<Option<String>, AllocError> {
-        let Ok(wishes) = read_wishes(alloc, instance, self.wishes) else {
-            return Ok(None);
+        let wishes = match read_wishes(alloc, instance, self.wishes) {
+            Ok(wishes) => wishes,
+            Err(WishesFault::OutOfMemory) => return Err(AllocError),
+            Err(_) => return Ok(None),
         };
-        let Ok(table) = read_solution(alloc, instance, self.partial) else {
-            return Ok(None);
+        let table = match read_solution(alloc, instance, self.partial) {
+            Ok(table) => table,
+            Err(SolutionFault::OutOfMemory) => return Err(AllocError),
+            Err(_) => return Ok(None),
         };
         let hard = score(instance, &table).hard();
         let (broken, all) = (broken_wishes(&table, &wishes), wishes.len());
@@ -43,21 +47,24 @@ impl<'a> FailedKept<'a> {
 
     /// Returns the reason in words: a shortage of the instance itself, or else what the timetable breaks.
     fn explain(&self, alloc: Global) -> Result<String, AllocError> {
-        if let Ok(instance) = read_instance(alloc, self.instance) {
-            if let Some(text) = explain_shortages(alloc, &instance)? {
-                return Ok(text);
-            }
-            if let Some(text) = self.count(alloc, &instance)? {
-                return Ok(text);
-            }
+        let instance = match read_instance(alloc, self.instance) {
+            Ok(instance) => instance,
+            Err(InstanceFault::OutOfMemory) => return Err(AllocError),
+            Err(_) => return String::from_str(alloc, UNKNOWN),
+        };
+        if let Some(text) = explain_shortages(alloc, &instance)? {
+            return Ok(text);
         }
-        String::from_str(alloc, UNKNOWN)
+        match self.count(alloc, &instance)? {
+            Some(text) => Ok(text),
+            None => String::from_str(alloc, UNKNOWN),
+        }
     }
 
     /// Says on standard error which wishes clash, if that is found, and the reason. A failed write has no effect.
     pub fn say_why<E: Write>(&self, alloc: Global, err: &mut E) -> Result<(), AllocError> {
-        show_clash(alloc, err, self.instance, self.wishes)?;
         let text = self.explain(alloc)?;
+        show_clash(alloc, err, self.instance, self.wishes)?;
         let _ = err.write_all(text.as_bytes());
         Ok(())
     }
