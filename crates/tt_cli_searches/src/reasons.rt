@@ -3,7 +3,7 @@
 use std::alloc::{AllocError, Global};
 use std::io::Write;
 use tt_inspect::{explain_shortages, explain_tree};
-use tt_instance_read::read_instance;
+use tt_instance_read::{InstanceFault, read_instance};
 
 /// The line of a search that found neither a timetable nor a reason why there is none.
 const UNKNOWN: &str =
@@ -21,15 +21,18 @@ pub struct Failed<'a> {
 impl<'a> Failed<'a> {
     /// Returns the reason in words.
     fn explain(&self, alloc: Global) -> Result<String, AllocError> {
-        if let Ok(instance) = read_instance(alloc, self.instance) {
-            if let Some(text) = explain_shortages(alloc, &instance)? {
-                return Ok(text);
-            }
-            if let Some(proof) = self.proof
-                && let Some(text) = explain_tree(alloc, &instance, proof)?
-            {
-                return Ok(text);
-            }
+        let instance = match read_instance(alloc, self.instance) {
+            Ok(instance) => instance,
+            Err(InstanceFault::OutOfMemory) => return Err(AllocError),
+            Err(_) => return String::from_str(alloc, UNKNOWN),
+        };
+        if let Some(text) = explain_shortages(alloc, &instance)? {
+            return Ok(text);
+        }
+        if let Some(proof) = self.proof
+            && let Some(text) = explain_tree(alloc, &instance, proof)?
+        {
+            return Ok(text);
         }
         String::from_str(alloc, UNKNOWN)
     }
