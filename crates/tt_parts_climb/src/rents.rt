@@ -1,8 +1,7 @@
 //! The rents of the rooms in a climb.
 
-use crate::fixed::{ONE, product, rounded, whole};
-use crate::group::{drifted, square};
 use std::alloc::{AllocError, Global};
+use tt_parts_payers::{ONE, drifted, product, rounded, square, whole};
 
 /// The maximum rent.
 const MAX_RENT: i64 = 1_000_000;

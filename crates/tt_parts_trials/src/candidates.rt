@@ -1,9 +1,7 @@
 //! Changes of groups that may gain something.
 
-use crate::aim::Aim;
-use crate::fixed::ONE;
-use crate::group::Group;
 use std::alloc::AllocError;
+use tt_parts_payers::{Aim, Group, ONE};
 
 /// The least distance from its lectures, on average, at which a course may be counted.
 const OFF: i64 = ONE / 50;

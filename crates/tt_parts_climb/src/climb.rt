@@ -1,14 +1,12 @@
 //! A climb: prices of groups and rents of rooms that get better step by step.
 
-use crate::aim::{Aim, points};
-use crate::fixed::{ONE, share};
-use crate::group::{Group, square};
 use crate::pace::{Pace, Turn};
 use crate::rents::Rents;
 use rand_core::{Rng, SeedableRng};
 use rand_pcg::Pcg32;
 use std::alloc::AllocError;
 use tt_parts_least::Allowance;
+use tt_parts_payers::{Aim, Group, ONE, points, share, square};
 use tt_parts_priced::{Offer, Placing};
 use tt_watch::{Progress, Unit, Watch};
 

@@ -1,8 +1,6 @@
 //! How long the steps of a climb are.
 
-use crate::aim::{Aim, SCALE};
-use crate::fixed::{ONE, share};
-use crate::group::{MOMENTUM, PARTS};
+use tt_parts_payers::{Aim, MOMENTUM, ONE, PARTS, SCALE, share};
 
 /// The share of the way that a first step goes.
 const FIRST: i64 = ONE;

@@ -1,14 +1,12 @@
 //! Changes of groups that are tried.
 
-use crate::aim::{Aim, SCALE};
 use crate::candidates::{Candidate, Change};
-use crate::fixed::rounded;
-use crate::group::{Group, within};
 use crate::limit::limits_of;
 use crate::size::is_too_much;
 use std::alloc::AllocError;
 use tt_parts_drafts::Draft;
 use tt_parts_least::{Allowance, courses_of};
+use tt_parts_payers::{Aim, Group, SCALE, rounded, within};
 use tt_parts_priced::Program;
 use tt_watch::Watch;
 
