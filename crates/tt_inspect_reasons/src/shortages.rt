@@ -1,9 +1,7 @@
 //! Courses that have more lectures than is open to them, in words.
 
-use crate::course_names::put_names;
-use crate::shown::{Counted, Name, Noun};
-use crate::summary::periods_of_week;
 use std::alloc::AllocError;
+use tt_inspect_words::{Counted, Name, Noun, periods_of_week, put_names};
 use tt_instance::{Instance, Slot};
 use tt_shortage::{Contested, Shortage, find_shortages};
 

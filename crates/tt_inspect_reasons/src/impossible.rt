@@ -1,10 +1,8 @@
 //! What no timetable can have: more lectures than a whole week takes, and courses that have more lectures than is open to them.
 
-use crate::counts::Counts;
 use crate::shortages::put_shortages;
-use crate::shown::{Counted, Name, Noun};
-use crate::summary::{periods_of_week, places};
 use std::alloc::AllocError;
+use tt_inspect_words::{Counted, Counts, Name, Noun, periods_of_week, places};
 use tt_instance::Instance;
 
 /// Appends a line if the instance has more lectures than places.

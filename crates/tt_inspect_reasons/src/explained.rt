@@ -1,10 +1,8 @@
 //! Why there is no timetable.
 
-use crate::counts::Counts;
-use crate::course_names::put_names;
 use crate::impossible::put_impossible;
-use crate::shown::{Counted, Noun};
 use std::alloc::{AllocError, Global};
+use tt_inspect_words::{Counted, Counts, Noun, put_names};
 use tt_instance::Instance;
 use tt_leaf::{Bound, Leaf};
 use tt_path::Who;
