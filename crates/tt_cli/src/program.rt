@@ -8,7 +8,8 @@ use tt_cli_checks::{
     answer_stored, answer_sum, answer_table, answer_upgrade, answer_validate, report_to,
 };
 use tt_cli_files::{Printed, Rescued, StandardStream, Unwritten, Whereabouts, WriteFault};
-use tt_cli_saving::{CommandFault, Reply, World};
+use tt_cli_progress::World;
+use tt_cli_saving::{CommandFault, Reply};
 use tt_cli_searches::{answer_best, answer_improve, answer_parts, answer_solve};
 
 /// The exit status of a refusal.

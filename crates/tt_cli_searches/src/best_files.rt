@@ -5,7 +5,8 @@ use std::alloc::AllocError;
 use std::cell::Cell;
 use tt_call_searches::BestAnswer;
 use tt_cli_files::{Batch, Role};
-use tt_cli_saving::{Folder, FolderFile, Prepared, Shelf, World};
+use tt_cli_progress::World;
+use tt_cli_saving::{Folder, FolderFile, Prepared, Shelf};
 
 /// The file of the best timetable.
 pub const TABLE: FolderFile = FolderFile {

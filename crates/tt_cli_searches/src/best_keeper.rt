@@ -3,7 +3,8 @@
 use crate::best_files::{BestFiles, BestShelf};
 use std::io::Write;
 use tt_call_searches::{BestAnswer, WatchBest};
-use tt_cli_saving::{Keeper, World};
+use tt_cli_progress::World;
+use tt_cli_saving::Keeper;
 use tt_table::Entry;
 use tt_watch::{Progress, Watch};
 

@@ -2,7 +2,8 @@
 
 use std::alloc::{AllocError, Global};
 use tt_cli_files::{Batch, Role};
-use tt_cli_saving::{Folder, FolderFile, WISHES_LINE, World};
+use tt_cli_progress::World;
+use tt_cli_saving::{Folder, FolderFile, WISHES_LINE};
 use tt_text_peek::{FileKind, kind_of_front};
 
 /// The file of groups.

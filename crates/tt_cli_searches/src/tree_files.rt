@@ -3,7 +3,8 @@
 use crate::proof_files::with_wishes_line;
 use std::alloc::AllocError;
 use tt_cli_files::{Batch, Ready};
-use tt_cli_saving::{Prepared, Shelf, World};
+use tt_cli_progress::World;
+use tt_cli_saving::{Prepared, Shelf};
 
 /// The file of the proof of a tree.
 pub struct TreeFile<F> {

@@ -13,9 +13,10 @@ use tt_call_names::PageNames;
 use tt_call_searches::{BestAnswer, BestSearch, best};
 use tt_cli_arguments::BestRequest;
 use tt_cli_files::Batch;
+use tt_cli_progress::{Ticker, World, ticker_of};
 use tt_cli_saving::{
-    CommandFault, Folder, Input, InputFile, Inputs, Keeper, Prepared, Reply, Ticker, WISHES_LINE,
-    World, read_if_given, reply_with, ticker_of,
+    CommandFault, Folder, Input, InputFile, Inputs, Keeper, Prepared, Reply, WISHES_LINE,
+    read_if_given, reply_with,
 };
 use tt_page::STYLE;
 use tt_text_peek::{FileKind, kind_of_front};

@@ -10,9 +10,10 @@ use tt_call_searches::{ImproveSearch, improve};
 use tt_call_wished::{Search as WishedSearch, WishedFiles, improve_under_wishes};
 use tt_cli_arguments::{ImproveRequest, Search};
 use tt_cli_files::{Batch, Role};
+use tt_cli_progress::{Ticker, World, ticker_of};
 use tt_cli_saving::{
-    CommandFault, Input, Inputs, Keeper, NoShelf, Prepared, Reply, Target, Ticker, World,
-    read_if_given, reply_with, show_clash, ticker_of,
+    CommandFault, Input, Inputs, Keeper, NoShelf, Prepared, Reply, Target, read_if_given,
+    reply_with, show_clash,
 };
 use tt_watch::Watch;
 

@@ -11,9 +11,9 @@ use tt_call_searches::{TreeEffort, solve};
 use tt_call_solve_kept::{KeptFiles, solve_kept};
 use tt_cli_arguments::{MAX_SOLVE_NODES, SolveRequest, TreeSearch};
 use tt_cli_files::{Batch, Ready, Role};
+use tt_cli_progress::{Ticker, World, ticker_of};
 use tt_cli_saving::{
-    CommandFault, Input, Inputs, Keeper, Prepared, Reply, Target, Ticker, World, read_if_given,
-    reply_with, ticker_of,
+    CommandFault, Input, Inputs, Keeper, Prepared, Reply, Target, read_if_given, reply_with,
 };
 
 /// The outputs of `solve`.
