@@ -2,9 +2,6 @@
 
 use crate::best_files::{BestFiles, BestShelf, PAGE, PARTIAL, TABLE, TREE};
 use crate::best_keeper::BestKeeper;
-use crate::given::Given;
-use crate::proof_files::{GROUPS, PRICES};
-use crate::saving::kept_table;
 use std::alloc::{AllocError, Global};
 use std::cell::Cell;
 use std::io::Write;
@@ -14,6 +11,7 @@ use tt_call_searches::{BestAnswer, BestSearch, best};
 use tt_cli_arguments::BestRequest;
 use tt_cli_files::Batch;
 use tt_cli_progress::{Ticker, World, ticker_of};
+use tt_cli_proofs::{GROUPS, Given, PRICES, kept_table};
 use tt_cli_saving::{
     CommandFault, Folder, Input, InputFile, Inputs, Keeper, Prepared, Reply, WISHES_LINE,
     read_if_given, reply_with,

@@ -1,6 +1,5 @@
 //! The files for a timetable of `solve` that breaks hard rules or wishes: they are next to the output of the best timetable, so that an older one stays.
 
-use crate::given::Given;
 use std::alloc::{AllocError, Global};
 use std::io::Write;
 use tt_call_answers::{Answer, AppFault};
@@ -10,6 +9,7 @@ use tt_call_solve_kept::KeptFiles;
 use tt_call_texts::{ProvedTexts, proved_page};
 use tt_cli_files::{Batch, Role};
 use tt_cli_progress::World;
+use tt_cli_proofs::Given;
 use tt_cli_saving::{CommandFault, Inputs, Prepared, Target};
 use tt_page::STYLE;
 use tt_text::{Pieces, Writing};
