@@ -3,7 +3,7 @@
 
 pub use tt_call_answers::{Answer, AppFault};
 pub use tt_call_best_kept::best_kept;
-pub use tt_call_changed_page::{ChangedForm, ChangedPageFault, changed_page};
+pub use tt_call_changed_page::{ChangedForm, ChangedPageFault, ChangedTexts, changed_page};
 pub use tt_call_changes::{ChangesFault, changes};
 pub use tt_call_checks::{bound, check, check_sum, sum, upgrade, validate};
 pub use tt_call_clash::{ClashingLines, find_clashing_lines};
@@ -16,6 +16,8 @@ pub use tt_call_searches::{
     improve, parts, solve,
 };
 pub use tt_call_solve_kept::solve_kept;
-pub use tt_call_texts::{PageForm, WeekTimes, calendar, inspect, page, proved_page, report, table};
+pub use tt_call_texts::{
+    PageForm, ProvedTexts, WeekTimes, calendar, inspect, page, proved_page, report, table,
+};
 pub use tt_call_wished::{WishedFault, WishedFiles, improve_under_wishes};
 pub use tt_call_wishes::{ValidateFault, validate_wishes};

@@ -93,7 +93,8 @@ module _ (w rest j : ℕ) (h : j < 64) (e : has_bit w j ≡ true) (l : (r : ℕ)
       (λ a. each_bit_from w t (λ k hk b. elim (cases_eq k j) [
         | inl q ↦ ap t q ∙ a
         | inr q ↦ absurd
-            (both_ways (has_bit rest k) (none-bit rest k none hk) (l k hk ∙ and_from (has_bit w k) (not (k == j)) b (ap not (ne_eqb k j q))))
+            (both_ways (has_bit rest k) (none-bit rest k none hk)
+            (l k hk ∙ and_from (has_bit w k) (not (k == j)) b (ap not (ne_eqb k j q))))
       ]))
 
   pub another_bit : list_any (has_bit rest) bits ≡ true → (i : ℕ) × (i < 64) × (has_bit w i ≡ true) × (i ≡ j → ⊥)

@@ -9,6 +9,7 @@ ghost use Rattle.tt_search.specs.Improved.{IsNoWorse};
 ghost use Rattle.tt_branch.specs.Outcomes.{final_bound, BeginsWell, IsNoDearer};
 ghost use Rattle.tt_branch.specs.Inner.BestSoFar.{IsBestSoFar, table_of, IsCosted};
 
+use crate::improvement::Improvement;
 use crate::limit::FIRST_STEPS;
 use std::alloc::{AllocError, Global};
 use tt_instance::Instance;
@@ -137,14 +138,13 @@ fn improve_to<W: Watch>(
     alloc: Global,
     instance: &Instance<'_>,
     table: Timetable,
-    seed: u64,
-    goal: u64,
-    turns: Turns,
+    improvement: Improvement,
     watch: &mut W,
 ) -> Result<Timetable, AllocError>
     requires { IsTimetable instance.now table }
     ensures { IfOk result (IsNoWorse instance.now table) }
 {
+    let Improvement { seed, goal, turns } = improvement;
     let size = size_of(instance, &table);
     let start = table.copy()?;
     let mut best = table;
@@ -174,17 +174,15 @@ fn improve_to<W: Watch>(
 pub fn first_best<W: Watch>(
     alloc: Global,
     instance: &Instance<'_>,
-    seed: u64,
-    goal: u64,
-    turns: Turns,
+    improvement: Improvement,
     watch: &mut W,
 ) -> Result<Option<Best>, AllocError>
     ensures best { IfOk result (IsBestSoFar instance.now) }
     ensures begun { IfOk result (λ best. BeginsWell instance.now (table_of best)) }
 {
-    let table = construct(alloc, instance, seed)?;
+    let table = construct(alloc, instance, improvement.seed)?;
     let descent = descend(alloc, instance, table, FIRST_STEPS)?;
-    let improved = improve_to(alloc, instance, descent.table, seed, goal, turns, watch)?;
+    let improved = improve_to(alloc, instance, descent.table, improvement, watch)?;
     Ok(if_feasible(instance, improved))
 }
 

@@ -3,6 +3,7 @@
 
 mod best;
 mod copying;
+mod improvement;
 mod keeping;
 mod laws;
 mod limit;

@@ -9,6 +9,7 @@ ghost use Rattle.tt_branch.specs.Inner.State.{IsUnderWay, EndsAt};
 ghost use Rattle.tt_branch.specs.declared.limit.TheConstants.{MAX_OPENED};
 
 use crate::best::{Best, Turns, bound_of, first_best};
+use crate::improvement::Improvement;
 use crate::nodes::{Written, write_nodes};
 use crate::rounds::{Ending, grow};
 use crate::search::Search;
@@ -138,8 +139,11 @@ pub fn solve<W: Watch>(
     ensures { IfOk result (λ o. IsOutcomeUntil instance.now nodes (W.has_ended watch.new) o.best o.bound o.proof.items o.finished) }
 {
     let mut path = TrailPath::new(alloc, instance)?;
-    let goal = best_worth(alloc, &path)?;
-    let turns = turns_in(alloc, instance, nodes)?;
-    let best = first_best(alloc, instance, seed, goal, turns, watch)?;
+    let improvement = Improvement {
+        seed,
+        goal: best_worth(alloc, &path)?,
+        turns: turns_in(alloc, instance, nodes)?,
+    };
+    let best = first_best(alloc, instance, improvement, watch)?;
     solve_over(alloc, &mut path, best, nodes, watch)
 }

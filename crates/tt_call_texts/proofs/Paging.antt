@@ -33,7 +33,7 @@ use Rattle.tt_call_answers.specs.FaultMaps.{fault_from_labels, fault_from_page, 
 use Rattle.tt_call_answers.specs.Refusals.{IsUnwritten}
 use Rattle.tt_call_names.specs.Names.{labels_for}
 use Rattle.tt_call_names.specs.declared.names.PageNames.{PageNames}
-use Rattle.tt_call_texts.specs.Paged.{IsNotPut, IsPageRefusal, IsProvedPageRefusal, has_weeks, unproved_text}
+use Rattle.tt_call_texts.specs.Paged.{IsBeforeProofs, IsNotPut, IsPageRefusal, IsProvedPageRefusal, has_weeks, unproved_text}
 use Rattle.tt_call_texts.specs.declared.calls.page.PageForm.{PageForm}
 use Rattle.tt_call_answers.specs.declared.fault.AppFault.{AppFault}
 use Rattle.tt_call_answers.specs.declared.fault.AppFault.TheVariants as fault
@@ -44,6 +44,12 @@ pub output_tells : (f : PageFault) (text : List ℕ) → ExplainsSize f text →
 output_tells page.Write text size = size
 output_tells page.TooLarge text size = size
 output_tells page.OutOfMemory text size = tt
+
+-- an error of the page is reported after proofs were read
+pub page_after : (f : PageFault) → IsBeforeProofs (fault_from_page f) → ⊥
+page_after page.Write before = absurd before
+page_after page.TooLarge before = absurd before
+page_after page.OutOfMemory before = absurd before
 
 -- a page that is too large, or for which memory ran out, leaves the sink as it was
 pub page_unwritten : {S : Type 0} (old new : S) (f : PageFault) → (f ≡ page.TooLarge → new ≡ old) → (f ≡ page.OutOfMemory → new ≡ old)

@@ -2,9 +2,11 @@
 #![tactic(auto)]
 
 mod calls;
+mod proved_texts;
 
 pub use calls::calendar::{WeekTimes, calendar};
 pub use calls::inspect::inspect;
 pub use calls::page::{PageForm, page, proved_page};
 pub use calls::report::report;
 pub use calls::table::table;
+pub use proved_texts::ProvedTexts;

@@ -75,7 +75,8 @@ changes_room m same other =
       course = k.course;
       period = slots_same m.from.day m.from.period m.to.day m.to.period day period;
       room = λ e. both_ways (are_alike Place m.from m.to) other
-          (and_from ((m.from.course == m.to.course) && (m.from.room == m.to.room) && (m.from.day == m.to.day)) (m.from.period == m.to.period)
+          (and_from ((m.from.course == m.to.course) && (m.from.room == m.to.room) && (m.from.day == m.to.day))
+          (m.from.period == m.to.period)
           (and_from ((m.from.course == m.to.course) && (m.from.room == m.to.room)) (m.from.day == m.to.day)
           (and_from (m.from.course == m.to.course) (m.from.room == m.to.room) (eq-eqb m.from.course m.to.course k.course)
           (eq-eqb m.from.room m.to.room e))
@@ -259,9 +260,11 @@ module _ (p : Problem) (old new : List Cell) (stayed : List Change) (a1 b1 : Lis
 
   new_split : IsPermutation new (first ++ (newer_entries found.rooms.items ++ (newer_entries found.moved.items ++ found.added.items)))
   new_split =
-      subst (λ (z : List Cell). IsPermutation new (z ++ (newer_entries found.rooms.items ++ (newer_entries found.moved.items ++ found.added.items))))
+      subst (λ (z : List Cell). IsPermutation new (z ++ (newer_entries found.rooms.items ++
+      (newer_entries found.moved.items ++ found.added.items))))
       (sym (same_lists stayed h1.alike))
-      (joined new b1 b2 (newer_entries stayed) (newer_entries found.rooms.items) (newer_entries found.moved.items ++ found.added.items) h1.new_is
+      (joined new b1 b2 (newer_entries stayed) (newer_entries found.rooms.items) (newer_entries found.moved.items ++ found.added.items)
+      h1.new_is
       h2.new_is h3.new_is)
 
   pub found_changes : IsChanges p old new found

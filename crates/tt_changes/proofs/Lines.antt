@@ -60,13 +60,16 @@ change_text p m word old a b c d e course inside course_at ea eb ec ed ee =
     let course_is : course ≡ name = field_is (λ c. c.id) p.courses m.from.course no_course course inside.course course_at in
     let from = place_pieces p m.from in
     let to = place_pieces p m.to in
-    let line : line_text (change_line p word m) ≡ word ++ ((32 ∷ (name ++ (next_texts from ++ 32 ∷ (codes "to" ++ next_texts to)))) ++ 10 ∷ []) =
+    let line : line_text (change_line p word m) ≡ word ++ ((32 ∷ (name ++ (next_texts from ++ 32 ∷ (codes "to" ++ next_texts to)))) ++ 10 ∷
+    []) =
     line_is (Text word) (course_piece p m.from ∷ (from ++ Text (codes "to") ∷ to))
-    ∙ ap (λ (z : List ℕ). word ++ ((32 ∷ (name ++ z)) ++ 10 ∷ [])) (flat_map-append (λ (q : Piece). 32 ∷ text_of q) from (Text (codes "to") ∷ to)) in
+    ∙ ap (λ (z : List ℕ). word ++ ((32 ∷ (name ++ z)) ++ 10 ∷ []))
+    (flat_map-append (λ (q : Piece). 32 ∷ text_of q) from (Text (codes "to") ∷ to)) in
     let parts : e ++ 10 ∷ [] ≡ (((((old ++ word) ++ 32 ∷ name) ++ next_texts from) ++ 32 ∷ codes "to") ++ next_texts to) ++ 10 ∷ [] =
     ap (λ (z : List ℕ). z ++ 10 ∷ [])
     (ee ∙ ap (λ (z : List ℕ). z ++ next_texts to)
     (ed ∙ ap (λ (z : List ℕ). z ++ 32 ∷ codes "to")
     (ec ∙ ap (λ (z : List ℕ). z ++ next_texts from)
     (eb ∙ ap (λ (z : List ℕ). z ++ 32 ∷ course) ea ∙ ap (λ (z : List ℕ). (old ++ word) ++ 32 ∷ z) course_is)))) in
-    parts ∙ parts_in_turn old word (32 ∷ name) (next_texts from) (32 ∷ codes "to") (next_texts to) (10 ∷ []) ∙ ap (λ (z : List ℕ). old ++ z) (sym line)
+    parts ∙ parts_in_turn old word (32 ∷ name) (next_texts from) (32 ∷ codes "to") (next_texts to) (10 ∷ []) ∙ ap (λ (z : List ℕ). old ++ z)
+    (sym line)

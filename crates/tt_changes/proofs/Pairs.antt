@@ -28,7 +28,8 @@ module _ (by : Likeness) where
       let moved : IsPermutation (m.from ∷ (front ++ us)) ((front ++ m.from ∷ []) ++ us) = rw append_assoc
       (IsPermutation-sym (front ++ m.from ∷ us) (m.from ∷ (front ++ us)) (IsPermutation-middle front m.from us)) in
       record {
-        old_is = subst (λ (z : List Cell). IsPermutation (xs ++ m.from ∷ []) (z ++ us)) (sym (map-append (λ (c : Change). c.from) ps (m ∷ [])))
+        old_is = subst (λ (z : List Cell). IsPermutation (xs ++ m.from ∷ []) (z ++ us))
+            (sym (map-append (λ (c : Change). c.from) ps (m ∷ [])))
             (IsPermutation-push_more xs (front ++ us) ((front ++ m.from ∷ []) ++ us) m.from h.old_is moved);
         new_is = subst (λ (z : List Cell). IsPermutation ys (z ++ rest)) (sym (map-append (λ (c : Change). c.to) ps (m ∷ [])))
             (IsPermutation-pop_more ys (newer_entries ps) vs rest m.to h.new_is taken);
@@ -61,7 +62,8 @@ module _ (by : Likeness) (xs ys : List Cell) (i : ℕ) (x : Cell) (ps qs : List 
   pub next_paired : (m : Change) → m.from ≡ x → are_alike by x m.to ≡ true → IsPermutation vs (m.to ∷ rest) → qs ≡ ps ++ m ∷ [] → ws ≡ us
       → IsPaired by (take (i + 1) xs) ys qs ws rest
   next_paired m from alike taken more same =
-      let front : take (i + 1) xs ≡ take i xs ++ m.from ∷ [] = take_more xs i x less ∙ ap (λ (z : Cell). take i xs ++ z ∷ []) (sym here ∙ sym from) in
+      let front : take (i + 1) xs ≡ take i xs ++ m.from ∷ [] = take_more xs i x less ∙ ap (λ (z : Cell). take i xs ++ z ∷ [])
+      (sym here ∙ sym from) in
       let first : are_alike by m.from m.to ≡ true = rw from alike in
       rw (front, more, same) (paired_more by (take i xs) ys ps us vs rest m first taken h)
 

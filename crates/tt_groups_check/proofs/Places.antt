@@ -4,14 +4,13 @@ use Rattle.std.specs.Prelude.{slice_index}
 use Rattle.std.proofs.lemmas.List.{length-map, take-append-le}
 use Rattle.tt_instance.specs.Problem.{Problem}
 use Rattle.tt_instance.specs.Courses.{lectures}
-use Rattle.tt_groups.specs.Group.{Group}
 use Rattle.tt_groups.specs.Places.{weights_from, places}
 use Rattle.tt_groups.specs.Plans.{slack}
 use Rattle.tt_groups.proofs.Radix.{at_left, at_map, length-two}
 use Rattle.tt_groups_day.specs.Entries.{lecture_sizes, AreLectureDigits}
-use Rattle.tt_groups_week.specs.Digits.{AreDigits}
 use Rattle.tt_groups_week.proofs.Weights.{AreSome, places-take}
-use Rattle.tt_groups_check.specs.CoursesAndSizes.{AreCoursesAndSizes}
+use Rattle.tt_groups_check.specs.Shapes.{IsGroupShape}
+use Rattle.tt_groups_check.specs.declared.shape.GroupShape.{GroupShape}
 
 -- the weights of the first digits don't depend on the digits after them
 weights-first : (m : ℕ) (xs ys : List ℕ) (j : ℕ) → j < length xs → slice_index (weights_from m (xs ++ ys)) j ≡ slice_index
@@ -20,9 +19,13 @@ weights-first m [] ys j h = absurd (omega arith)
 weights-first m (x ∷ xs) ys zero h = refl
 weights-first m (x ∷ xs) ys (suc j) h = weights-first (m * x) xs ys j (omega (arith, h))
 
-pub lecture_digits : (p : Problem) (g : Group) (cs sizes weights : List ℕ) (courses count : ℕ) → AreCoursesAndSizes p g cs sizes courses
-    → AreDigits sizes weights courses count → AreLectureDigits p cs sizes weights count
-lecture_digits p g cs sizes weights courses count sized digits =
+pub lecture_digits : (p : Problem) (shape : GroupShape) → IsGroupShape p shape
+    → AreLectureDigits p shape.courses.now shape.digits.now.sizes.items shape.digits.now.weights.items shape.digits.now.count
+lecture_digits p shape sized =
+    let g = shape.group.now in
+    let cs = shape.courses.now in
+    let sizes = shape.digits.now.sizes.items in
+    let digits = shape.digits.now.are in
     let first = lecture_sizes p cs in
     let rest = map (λ c. slack p c + 1) g.courses in
     let two = length-two (λ c. lectures p c + 1) (λ c. slack p c + 1) cs g.courses in

@@ -1,5 +1,5 @@
 pub mod Availability
-pub mod CoursesAndSizes
 pub mod Faults
 pub mod Limits
 pub mod Lists
+pub mod Shapes

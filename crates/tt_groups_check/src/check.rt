@@ -10,6 +10,7 @@ ghost use Rattle.tt_groups_check.specs.declared.fault.GroupFault.TheVariants as 
 use crate::courses::{courses_of, sizes_of};
 use crate::days::lists_of;
 use crate::fault::GroupFault;
+use crate::shape::GroupShape;
 use crate::width::{base_cost, is_too_wide};
 use std::alloc::Global;
 use tt_groups::Group;
@@ -138,15 +139,12 @@ pub fn check_group(
     }
     let bound = (value - base) as u8;
     work.days.sequences = MAX_SEQUENCES;
-    let lists = lists_of(
-        alloc,
-        instance,
+    let shape = GroupShape {
         group,
-        &courses,
-        &digits,
-        bound,
-        &mut work.days,
-    )?;
+        courses: &courses,
+        digits: &digits,
+    };
+    let lists = lists_of(alloc, instance, &shape, bound, &mut work.days)?;
     pay_tables(instance.days(), digits.count, &mut work.relaxations)?;
     let holds = week_holds(
         alloc,

@@ -7,6 +7,7 @@ mod courses;
 mod days;
 mod fault;
 mod lists;
+mod shape;
 mod width;
 
 pub use check::{MAX_RELAXATIONS, MAX_SEQUENCES, MAX_TRIES, Work, check_group};

@@ -23,7 +23,7 @@ use Rattle.tt_groups_day.specs.Running.{is_pending, settled_cost}
 use Rattle.tt_groups_day.specs.Sets.{has_course, Begins, IsCourseSet, IsMorningOf}
 use Rattle.tt_groups_day.specs.declared.morning.CourseSet.{CourseSet}
 use Rattle.tt_groups_day.specs.declared.morning.Morning.{Morning}
-use Rattle.tt_groups_day.specs.declared.search.Period.{Period}
+use Rattle.tt_groups_day.specs.declared.space.SearchSpace.{SearchSpace}
 use Rattle.tt_groups_day.proofs.Beginning.{ones-of_word, count_prefix}
 use Rattle.tt_groups_day.proofs.Running.{day_cost-pending}
 use Rattle.tt_groups_day.proofs.Searching.{no_set, no_period}
@@ -71,9 +71,9 @@ module _ (p : Problem) (g : Group) (cs : List ℕ) (before : List CourseSet) whe
       (subst (λ (j : ℕ). has_course (get_or before s no_set) j ≡ true) same w.3))
 
 -- at the end of the day
-pub found-end : (most : List ℕ) (periods : List Period) (sets : List CourseSet) (s : ℕ) (m : Morning) → s ≡ length periods
-    → m.pending < 2 ^ 64 → IsFound most periods sets s m m.place (m.cost + 2 * count_ones m.pending)
-found-end most periods sets s m end small p g cs weights d before at_most distinct days opened len sets_are apart morning are_open fitting =
+pub found-end : (space : SearchSpace) (s : ℕ) (m : Morning) → s ≡ length space.periods.now → m.pending < 2 ^ 64
+    → IsFound space s m m.place (m.cost + 2 * count_ones m.pending)
+found-end space s m end small p g cs weights d before at_most distinct days opened len sets_are apart morning are_open fitting =
     let day = day_of cs before in
     let begins = begins_day p g cs before distinct in
     let e : length before ≡ p.periods = len ∙ end ∙ days.whole in
@@ -142,17 +142,17 @@ open_more p g cs d before x are_open apart here = record {
         subst (λ n. unavailable p (slice_index cs i) d n ≡ false) there (here i l (subst (λ (z : CourseSet). has_course z i ≡ true) same h))
     last_open {y} s (suc j) at is i l h = absurd (nothing_there j y is)
 
-pub found-next : (most : List ℕ) (periods : List Period) (sets : List CourseSet) (s : ℕ) (m next : Morning) (x : CourseSet)
-    → s < length periods → Contains sets x
+pub found-next : (space : SearchSpace) (s : ℕ) (m next : Morning) (x : CourseSet) → s < length space.periods.now
+    → Contains space.sets.now x
     → ((p : Problem) (g : Group) (cs weights : List ℕ) (before : List CourseSet) → AreCourses p g cs → length g.curricula ≤ 64
     → length before < p.periods → IsCourseSet p g cs weights x → IsMorningOf p g cs weights before m
     → IsMorningOf p g cs weights (before ++ x ∷ []) next)
-    → ((i : ℕ) → i < 16 → slice_index x.courses i ≤ slice_index (get_or periods s no_period).available i)
-    → ((i : ℕ) → i < 16 → slice_index next.counts i ≤ slice_index most i)
-    → (k v : ℕ) → IsFound most periods sets (s + 1) next k v → IsFound most periods sets s m k v
-found-next most periods sets s m next x inside there leads available fitting k v found p g cs weights d before at_most distinct days
+    → ((i : ℕ) → i < 16 → slice_index x.courses i ≤ slice_index (get_or space.periods.now s no_period).available i)
+    → ((i : ℕ) → i < 16 → slice_index next.counts i ≤ slice_index space.most.now i)
+    → (k v : ℕ) → IsFound space (s + 1) next k v → IsFound space s m k v
+found-next space s m next x inside there leads available fitting k v found p g cs weights d before at_most distinct days
     opened len sets_are apart morning are_open old =
-    let set = All-contains (IsCourseSet p g cs weights) sets x sets_are there in
+    let set = All-contains (IsCourseSet p g cs weights) space.sets.now x sets_are there in
     let here : (i : ℕ) → i < length cs → has_course x i ≡ true → unavailable p (slice_index cs i) d (length before) ≡ false = λ i l h.
     let one = eqb-true (slice_index x.courses i) 1 h in
     ap (unavailable p (slice_index cs i) d) len
@@ -160,4 +160,4 @@ found-next most periods sets s m next x inside there leads available fitting k v
     found p g cs weights d (before ++ x ∷ []) at_most distinct days opened (length-append before (x ∷ []) ∙ ap (λ n. n + 1) len)
     sets_are apart
     (leads p g cs weights before days.group days.at_most (omega (arith, len, inside, days.whole)) set morning)
-    (open_more p g cs d before x are_open (All-contains (IsApart p cs) sets x apart there) here) fitting
+    (open_more p g cs d before x are_open (All-contains (IsApart p cs) space.sets.now x apart there) here) fitting

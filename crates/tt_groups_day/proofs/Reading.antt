@@ -19,7 +19,9 @@ use Rattle.tt_groups.proofs.Radix.{AreBelow, digit_of, place_below, place-by_ind
 use Rattle.tt_groups_day.specs.Entries.{lecture_sizes, AreLectureDigits, HasLectures, IsEntryAt, HasEntries, AreEntriesOf}
 use Rattle.tt_groups_day.specs.Found.{IsDayAt}
 use Rattle.tt_groups_day.specs.Sets.{Covers, Begins}
+use Rattle.tt_groups_day.specs.Shapes.{IsDayShape, HasDigits}
 use Rattle.tt_groups_day.specs.declared.morning.CourseSet.{CourseSet}
+use Rattle.tt_groups_day.specs.declared.shape.DayShape.{DayShape}
 use Rattle.tt_groups.proofs.Projection.{course_own}
 
 -- ---- amounts
@@ -144,13 +146,13 @@ module _ (p : Problem) (cs sizes weights : List ℕ) (count : ℕ) (are : AreLec
   size_is : (i : ℕ) → i < length cs → slice_index sizes i ≡ lectures p (slice_index cs i) + 1
   size_is i h = are.sizes_are i h ∙ at_map (λ c. lectures p c + 1) cs i h
 
-  pub sizes_some : (i : ℕ) → i < length cs → 0 < slice_index sizes i
+  sizes_some : (i : ℕ) → i < length cs → 0 < slice_index sizes i
   sizes_some i h = omega (arith, size_is i h)
 
-  pub sizes_small : All (λ c. lectures p c ≤ 255) cs → (i : ℕ) → i < length cs → slice_index sizes i ≤ 256
+  sizes_small : All (λ c. lectures p c ≤ 255) cs → (i : ℕ) → i < length cs → slice_index sizes i ≤ 256
   sizes_small at_most i h = omega (arith, size_is i h, at_most i 0 h)
 
-  pub weights_placed : (i : ℕ) → i < length cs → 0 < slice_index weights i
+  weights_placed : (i : ℕ) → i < length cs → 0 < slice_index weights i
   weights_placed i h =
       let l = length-map cs (λ c. lectures p c + 1) in
       omega (
@@ -160,6 +162,21 @@ module _ (p : Problem) (cs sizes weights : List ℕ) (count : ℕ) (are : AreLec
             (λ j m. let k : j < length cs = omega (arith, m, l) in omega (arith, at_map (λ c. lectures p c + 1) cs j k)) i
             (omega (arith, h, l)),
       )
+
+-- the lectures of the courses can be read off a place
+pub has_digits : (p : Problem) (shape : DayShape) → IsDayShape p shape → HasDigits shape
+has_digits p shape is =
+    let cs = shape.courses.now in
+    let ns = shape.sizes.now in
+    let ws = shape.weights.now in
+    record {
+      count = omega (arith, is.at_most, is.own);
+      sized = is.digits.sized;
+      weighed = is.digits.weighed;
+      positive = sizes_some p cs ns ws shape.places is.digits;
+      placed = weights_placed p cs ns ws shape.places is.digits;
+      small = sizes_small p cs ns ws shape.places is.digits is.lectures_few;
+    }
 
 -- -- entries of possible days
 

@@ -14,7 +14,8 @@ use Rattle.tt_groups_day.specs.Running.{is_pending, settled_cost}
 use Rattle.tt_groups_day.specs.Sets.{has_course, IsSetOf, Begins, IsCourseSet, IsMorningOf, IsDayOf, ArePeriodsOf, Falls, IsTried, IsTriedWith}
 use Rattle.tt_groups_day.specs.declared.morning.CourseSet.{CourseSet}
 use Rattle.tt_groups_day.specs.declared.morning.Morning.{Morning}
-use Rattle.tt_groups_day.specs.declared.search.Period.{Period}
+use Rattle.tt_groups_day.specs.declared.space.Period.{Period}
+use Rattle.tt_groups_day.specs.declared.space.SearchSpace.{SearchSpace}
 use Rattle.tt_groups_day.proofs.Beginning.{ones-of_word, count_prefix}
 use Rattle.tt_groups_day.proofs.Running.{day_cost-pending}
 
@@ -27,11 +28,10 @@ no_period = record { available = [] }
 
 -- ---- the end of a day
 
-pub tried-end : (most : List ℕ) (periods : List Period) (sets : List CourseSet) (b s : ℕ) (m : Morning) (table : List ℕ)
-    → s ≡ length periods → m.pending < 2 ^ 64
-    → (m.cost + 2 * count_ones m.pending < b → slice_index table m.place ≤ m.cost + 2 * count_ones m.pending)
-    → IsTried most periods sets b s m table
-tried-end most periods sets b s m table end small low p g cs weights d before days len sets_are complete morning = record {
+pub tried-end : (space : SearchSpace) (s : ℕ) (m : Morning) (table : List ℕ) → s ≡ length space.periods.now → m.pending < 2 ^ 64
+    → (m.cost + 2 * count_ones m.pending < space.bound → slice_index table m.place ≤ m.cost + 2 * count_ones m.pending)
+    → IsTried space s m table
+tried-end space s m table end small low p g cs weights d before days len sets_are complete morning = record {
   low = λ day is fits begins less.
       let e : length before ≡ p.periods = len ∙ end ∙ days.whole in
       let ones = ones-of_word m.pending g.curricula (λ q. is_pending p day q (length before)) small days.at_most
@@ -69,25 +69,24 @@ begins-more p g cs day before x begins here s y e = elim (at_cases before (x ∷
         none : slice_get {X = CourseSet} [] j ≡ Some y → ⊥
         none f = cc
 
-pub tried-all : (most : List ℕ) (periods : List Period) (sets : List CourseSet) (b s i : ℕ) (m : Morning) (table : List ℕ)
-    → s < length periods → length sets ≤ i
-    → All (IsTriedWith most periods sets b s m table) (take i sets) → IsTried most periods sets b s m table
-tried-all most periods sets b s i m table inside long tried p g cs weights d before days len sets_are complete morning = record {
+pub tried-all : (space : SearchSpace) (s i : ℕ) (m : Morning) (table : List ℕ) → s < length space.periods.now
+    → length space.sets.now ≤ i → All (IsTriedWith space s m table) (take i space.sets.now) → IsTried space s m table
+tried-all space s i m table inside long tried p g cs weights d before days len sets_are complete morning = record {
   low = λ day is fits begins less.
       let here : length before < p.periods = omega (arith, len, inside, days.whole) in
       let x = complete.found (day (length before)) (λ a c own_a own_c ea ec. is.apart (length before) a c here own_a own_c ea ec) in
-      let whole = subst (λ (l : List CourseSet). All (IsTriedWith most periods sets b s m table) l) (take_all i sets long) tried in
-      let one = All-contains (IsTriedWith most periods sets b s m table) sets x.0 whole x.1 in
-      let set = All-contains (IsCourseSet p g cs weights) sets x.0 sets_are x.1 in
+      let whole = subst (λ (l : List CourseSet). All (IsTriedWith space s m table) l) (take_all i space.sets.now long) tried in
+      let one = All-contains (IsTriedWith space s m table) space.sets.now x.0 whole x.1 in
+      let set = All-contains (IsCourseSet p g cs weights) space.sets.now x.0 sets_are x.1 in
       (one p g cs weights d before days len (omega (arith, len, here)) sets_are complete morning set).low day is fits
       (begins-more p g cs day before x.0 begins x.2) less;
 }
 
 -- -- another set
 
-pub with-falls : (most : List ℕ) (periods : List Period) (sets : List CourseSet) (b s : ℕ) (m : Morning) (old new : List ℕ)
-    (x : CourseSet) → Falls old new → IsTriedWith most periods sets b s m old x → IsTriedWith most periods sets b s m new x
-with-falls most periods sets b s m old new x falls tried p g cs weights d before days len inside sets_are complete morning set = record {
+pub with-falls : (space : SearchSpace) (s : ℕ) (m : Morning) (old new : List ℕ) (x : CourseSet) → Falls old new
+    → IsTriedWith space s m old x → IsTriedWith space s m new x
+with-falls space s m old new x falls tried p g cs weights d before days len inside sets_are complete morning set = record {
   low = λ day is fits begins less. omega (
     arith,
     (tried p g cs weights d before days len inside sets_are complete morning set).low day is fits begins less,
@@ -95,13 +94,12 @@ with-falls most periods sets b s m old new x falls tried p g cs weights d before
   );
 }
 
-pub with-more : (most : List ℕ) (periods : List Period) (sets : List CourseSet) (b s : ℕ) (m : Morning) (i : ℕ) (e : CourseSet)
-    (old new : List ℕ) → i < length sets → Falls old new
-    → All (IsTriedWith most periods sets b s m old) (take i sets) → IsTriedWith most periods sets b s m new (get_or sets i e)
-    → All (IsTriedWith most periods sets b s m new) (take (i + 1) sets)
-with-more most periods sets b s m i e old new h falls before here =
-    All-more (IsTriedWith most periods sets b s m new) sets i e h
-    (λ k z l. with-falls most periods sets b s m old new (get_or (take i sets) k z) falls (before k z l)) here
+pub with-more : (space : SearchSpace) (s : ℕ) (m : Morning) (i : ℕ) (e : CourseSet) (old new : List ℕ) → i < length space.sets.now
+    → Falls old new → All (IsTriedWith space s m old) (take i space.sets.now) → IsTriedWith space s m new (get_or space.sets.now i e)
+    → All (IsTriedWith space s m new) (take (i + 1) space.sets.now)
+with-more space s m i e old new h falls before here =
+    All-more (IsTriedWith space s m new) space.sets.now i e h
+    (λ k z l. with-falls space s m old new (get_or (take i space.sets.now) k z) falls (before k z l)) here
 
 -- the day of the period
 pub day_at : (p : Problem) (g : Group) (cs : List ℕ) (d s : ℕ) (most : List ℕ) (periods : List Period) (x : Period)
@@ -116,12 +114,11 @@ day_at p g cs d s most periods x before days len inside = record {
 }
 
 -- the next morning has been tried
-pub with-next : (most : List ℕ) (periods : List Period) (sets : List CourseSet) (b s : ℕ) (m next : Morning) (x : CourseSet)
-    (table : List ℕ)
+pub with-next : (space : SearchSpace) (s : ℕ) (m next : Morning) (x : CourseSet) (table : List ℕ)
     → ((p : Problem) (g : Group) (cs weights : List ℕ) (before : List CourseSet) → AreCourses p g cs → length g.curricula ≤ 64
     → length before < p.periods → IsCourseSet p g cs weights x → IsMorningOf p g cs weights before m
-    → IsMorningOf p g cs weights (before ++ x ∷ []) next) → IsTried most periods sets b (s + 1) next table
-    → IsTriedWith most periods sets b s m table x
-with-next most periods sets b s m next x table leads tried p g cs weights d before days len inside sets_are complete morning set =
+    → IsMorningOf p g cs weights (before ++ x ∷ []) next) → IsTried space (s + 1) next table
+    → IsTriedWith space s m table x
+with-next space s m next x table leads tried p g cs weights d before days len inside sets_are complete morning set =
     tried p g cs weights d (before ++ x ∷ []) days (length-append before (x ∷ []) ∙ ap (λ n. n + 1) len) sets_are complete
     (leads p g cs weights before days.group days.at_most (omega (arith, len, inside)) set morning)

@@ -10,7 +10,8 @@ use Rattle.tt_groups_day.specs.Choosing.{IsApart}
 use Rattle.tt_groups_day.specs.Sets.{has_course, IsCourseSet, IsMorningOf, ArePeriodsOf}
 use Rattle.tt_groups_day.specs.declared.morning.CourseSet.{CourseSet}
 use Rattle.tt_groups_day.specs.declared.morning.Morning.{Morning}
-use Rattle.tt_groups_day.specs.declared.search.Period.{Period}
+use Rattle.tt_groups_day.specs.declared.space.Period.{Period}
+use Rattle.tt_groups_day.specs.declared.space.SearchSpace.{SearchSpace}
 
 -- Whether no course is in the list twice.
 abbrev pub AreDistinct : List ℕ → Type 0
@@ -35,7 +36,8 @@ pub record AreOpenSets (p : Problem) (cs : List ℕ) (d : ℕ) (before : List Co
   pub available : (s : ℕ) (x : CourseSet) (i : ℕ) → slice_get before s ≡ Some x → i < length cs → has_course x i ≡ true → unavailable p (slice_index cs i) d s ≡ false
 
 -- Whether some day that begins like the morning has the place k and costs v.
-abbrev pub IsFound : List ℕ → List Period → List CourseSet → ℕ → Morning → ℕ → ℕ → Type 0
-IsFound most periods sets s m k v = (p : Problem) (g : Group) (cs weights : List ℕ) (d : ℕ) (before : List CourseSet) → length cs ≤ 16 → AreDistinct cs → ArePeriodsOf p g cs d most periods
-    → AreOpened p cs d periods → length before ≡ s → All (IsCourseSet p g cs weights) sets → All (IsApart p cs) sets → IsMorningOf p g cs weights before m → AreOpenSets p cs d before
-    → ((i : ℕ) → i < 16 → slice_index m.counts i ≤ slice_index most i) → IsDayAt p g cs d weights k v
+abbrev pub IsFound : SearchSpace → ℕ → Morning → ℕ → ℕ → Type 0
+IsFound space s m k v = (p : Problem) (g : Group) (cs weights : List ℕ) (d : ℕ) (before : List CourseSet) → length cs ≤ 16 → AreDistinct cs
+    → ArePeriodsOf p g cs d space.most.now space.periods.now → AreOpened p cs d space.periods.now → length before ≡ s
+    → All (IsCourseSet p g cs weights) space.sets.now → All (IsApart p cs) space.sets.now → IsMorningOf p g cs weights before m
+    → AreOpenSets p cs d before → ((i : ℕ) → i < 16 → slice_index m.counts i ≤ slice_index space.most.now i) → IsDayAt p g cs d weights k v

@@ -4,4 +4,5 @@ pub mod Entries
 pub mod Found
 pub mod Running
 pub mod Sets
+pub mod Shapes
 pub mod Work

@@ -12,7 +12,8 @@ use Rattle.tt_groups.specs.Tables.{Fits}
 use Rattle.tt_groups_day.specs.Running.{is_pending, settled_cost}
 use Rattle.tt_groups_day.specs.declared.morning.CourseSet.{CourseSet}
 use Rattle.tt_groups_day.specs.declared.morning.Morning.{Morning}
-use Rattle.tt_groups_day.specs.declared.search.Period.{Period}
+use Rattle.tt_groups_day.specs.declared.space.Period.{Period}
+use Rattle.tt_groups_day.specs.declared.space.SearchSpace.{SearchSpace}
 
 -- Whether the set has the i-th course.
 abbrev pub has_course : CourseSet → ℕ → Bool
@@ -87,11 +88,15 @@ abbrev pub Falls : List ℕ → List ℕ → Type 0
 Falls old new = (k : ℕ) → slice_index new k ≤ slice_index old k
 
 -- Whether the table covers each day that begins like the morning.
-abbrev pub IsTried : List ℕ → List Period → List CourseSet → ℕ → ℕ → Morning → List ℕ → Type 0
-IsTried most periods sets b s m table = (p : Problem) (g : Group) (cs weights : List ℕ) (d : ℕ) (before : List CourseSet) → ArePeriodsOf p g cs d most periods → length before ≡ s
-    → All (IsCourseSet p g cs weights) sets → IsComplete p g cs sets → IsMorningOf p g cs weights before m → Covers p g cs b d weights table before
+abbrev pub IsTried : SearchSpace → ℕ → Morning → List ℕ → Type 0
+IsTried space s m table = (p : Problem) (g : Group) (cs weights : List ℕ) (d : ℕ) (before : List CourseSet)
+    → ArePeriodsOf p g cs d space.most.now space.periods.now → length before ≡ s
+    → All (IsCourseSet p g cs weights) space.sets.now → IsComplete p g cs space.sets.now → IsMorningOf p g cs weights before m
+    → Covers p g cs space.bound d weights table before
 
 -- Whether the table covers each day that begins like the morning and has the set x next.
-abbrev pub IsTriedWith : List ℕ → List Period → List CourseSet → ℕ → ℕ → Morning → List ℕ → CourseSet → Type 0
-IsTriedWith most periods sets b s m table x = (p : Problem) (g : Group) (cs weights : List ℕ) (d : ℕ) (before : List CourseSet) → ArePeriodsOf p g cs d most periods → length before ≡ s → s < p.periods
-    → All (IsCourseSet p g cs weights) sets → IsComplete p g cs sets → IsMorningOf p g cs weights before m → IsCourseSet p g cs weights x → Covers p g cs b d weights table (before ++ x ∷ [])
+abbrev pub IsTriedWith : SearchSpace → ℕ → Morning → List ℕ → CourseSet → Type 0
+IsTriedWith space s m table x = (p : Problem) (g : Group) (cs weights : List ℕ) (d : ℕ) (before : List CourseSet)
+    → ArePeriodsOf p g cs d space.most.now space.periods.now → length before ≡ s → s < p.periods
+    → All (IsCourseSet p g cs weights) space.sets.now → IsComplete p g cs space.sets.now → IsMorningOf p g cs weights before m
+    → IsCourseSet p g cs weights x → Covers p g cs space.bound d weights table (before ++ x ∷ [])

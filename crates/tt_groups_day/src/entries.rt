@@ -7,11 +7,13 @@ ghost use Rattle.tt_groups.specs.declared.entry.DayEntry.{DayEntry};
 ghost use Rattle.tt_groups_day.specs.Found.{IsDayAt};
 ghost use Rattle.tt_groups.specs.Tables.{Vector};
 ghost use Rattle.tt_groups_day.specs.Entries.{AreLectureDigits, IsEntryAt};
+ghost use Rattle.tt_groups_day.specs.Shapes.{HasDigits};
 ghost use Rattle.tt_groups_day.specs.Sets.{Covers};
 ghost use Rattle.tt_groups_day.specs.declared.morning.TheConstants.{LECTURES, PLACES};
 
+use crate::shape::DayShape;
 use std::alloc::{AllocError, Global};
-use tt_groups::{DIGITS, DayEntry, Group};
+use tt_groups::{DIGITS, DayEntry};
 
 /// Returns the digits of a place.
 fn lectures_at(count: usize, sizes: &[u32], weights: &[u32], place: u32) -> [u8; DIGITS]
@@ -45,61 +47,45 @@ fn further(courses: &[u32], amounts: &[u8; DIGITS], course: u32) -> u8
 }
 
 /// Returns the entry of a place.
-fn entry_at(
-    group: &Group,
-    courses: &[u32],
-    sizes: &[u32],
-    weights: &[u32],
-    place: u32,
-    cost: u8,
-) -> DayEntry
-    requires count { length courses.now + length group.now.courses ≤ DIGITS }
-    requires sized { length courses.now ≤ length sizes.now }
-    requires weighed { length courses.now ≤ length weights.now }
-    requires positive { (i : ℕ) → i < length courses.now → 0 < slice_index sizes.now i }
-    requires placed { (i : ℕ) → i < length courses.now → 0 < slice_index weights.now i }
-    requires small { (i : ℕ) → i < length courses.now → slice_index sizes.now i ≤ LECTURES + 1 }
-    ensures amounts { IsEntryAt group.now courses.now sizes.now weights.now place result }
+fn entry_at(shape: &DayShape<'_>, place: u32, cost: u8) -> DayEntry
+    requires { HasDigits shape.now }
+    ensures amounts { IsEntryAt shape.now.group.now shape.now.courses.now shape.now.sizes.now shape.now.weights.now place result }
     ensures cost { result.cost ≡ cost }
 {
-    let lectures = lectures_at(courses.len(), sizes, weights, place);
+    let courses = shape.courses;
+    let lectures = lectures_at(courses.len(), shape.sizes, shape.weights, place);
     let mut amounts = lectures;
-    let own = group.courses();
+    let own = shape.group.courses();
     for j in 0..own.len() {
         amounts[courses.len() + j] = further(courses, &lectures, own[j]);
     }
     DayEntry { amounts, cost }
 }
 
-/// Returns the entries of the places whose values are below the bound. The sizes and weights are those of the lectures of each course;
-/// others may follow.
+/// Returns the entries of the places whose values are below the bound.
 pub fn list_entries(
     alloc: Global,
-    group: &Group,
-    courses: &[u32],
-    sizes: &[u32],
-    weights: &[u32],
+    shape: &DayShape<'_>,
     bound: u8,
     table: &[u8],
 ) -> Result<Vec<DayEntry>, AllocError>
-    requires count { length courses.now + length group.now.courses ≤ DIGITS }
-    requires sized { length courses.now ≤ length sizes.now }
-    requires weighed { length courses.now ≤ length weights.now }
-    requires positive { (i : ℕ) → i < length courses.now → 0 < slice_index sizes.now i }
-    requires placed { (i : ℕ) → i < length courses.now → 0 < slice_index weights.now i }
-    requires small { (i : ℕ) → i < length courses.now → slice_index sizes.now i ≤ LECTURES + 1 }
+    requires digits { HasDigits shape.now }
     requires places { length table.now ≤ PLACES }
-    ensures list { IfOk result (λ entries. (p : Problem) (d : ℕ) → AreCourses p group.now courses.now → AreLectureDigits p courses.now sizes.now weights.now (length table.now) →
-        Covers p group.now courses.now bound d weights.now table.now [] → IsDayList p group.now courses.now bound d entries.items) }
-    ensures found { IfOk result (λ entries. (p : Problem) (d : ℕ) → AreCourses p group.now courses.now → AreLectureDigits p courses.now sizes.now weights.now (length table.now) →
-        ((k : ℕ) → k < length table.now → slice_index table.now k < bound → IsDayAt p group.now courses.now d weights.now k (slice_index table.now k)) →
-        (x : DayEntry) → Contains entries.items x → IsReachedDay p group.now courses.now d x) }
+    ensures list { IfOk result (λ entries. (p : Problem) (d : ℕ) → AreCourses p shape.now.group.now shape.now.courses.now →
+        AreLectureDigits p shape.now.courses.now shape.now.sizes.now shape.now.weights.now (length table.now) →
+        Covers p shape.now.group.now shape.now.courses.now bound d shape.now.weights.now table.now [] →
+        IsDayList p shape.now.group.now shape.now.courses.now bound d entries.items) }
+    ensures found { IfOk result (λ entries. (p : Problem) (d : ℕ) → AreCourses p shape.now.group.now shape.now.courses.now →
+        AreLectureDigits p shape.now.courses.now shape.now.sizes.now shape.now.weights.now (length table.now) →
+        ((k : ℕ) → k < length table.now → slice_index table.now k < bound →
+        IsDayAt p shape.now.group.now shape.now.courses.now d shape.now.weights.now k (slice_index table.now k)) →
+        (x : DayEntry) → Contains entries.items x → IsReachedDay p shape.now.group.now shape.now.courses.now d x) }
     ensures few { IfOk result (λ entries. length entries.items ≤ length table.now) }
 {
     let mut entries = Vec::new(alloc);
     for (place, cost) in table.iter().enumerate() {
         if *cost < bound {
-            let entry = entry_at(group, courses, sizes, weights, place as u32, *cost);
+            let entry = entry_at(shape, place as u32, *cost);
             entries.push(entry)?;
         }
     }

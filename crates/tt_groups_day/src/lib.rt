@@ -7,6 +7,8 @@ mod fault;
 mod morning;
 mod search;
 mod sets;
+mod shape;
+mod space;
 mod table;
 mod work;
 
@@ -14,4 +16,5 @@ pub use days::list_days;
 pub use fault::DaysFault;
 pub use morning::{COURSES, CourseSet, fits};
 pub use sets::{MAX_SETS, SetsFault, list_sets};
+pub use shape::DayShape;
 pub use work::DayWork;

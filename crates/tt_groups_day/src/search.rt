@@ -8,15 +8,10 @@ ghost use Rattle.tt_groups_day.specs.declared.morning.TheConstants.{COST_LIMIT, 
 ghost use Rattle.tt_instance.specs.declared.limit.TheConstants.{MAX_PERIODS};
 
 use crate::fault::DaysFault;
-use crate::morning::{COURSES, CourseSet, Morning, more};
+use crate::morning::{Morning, more};
+use crate::space::SearchSpace;
 use crate::work::DayWork;
 use tt_instance::ISOLATED_COST;
-
-/// The courses that are available in a period, 1 for each.
-#[derive(Clone, Copy, Debug, PartialEq, Eq)]
-pub struct Period {
-    pub available: [u8; COURSES],
-}
 
 /// Writes the value if the table has a higher one at the place.
 fn lower(table: &mut [u8], place: usize, value: u8)
@@ -45,44 +40,42 @@ fn end(bound: u8, morning: &Morning, table: &mut [u8])
 
 /// Lowers the entries of all days that begin like a morning. The work that is left goes down with each set that is tried.
 pub fn try_days(
-    most: &[u8; COURSES],
-    periods: &[Period],
-    sets: &[CourseSet],
-    bound: u8,
+    space: &SearchSpace<'_>,
     period: usize,
     morning: &Morning,
     table: &mut [u8],
     work: &mut DayWork,
 ) -> Result<(), DaysFault>
-    requires at_most { length periods.now ≤ MAX_PERIODS }
-    requires inside { period ≤ length periods.now }
-    requires sets { All (λ x. (x.index ≤ MAX_INDEX) × ((i : ℕ) → slice_index x.courses i ≤ 1)) sets.now }
+    requires at_most { length space.now.periods.now ≤ MAX_PERIODS }
+    requires inside { period ≤ length space.now.periods.now }
+    requires sets { All (λ x. (x.index ≤ MAX_INDEX) × ((i : ℕ) → slice_index x.courses i ≤ 1)) space.now.sets.now }
     requires small { (i : ℕ) → slice_index morning.now.counts i ≤ period }
     requires place { morning.now.place ≤ MAX_INDEX * period }
     requires cost { morning.now.cost < COST_LIMIT }
     ensures falls { Falls table.old table.new }
-    ensures tried { OnOk result (IsTried most.now periods.now sets.now bound period morning.now table.new) }
+    ensures tried { OnOk result (IsTried space.now period morning.now table.new) }
     ensures found { OnOk result ((k : ℕ) → (slice_index table.new k ≡ slice_index table.old k) ⊎
-        IsFound most.now periods.now sets.now period morning.now k (slice_index table.new k)) }
+        IsFound space.now period morning.now k (slice_index table.new k)) }
     // Each set that is added to a sequence was tried.
     ensures sequences { work.new.sequences ≤ work.old.sequences }
     ensures tries { work.new.tries ≤ work.old.tries }
     ensures each_tried { work.old.sequences + work.new.tries ≤ work.old.tries + work.new.sequences }
     // No sequence is tried twice.
-    ensures at_most { work.old.tries ≤ work.new.tries + sequences_of (length sets.now) (length periods.now - period) }
+    ensures at_most { work.old.tries ≤ work.new.tries + sequences_of (length space.now.sets.now) (length space.now.periods.now - period) }
     ensures used_up { OnErr result (IsUsedUp work.new) }
-    ensures too_few { OnErr result ((work.old.sequences < sequences_of (length sets.now) (length periods.now - period)) ⊎
-        (work.old.tries < sequences_of (length sets.now) (length periods.now - period))) }
+    ensures too_few { let most = sequences_of (length space.now.sets.now) (length space.now.periods.now - period) in
+        OnErr result ((work.old.sequences < most) ⊎ (work.old.tries < most)) }
 {
-    if period == periods.len() {
-        end(bound, morning, table);
+    if period == space.periods.len() {
+        end(space.bound, morning, table);
         return Ok(());
     }
-    for set in sets {
+    for set in space.sets {
         work.take_try()?;
-        if let Some(next) = more(bound, most, &periods[period].available, morning, set) {
+        let available = &space.periods[period].available;
+        if let Some(next) = more(space.bound, space.most, available, morning, set) {
             work.take_sequence()?;
-            try_days(most, periods, sets, bound, period + 1, &next, table, work)?;
+            try_days(space, period + 1, &next, table, work)?;
         }
     }
     Ok(())

@@ -14,8 +14,10 @@ ghost use Rattle.tt_groups_day.specs.declared.sets.TheConstants.{CURRICULA};
 ghost use Rattle.tt_instance.specs.declared.limit.TheConstants.{MAX_PERIODS};
 
 use crate::fault::DaysFault;
-use crate::morning::{COURSES, CourseSet, Morning};
-use crate::search::{Period, try_days};
+use crate::morning::{COURSES, Morning};
+use crate::search::try_days;
+use crate::shape::DayShape;
+use crate::space::{Period, SearchSpace};
 use crate::work::DayWork;
 use std::alloc::{AllocError, Global};
 use tt_instance::Instance;
@@ -74,36 +76,44 @@ fn lectures_of(instance: &Instance<'_>, courses: &[u32]) -> [u8; COURSES]
 pub fn day_table(
     alloc: Global,
     instance: &Instance<'_>,
-    courses: &[u32],
-    sets: &[CourseSet],
+    shape: &DayShape<'_>,
     bound: u8,
     day: u32,
-    places: usize,
     work: &mut DayWork,
 ) -> Result<Vec<u8>, DaysFault>
-    requires at_most { length courses.now ≤ COURSES }
-    requires in_range { All (λ c. c < length instance.now.courses) courses.now }
-    requires lectures { All (λ c. lectures instance.now c ≤ LECTURES) courses.now }
-    requires sets { All (λ x. (x.index ≤ MAX_INDEX) × ((i : ℕ) → slice_index x.courses i ≤ 1)) sets.now }
-    ensures whole { IfOk result (λ v. length v.items ≡ places) }
-    ensures low { IfOk result (λ v. (g : spec.Group) (weights : List ℕ) → AreCourses instance.now g courses.now → length g.curricula ≤ CURRICULA →
-        All (IsCourseSet instance.now g courses.now weights) sets.now → IsComplete instance.now g courses.now sets.now →
-        Covers instance.now g courses.now bound day weights v.items []) }
-    ensures found { IfOk result (λ v. (g : spec.Group) (weights : List ℕ) → AreCourses instance.now g courses.now → length g.curricula ≤ CURRICULA → AreDistinct courses.now →
-        All (IsCourseSet instance.now g courses.now weights) sets.now → All (IsApart instance.now courses.now) sets.now →
-        (k : ℕ) → k < places → slice_index v.items k < bound → IsDayAt instance.now g courses.now day weights k (slice_index v.items k)) }
+    requires at_most { length shape.now.courses.now ≤ COURSES }
+    requires in_range { All (λ c. c < length instance.now.courses) shape.now.courses.now }
+    requires lectures { All (λ c. lectures instance.now c ≤ LECTURES) shape.now.courses.now }
+    requires sets { All (λ x. (x.index ≤ MAX_INDEX) × ((i : ℕ) → slice_index x.courses i ≤ 1)) shape.now.sets.now }
+    ensures whole { IfOk result (λ v. length v.items ≡ shape.now.places) }
+    ensures low { IfOk result (λ v. (g : spec.Group) (weights : List ℕ) → AreCourses instance.now g shape.now.courses.now →
+        length g.curricula ≤ CURRICULA → All (IsCourseSet instance.now g shape.now.courses.now weights) shape.now.sets.now →
+        IsComplete instance.now g shape.now.courses.now shape.now.sets.now →
+        Covers instance.now g shape.now.courses.now bound day weights v.items []) }
+    ensures found { IfOk result (λ v. (g : spec.Group) (weights : List ℕ) → AreCourses instance.now g shape.now.courses.now →
+        length g.curricula ≤ CURRICULA → AreDistinct shape.now.courses.now →
+        All (IsCourseSet instance.now g shape.now.courses.now weights) shape.now.sets.now →
+        All (IsApart instance.now shape.now.courses.now) shape.now.sets.now →
+        (k : ℕ) → k < shape.now.places → slice_index v.items k < bound →
+        IsDayAt instance.now g shape.now.courses.now day weights k (slice_index v.items k)) }
     // Each set that is added to a sequence was tried.
     ensures sequences { work.new.sequences ≤ work.old.sequences }
     ensures tries { work.new.tries ≤ work.old.tries }
     ensures each_tried { work.old.sequences + work.new.tries ≤ work.old.tries + work.new.sequences }
     // No sequence of sets is tried twice.
-    ensures at_most { work.old.tries ≤ work.new.tries + sequences_of (length sets.now) instance.now.periods }
+    ensures at_most { work.old.tries ≤ work.new.tries + sequences_of (length shape.now.sets.now) instance.now.periods }
     ensures used_up { result ≡ Err fault.TooMuchWork → IsUsedUp work.new }
-    ensures too_few { result ≡ Err fault.TooMuchWork → (work.old.sequences < sequences_of (length sets.now) instance.now.periods) ⊎
-        (work.old.tries < sequences_of (length sets.now) instance.now.periods) }
+    ensures too_few { let most = sequences_of (length shape.now.sets.now) instance.now.periods in
+        result ≡ Err fault.TooMuchWork → (work.old.sequences < most) ⊎ (work.old.tries < most) }
 {
-    let most = lectures_of(instance, courses);
-    let periods = periods_of(alloc, instance, courses, day)?;
+    let most = lectures_of(instance, shape.courses);
+    let periods = periods_of(alloc, instance, shape.courses, day)?;
+    let space = SearchSpace {
+        most: &most,
+        periods: &periods,
+        sets: shape.sets,
+        bound,
+    };
     let start = Morning {
         counts: [0; COURSES],
         place: 0,
@@ -111,7 +121,7 @@ pub fn day_table(
         occupied: 0,
         pending: 0,
     };
-    let mut table = vec![in alloc; u8::MAX; places]?;
-    try_days(&most, &periods, sets, bound, 0, &start, &mut table, work)?;
+    let mut table = vec![in alloc; u8::MAX; shape.places]?;
+    try_days(&space, 0, &start, &mut table, work)?;
     Ok(table)
 }

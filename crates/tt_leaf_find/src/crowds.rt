@@ -4,6 +4,7 @@ ghost use Rattle.std.specs.Prelude.{◌<◌, length};
 
 use crate::grid::Grid;
 use crate::group_prices::{Pricing, price_group};
+use crate::pool::CoursePool;
 use crate::prices::{has_seats, price_of};
 use crate::rivals::rivals_of;
 use std::alloc::{AllocError, Global};
@@ -33,43 +34,26 @@ impl Crowd {
     }
 }
 
-fn worth_at(worths: &[u64], course: usize) -> u64 {
-    worths.get(course).copied().unwrap_or(0)
-}
-
 /// Removes courses from a group as long as the group and the course have a higher value apart.
 fn shrink(
     alloc: Global,
-    instance: &Instance<'_>,
-    grid: &Grid,
-    alone: &[u64],
+    pool: &CoursePool<'_, '_>,
     members: &mut [bool],
 ) -> Result<Pricing, AllocError> {
-    let mut best = price_group(alloc, instance, grid, members)?;
+    let mut best = price_group(alloc, pool.instance, pool.grid, members)?;
     for course in 0..members.len() {
         if !members[course] {
             continue;
         }
         members[course] = false;
-        let without = price_group(alloc, instance, grid, members)?;
-        if without.worth.saturating_add(worth_at(alone, course)) > best.worth {
+        let without = price_group(alloc, pool.instance, pool.grid, members)?;
+        if without.worth.saturating_add(pool.worth_of(course)) > best.worth {
             best = without;
         } else {
             members[course] = true;
         }
     }
     Ok(best)
-}
-
-/// Returns the total value of the courses of a group, each taken alone.
-fn worth_apart(alone: &[u64], members: &[bool]) -> u64 {
-    let mut total: u64 = 0;
-    for (course, member) in members.iter().enumerate() {
-        if *member {
-            total = total.saturating_add(worth_at(alone, course));
-        }
-    }
-    total
 }
 
 /// Removes the members of a group from the courses that are left.
@@ -90,24 +74,20 @@ struct Group {
 
 fn group_of(
     alloc: Global,
-    instance: &Instance<'_>,
-    grid: &Grid,
-    alone: &[u64],
+    pool: &CoursePool<'_, '_>,
     members: Vec<bool>,
 ) -> Result<Group, AllocError> {
-    let pricing = price_group(alloc, instance, grid, members.as_slice())?;
+    let pricing = price_group(alloc, pool.instance, pool.grid, members.as_slice())?;
     let gain = pricing
         .worth
-        .saturating_sub(worth_apart(alone, members.as_slice()));
+        .saturating_sub(pool.worth_apart(members.as_slice()));
     Ok(Group { members, gain })
 }
 
 /// Returns the best group that grows from one of the courses left, for courses that need more seats than this many, or `found` if none is better.
 fn better_group(
     alloc: Global,
-    instance: &Instance<'_>,
-    grid: &Grid,
-    alone: &[u64],
+    pool: &CoursePool<'_, '_>,
     left: &[bool],
     seats: Option<u32>,
     found: Group,
@@ -117,8 +97,8 @@ fn better_group(
         if !*is_left {
             continue;
         }
-        if let Some(members) = rivals_of(alloc, instance, grid, left, seats, seed)? {
-            let group = group_of(alloc, instance, grid, alone, members)?;
+        if let Some(members) = rivals_of(alloc, pool.instance, pool.grid, left, seats, seed)? {
+            let group = group_of(alloc, pool, members)?;
             if best.gain < group.gain {
                 best = group;
             }
@@ -130,17 +110,15 @@ fn better_group(
 /// Returns the best of the groups that grow from one of the courses left, and of all these courses together.
 fn best_group(
     alloc: Global,
-    instance: &Instance<'_>,
-    grid: &Grid,
-    alone: &[u64],
+    pool: &CoursePool<'_, '_>,
     left: &[bool],
 ) -> Result<Group, AllocError> {
     let all = left.to_vec(alloc)?;
-    let whole = group_of(alloc, instance, grid, alone, all)?;
-    let mut best = better_group(alloc, instance, grid, alone, left, None, whole)?;
-    for room in 0..instance.rooms() {
-        let seats = Some(instance.capacity(room));
-        best = better_group(alloc, instance, grid, alone, left, seats, best)?;
+    let whole = group_of(alloc, pool, all)?;
+    let mut best = better_group(alloc, pool, left, None, whole)?;
+    for room in 0..pool.instance.rooms() {
+        let seats = Some(pool.instance.capacity(room));
+        best = better_group(alloc, pool, left, seats, best)?;
     }
     Ok(best)
 }
@@ -148,14 +126,12 @@ fn best_group(
 /// Adds a group of the courses left; returns whether one was found whose value is higher than that of its courses apart.
 fn add_group(
     alloc: Global,
-    instance: &Instance<'_>,
-    grid: &Grid,
-    alone: &[u64],
+    pool: &CoursePool<'_, '_>,
     crowd: &mut Crowd,
 ) -> Result<bool, AllocError> {
-    let mut members = best_group(alloc, instance, grid, alone, crowd.left.as_slice())?.members;
-    let pricing = shrink(alloc, instance, grid, alone, members.as_mut_slice())?;
-    if pricing.worth <= worth_apart(alone, members.as_slice()) {
+    let mut members = best_group(alloc, pool, crowd.left.as_slice())?.members;
+    let pricing = shrink(alloc, pool, members.as_mut_slice())?;
+    if pricing.worth <= pool.worth_apart(members.as_slice()) {
         return Ok(false);
     }
     take_out(crowd.left.as_mut_slice(), members.as_slice());
@@ -200,12 +176,17 @@ pub fn find_crowds<'i, P: Path<'i>>(alloc: Global, path: &P) -> Result<Option<Cr
     }
     let grid = Grid::new(alloc, path)?;
     let alone = worths_alone(alloc, path)?;
+    let pool = CoursePool {
+        instance,
+        grid: &grid,
+        alone: alone.as_slice(),
+    };
     let mut crowd = Crowd {
         pricings: Vec::new(alloc),
         left: vec![in alloc; true; instance.courses() as usize]?,
     };
     for _ in 0..MOST_GROUPS {
-        if !add_group(alloc, instance, &grid, alone.as_slice(), &mut crowd)? {
+        if !add_group(alloc, &pool, &mut crowd)? {
             break;
         }
     }

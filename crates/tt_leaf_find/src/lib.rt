@@ -8,6 +8,7 @@ mod grid;
 mod group_prices;
 mod laws;
 mod overfull;
+mod pool;
 mod priced;
 mod prices;
 mod rivals;

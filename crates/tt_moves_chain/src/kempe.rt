@@ -3,9 +3,9 @@
 ghost use Rattle.std.specs.Prelude.{◌≡◌};
 ghost use Rattle.std.specs.List.Sorted.{IsStrictlyIncreasing};
 
+use crate::slots::SlotPair;
 use std::marker::Model;
 use thiserror::Error;
-use tt_instance::Slot;
 
 /// The reason why there is no chain.
 #[derive(Clone, Copy, Debug, PartialEq, Eq, Error)]
@@ -23,8 +23,7 @@ pub enum ChainFault {
 /// Entries of two periods that change periods together.
 #[derive(Drop)]
 pub struct Chain {
-    pub(crate) from: Slot,
-    pub(crate) to: Slot,
+    pub(crate) pair: SlotPair,
     pub(crate) members: Vec<u32>,
 }
 
@@ -34,9 +33,9 @@ impl Model for Chain {
 
     ghost Value = { Kempe };
 
-    ghost view = { λ a. record { from = a.from; to = a.to; members = a.members.items } };
+    ghost view = { λ a. record { from = a.pair.from; to = a.pair.to; members = a.members.items } };
 
-    ghost invariant = { λ a. IsTurnable a.from a.to a.members.items };
+    ghost invariant = { λ a. IsTurnable a.pair.from a.pair.to a.members.items };
 }
 
 impl Chain {

@@ -3,6 +3,7 @@
 
 mod kempe;
 mod seeking;
+mod slots;
 mod spreading;
 mod turning;
 

@@ -12,6 +12,7 @@ ghost use Rattle.tt_moves_chain.specs.Answers.{IsAnswer, IsPeriod, is_shut, same
 ghost use Rattle.tt_moves_chain.specs.Marks.{marked};
 
 use crate::kempe::{Chain, ChainFault};
+use crate::slots::SlotPair;
 use crate::spreading::spread;
 use std::alloc::{AllocError, Global};
 use tt_instance::Slot;
@@ -33,13 +34,13 @@ fn places_of(alloc: Global, flags: &[bool]) -> Result<Vec<u32>, AllocError>
 }
 
 /// Returns the one of two periods in which an entry is not.
-pub fn other_period(from: Slot, to: Slot, entry: Entry) -> Slot
-    ensures { result ≡ other from to entry }
+pub fn other_period(pair: SlotPair, entry: Entry) -> Slot
+    ensures { result ≡ other pair.from pair.to entry }
 {
-    if entry.day == from.day && entry.period == from.period {
-        to
+    if entry.day == pair.from.day && entry.period == pair.from.period {
+        pair.to
     } else {
-        from
+        pair.from
     }
 }
 
@@ -51,30 +52,30 @@ fn is_same_slot(a: Slot, b: Slot) -> bool
 }
 
 /// Checks whether the other period of an entry is unavailable.
-pub fn is_barred(occupied: &Occupied<'_, '_>, from: Slot, to: Slot, index: u32) -> bool
+pub fn is_barred(occupied: &Occupied<'_, '_>, pair: SlotPair, index: u32) -> bool
     requires { index < length occupied.now.entries }
-    ensures { result ≡ is_shut occupied.now.problem occupied.now.entries from to index }
+    ensures { result ≡ is_shut occupied.now.problem occupied.now.entries pair.from pair.to index }
 {
     let entry = occupied.entry(index);
-    let place = other_period(from, to, entry);
+    let place = other_period(pair, entry);
     occupied
         .instance()
         .unavailable(entry.course, place.day, place.period)
 }
 
 /// Returns the first of some entries whose other period is unavailable.
-fn first_barred(occupied: &Occupied<'_, '_>, from: Slot, to: Slot, members: &[u32]) -> Option<u32>
+fn first_barred(occupied: &Occupied<'_, '_>, pair: SlotPair, members: &[u32]) -> Option<u32>
     requires { All (λ i. i < length occupied.now.entries) members.now }
     ensures { MatchOption result
         ((k : ℕ) → k < length members.now
-        → is_shut occupied.now.problem occupied.now.entries from to (slice_index members.now k) ≡ false)
+        → is_shut occupied.now.problem occupied.now.entries pair.from pair.to (slice_index members.now k) ≡ false)
         (λ i. (n : ℕ) × (n < length members.now) × (slice_index members.now n ≡ i)
-        × (is_shut occupied.now.problem occupied.now.entries from to i ≡ true)
+        × (is_shut occupied.now.problem occupied.now.entries pair.from pair.to i ≡ true)
         × ((k : ℕ) → k < n
-        → is_shut occupied.now.problem occupied.now.entries from to (slice_index members.now k) ≡ false)) }
+        → is_shut occupied.now.problem occupied.now.entries pair.from pair.to (slice_index members.now k) ≡ false)) }
 {
     for member in members {
-        if is_barred(occupied, from, to, *member) {
+        if is_barred(occupied, pair, *member) {
             return Some(*member);
         }
     }
@@ -85,19 +86,18 @@ fn first_barred(occupied: &Occupied<'_, '_>, from: Slot, to: Slot, members: &[u3
 fn members_of(
     alloc: Global,
     occupied: &Occupied<'_, '_>,
-    from: Slot,
-    to: Slot,
+    pair: SlotPair,
     entry: usize,
 ) -> Result<Vec<u32>, AllocError>
     requires entry { entry < length occupied.now.entries }
-    requires from { is_at from (entry_at occupied.now.entries entry) ≡ true }
+    requires from { is_at pair.from (entry_at occupied.now.entries entry) ≡ true }
     ensures chain { IfOk result
-        (λ v. IsChain occupied.now.problem occupied.now.entries from to entry v.items) }
+        (λ v. IsChain occupied.now.problem occupied.now.entries pair.from pair.to entry v.items) }
     ensures rising { IfOk result (λ v. IsStrictlyIncreasing v.items) }
     ensures inside { IfOk result (λ v. All (λ i. i < length occupied.now.entries) v.items) }
 {
     let entries = occupied.table().entries();
-    let flags = spread(alloc, occupied.instance(), entries, from, to, entry)?;
+    let flags = spread(alloc, occupied.instance(), entries, pair, entry)?;
     let places = places_of(alloc, flags.as_slice())?;
     Ok(places)
 }
@@ -106,26 +106,25 @@ fn members_of(
 fn chain_between(
     alloc: Global,
     occupied: &Occupied<'_, '_>,
-    from: Slot,
-    to: Slot,
+    pair: SlotPair,
     entry: usize,
 ) -> Result<Chain, ChainFault>
     requires entry { entry < length occupied.now.entries }
-    requires at { is_at from (entry_at occupied.now.entries entry) ≡ true }
-    requires from { IsPeriod occupied.now.problem from }
-    requires to { IsPeriod occupied.now.problem to }
-    ensures { IsAnswer occupied.now.problem occupied.now.entries from to entry result }
+    requires at { is_at pair.from (entry_at occupied.now.entries entry) ≡ true }
+    requires from { IsPeriod occupied.now.problem pair.from }
+    requires to { IsPeriod occupied.now.problem pair.to }
+    ensures { IsAnswer occupied.now.problem occupied.now.entries pair.from pair.to entry result }
 {
-    if is_same_slot(from, to) {
+    if is_same_slot(pair.from, pair.to) {
         return Err(ChainFault::SamePeriod);
     }
-    let Ok(members) = members_of(alloc, occupied, from, to, entry) else {
+    let Ok(members) = members_of(alloc, occupied, pair, entry) else {
         return Err(ChainFault::OutOfMemory);
     };
-    if let Some(member) = first_barred(occupied, from, to, members.as_slice()) {
+    if let Some(member) = first_barred(occupied, pair, members.as_slice()) {
         return Err(ChainFault::Unavailable(member));
     }
-    Ok(Chain { from, to, members })
+    Ok(Chain { pair, members })
 }
 
 /// Returns the least set of entries that contains an entry and each entry linked to one of the set, between
@@ -149,5 +148,5 @@ pub fn chain(
         period: place.period,
     };
     let to = Slot { day, period };
-    chain_between(alloc, occupied, from, to, entry as usize)
+    chain_between(alloc, occupied, SlotPair { from, to }, entry as usize)
 }

@@ -5,8 +5,9 @@ ghost use Rattle.tt_instance.specs.declared.cell.Cell.{Cell};
 ghost use Rattle.tt_moves_chain.specs.Chains.{exclude, linked, IsClosed};
 ghost use Rattle.tt_moves_chain.specs.Marks.{marked, IsMarking, IsSpread};
 
+use crate::slots::SlotPair;
 use std::alloc::{AllocError, Global};
-use tt_instance::{Instance, Slot};
+use tt_instance::Instance;
 use tt_table::Entry;
 
 fn are_in_conflict(instance: &Instance<'_>, x: &Entry, y: &Entry) -> bool
@@ -16,10 +17,11 @@ fn are_in_conflict(instance: &Instance<'_>, x: &Entry, y: &Entry) -> bool
 }
 
 /// Checks whether two entries are linked between two periods: there is one in each, and they conflict.
-pub fn is_linked(instance: &Instance<'_>, a: Slot, b: Slot, x: &Entry, y: &Entry) -> bool
-    ensures { result ≡ linked instance.now a b x.now y.now }
+pub fn is_linked(instance: &Instance<'_>, pair: SlotPair, x: &Entry, y: &Entry) -> bool
+    ensures { result ≡ linked instance.now pair.from pair.to x.now y.now }
 {
-    let are_apart = x.is_at(a) && y.is_at(b) || x.is_at(b) && y.is_at(a);
+    let SlotPair { from, to } = pair;
+    let are_apart = x.is_at(from) && y.is_at(to) || x.is_at(to) && y.is_at(from);
     are_apart && are_in_conflict(instance, x, y)
 }
 
@@ -41,21 +43,23 @@ fn mark(flags: &mut Vec<bool>, waiting: &mut Vec<usize>, at: usize) -> Result<()
 fn reach(
     instance: &Instance<'_>,
     entries: &[Entry],
-    a: Slot,
-    b: Slot,
-    from: usize,
+    pair: SlotPair,
+    place: usize,
     flags: &mut Vec<bool>,
     waiting: &mut Vec<usize>,
 ) -> Result<(), AllocError>
-    requires from { from < length entries.now }
+    requires place { place < length entries.now }
     requires size { length flags.old.items ≡ length entries.now }
     ensures marking { OnOk result (IsMarking flags.old.items waiting.old.items flags.new.items waiting.new.items) }
-    ensures reached { OnOk result ((j : ℕ) (d : Cell) → j < length entries.now → linked instance.now a b (slice_index_or entries.now from d) (slice_index_or entries.now j d) ≡ true → marked flags.new.items j ≡ true) }
-    ensures sound { OnOk result ((m : ℕ → Bool) → IsClosed instance.now entries.now a b m → m from ≡ true → ((i : ℕ) → marked flags.old.items i ≡ true → m i ≡ true) → (i : ℕ) → marked flags.new.items i ≡ true → m i ≡ true) }
+    ensures reached { OnOk result ((j : ℕ) (d : Cell) → j < length entries.now →
+        linked instance.now pair.from pair.to (slice_index_or entries.now place d) (slice_index_or entries.now j d) ≡ true →
+        marked flags.new.items j ≡ true) }
+    ensures sound { OnOk result ((m : ℕ → Bool) → IsClosed instance.now entries.now pair.from pair.to m → m place ≡ true →
+        ((i : ℕ) → marked flags.old.items i ≡ true → m i ≡ true) → (i : ℕ) → marked flags.new.items i ≡ true → m i ≡ true) }
 {
-    let x = entries[from];
+    let x = entries[place];
     for (j, y) in entries.iter().enumerate() {
-        if is_linked(instance, a, b, &x, y) {
+        if is_linked(instance, pair, &x, y) {
             mark(flags, waiting, j)?;
         }
     }
@@ -67,18 +71,17 @@ pub fn spread(
     alloc: Global,
     instance: &Instance<'_>,
     entries: &[Entry],
-    a: Slot,
-    b: Slot,
+    pair: SlotPair,
     entry: usize,
 ) -> Result<Vec<bool>, AllocError>
     requires { entry < length entries.now }
-    ensures { IfOk result (λ v. IsSpread instance.now entries.now a b entry v.items) }
+    ensures { IfOk result (λ v. IsSpread instance.now entries.now pair.from pair.to entry v.items) }
 {
     let mut flags = vec![in alloc; false; entries.len()]?;
     let mut waiting = Vec::new(alloc);
     mark(&mut flags, &mut waiting, entry)?;
-    while let Some(from) = waiting.pop() {
-        reach(instance, entries, a, b, from, &mut flags, &mut waiting)?;
+    while let Some(place) = waiting.pop() {
+        reach(instance, entries, pair, place, &mut flags, &mut waiting)?;
     }
     Ok(flags)
 }

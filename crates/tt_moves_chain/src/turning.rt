@@ -39,7 +39,7 @@ impl Chain {
     {
         let one = occupied.entry(index);
         let two = occupied.entry(other);
-        !is_linked(occupied.instance(), self.from, self.to, &one, &two) || self.has(other)
+        !is_linked(occupied.instance(), self.pair, &one, &two) || self.has(other)
     }
 
     /// Checks that each entry that is linked to a given one is a member.
@@ -67,10 +67,8 @@ impl Chain {
             return false;
         }
         let entry = occupied.entry(index);
-        let is_in_either = entry.is_at(self.from) || entry.is_at(self.to);
-        is_in_either
-            && !is_barred(occupied, self.from, self.to, index)
-            && self.has_links_of(occupied, index)
+        let is_in_either = entry.is_at(self.pair.from) || entry.is_at(self.pair.to);
+        is_in_either && !is_barred(occupied, self.pair, index) && self.has_links_of(occupied, index)
     }
 
     /// Checks whether the members can change periods in a timetable: each entry that is linked to
@@ -79,7 +77,7 @@ impl Chain {
         ensures { IsTrue result ↔ IsOf occupied.now.problem occupied.now.entries self.now }
     {
         let instance = occupied.instance();
-        if !is_period(instance, self.from) || !is_period(instance, self.to) {
+        if !is_period(instance, self.pair.from) || !is_period(instance, self.pair.to) {
             return false;
         }
         for member in self.members() {
@@ -104,7 +102,7 @@ pub fn swap_chain(occupied: &mut Occupied<'_, '_>, chain: &Chain)
 {
     for member in chain.members() {
         let entry = occupied.entry(*member);
-        let place = other_period(chain.from, chain.to, entry);
+        let place = other_period(chain.pair, entry);
         occupied.move_entry(*member, entry.room, place.day, place.period);
     }
 }

@@ -20,7 +20,8 @@ no_swap_each o each i h j before below = elim (each i h) [
         | inl other ↦ no_gain_by_swap o.problem o.entries i j rest.in_range (h, below) rest.none rest.idle other.idle
         | inr tried ↦ λ low.
             tried.0 rest.none i before
-            (subst (λ (z : List Cell). IsBelow o.problem z o.entries) (swap_turned o.entries i j (λ e. absurd (omega (arith, e, before)))) low)
+            (subst (λ (z : List Cell). IsBelow o.problem z o.entries) (swap_turned o.entries i j (λ e. absurd (omega (arith, e, before))))
+            low)
       ]
   | inr tried ↦ tried.1 j before below
 ]

@@ -138,7 +138,8 @@ module _ (p : Problem) (t : List Cell) (i j : ℕ) (ok : IsTimetable p t) (h : i
   swapped_compactness_more : compactness_count p t ≤ compactness_count p (set m j y2)
   swapped_compactness_more = sum_by-le (compactness_cost p t) (compactness_cost p (set m j y2)) (all_curricula p)
       (each_weaker
-      (λ q. (in_curriculum p q x1.course ≡ true → compactness_cost p t q ≡ 0) × (in_curriculum p q x2.course ≡ true → compactness_cost p t q ≡ 0))
+      (λ q. (in_curriculum p q x1.course ≡ true → compactness_cost p t q ≡ 0) ×
+      (in_curriculum p q x2.course ≡ true → compactness_cost p t q ≡ 0))
       (λ q. compactness_cost p t q ≤ compactness_cost p (set m j y2) q)
       (λ q zero. elim (cases_Bool (in_curriculum p q x1.course)) [
         | inl within ↦ let z = zero.0 within in omega (arith, z)
@@ -157,7 +158,8 @@ module _ (p : Problem) (t : List Cell) (i j : ℕ) (ok : IsTimetable p t) (h : i
       let seats1 = one.seats in
       let days1 = one.days in
       let rooms1 = one.rooms in
-      let seats2 : excess p (entry_at m j).course (entry_at m j).room ≡ 0 = ap (λ (z : Cell). excess p z.course z.room) kept ∙ other.seats in
+      let seats2 : excess p (entry_at m j).course (entry_at m j).room ≡ 0 = ap (λ (z : Cell). excess p z.course z.room) kept ∙ other.seats
+      in
       let days2 = ap (days_cost p m) course ∙ days_kept p t i y1 no_entry h ok1 in1 refl x2.course apart ∙ other.days in
       let rooms2 = ap (stability_cost p m) course ∙ stability_kept p t i y1 no_entry h ok1 in1 refl x2.course apart ∙ other.rooms in
       omega (

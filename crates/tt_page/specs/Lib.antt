@@ -2,6 +2,7 @@ pub mod Changed
 pub mod Courses
 pub mod Faults
 pub mod Heading
+pub mod Inner
 pub mod Limits
 pub mod Pages
 pub mod Proofs

@@ -2,6 +2,7 @@
 #![tactic(auto)]
 
 mod changed;
+mod content;
 mod courses;
 mod fault;
 mod heading;

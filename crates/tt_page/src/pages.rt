@@ -11,12 +11,14 @@ ghost use Rattle.tt_page_text.specs.Puts.{IsTooLarge, put_text, too_many, window
 ghost use Rattle.tt_page_text.specs.declared.page_text.TheConstants.{MAX_PAGE_BYTES, PAGE_PIECE_BYTES};
 ghost use Rattle.tt_page_text.specs.declared.fault.TextFault.TheVariants as text_fault;
 ghost use Rattle.tt_page.specs.Faults.{ExplainsSize, is_failed_write};
+ghost use Rattle.tt_page.specs.Inner.Contents.{IsContent, content_text};
 ghost use Rattle.tt_page.specs.Limits.{IsWithinLimit};
 ghost use Rattle.tt_page.specs.Pages.{counts_text, weeks_text, page_text, changed_text, shown_text};
 ghost use Rattle.tt_page.specs.Proofs.{IsProvedOf, IsShownOf};
 ghost use Rattle.tt_page.specs.declared.fault.PageFault.TheVariants as fault;
 
 use crate::changed::{Moves, put_changed_counts, put_changed_head};
+use crate::content::PageContent;
 use crate::courses::put_courses;
 use crate::fault::PageFault;
 use crate::heading::{put_head, put_header, put_legend};
@@ -111,18 +113,12 @@ fn put_changed_page(
 }
 
 /// Appends the text of what is shown.
-fn put_all(
-    out: &mut PageText,
-    plan: &Plan<'_, '_>,
-    shown: Shown<'_>,
-    score: &Score,
-    look: &Look<'_>,
-)
-    requires score { IsScore plan.now.problem plan.now.table score.now }
-    requires shown { IsShownOf plan.now.problem shown }
-    ensures { out.new ≡ put_text out.old (shown_text plan.now.problem plan.now.table look.now.labels.now shown.entry look.now.style.now) }
+fn put_all(out: &mut PageText, content: &PageContent<'_, '_, '_>)
+    requires { IsContent content.now }
+    ensures { out.new ≡ put_text out.old (content_text content.now) }
 {
-    match shown {
+    let (plan, score, look) = (content.plan, content.score, content.look);
+    match content.shown {
         Shown::Whole(proved) => put_page(out, plan, proved, score, look),
         Shown::Changed(proved, moves) => {
             put_changed_page(out, plan, proved, &moves, score, look);
@@ -164,20 +160,16 @@ pub fn text_of(
 /// Writes the text of a page, piece by piece. The first piece is in the window; for each other one the page is made again up to its end.
 fn write_pieces<W: Sink>(
     out: &mut PageText,
-    plan: &Plan<'_, '_>,
-    shown: Shown<'_>,
-    score: &Score,
-    look: &Look<'_>,
+    content: &PageContent<'_, '_, '_>,
     total: usize,
     sink: &mut W,
 ) -> Result<(), WriteFailed>
-    requires score { IsScore plan.now.problem plan.now.table score.now }
-    requires shown { IsShownOf plan.now.problem shown }
-    requires first { out.old ≡ put_text (window 0 PAGE_PIECE_BYTES too_many) (shown_text plan.now.problem plan.now.table look.now.labels.now shown look.now.style.now) }
-    requires total { total ≡ length (shown_text plan.now.problem plan.now.table look.now.labels.now shown look.now.style.now) }
+    requires content { IsContent content.now }
+    requires first { out.old ≡ put_text (window 0 PAGE_PIECE_BYTES too_many) (content_text content.now) }
+    requires total { total ≡ length (content_text content.now) }
     requires within { total ≤ MAX_PAGE_BYTES }
-    ensures written { OnOk result (Appends (W.contents sink.old) (W.contents sink.new) (shown_text plan.now.problem plan.now.table look.now.labels.now shown.entry look.now.style.now)) }
-    ensures part { OnErr result (TakesPart (W.contents sink.old) (W.contents sink.new) (shown_text plan.now.problem plan.now.table look.now.labels.now shown.entry look.now.style.now)) }
+    ensures written { OnOk result (Appends (W.contents sink.old) (W.contents sink.new) (content_text content.now)) }
+    ensures part { OnErr result (TakesPart (W.contents sink.old) (W.contents sink.new) (content_text content.now)) }
     ensures failed { W.has_failed sink.new ≡ (if is_ok result then W.has_failed sink.old else true) }
 {
     let mut from = 0;
@@ -188,7 +180,7 @@ fn write_pieces<W: Sink>(
             return Ok(());
         }
         out.restart(from, from + PAGE_PIECE_BYTES);
-        put_all(out, plan, shown, score, look);
+        put_all(out, content);
     }
 }
 
@@ -219,10 +211,16 @@ pub fn page<W: Sink>(
     let plan = Plan::new(alloc, instance, table)?;
     let score = score(instance, table);
     let mut out = PageText::new(alloc, PAGE_PIECE_BYTES)?;
-    put_all(&mut out, &plan, shown, &score, look);
+    let content = PageContent {
+        plan: &plan,
+        shown,
+        score: &score,
+        look,
+    };
+    put_all(&mut out, &content);
     let Some(total) = out.total() else {
         return Err(PageFault::TooLarge);
     };
-    write_pieces(&mut out, &plan, shown, &score, look, total, sink)?;
+    write_pieces(&mut out, &content, total, sink)?;
     Ok(())
 }

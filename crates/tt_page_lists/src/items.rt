@@ -8,6 +8,7 @@ ghost use Rattle.tt_table.specs.declared.table.TheConstants.{MAX_ENTRIES};
 ghost use Rattle.tt_page_text.specs.Puts.{put_text};
 ghost use Rattle.tt_page_lists.specs.Items.{item_head, item_end, course_and_teacher, lectures_detail, days_detail, rooms_detail, course_detail, course_adds, course_item, entry_and_teacher, place_text, unavailable_detail, unavailable_item, is_odd, odds_count, more_text, pair_text, odds_text, pairs_item, entry_item, entry_items};
 
+use crate::odds::Odds;
 use crate::rule::Rule;
 use tt_instance::{Instance, MISSING_DAY_COST};
 use tt_page_plan::{
@@ -307,19 +308,19 @@ fn put_odds(
     labels: &Labels,
     rule: Rule,
     entry: &Entry,
-    first: Option<Entry>,
-    odds: u64,
+    odds: Odds,
 )
     requires entry { InRange instance.now entry.now }
-    requires first { ForSome first (InRange instance.now) }
-    requires odds { odds ≤ MAX_ENTRIES }
-    ensures { out.new ≡ put_text out.old (odds_text instance.now labels.now rule entry.now first odds) }
+    requires first { ForSome odds.first (InRange instance.now) }
+    requires count { odds.count ≤ MAX_ENTRIES }
+    ensures { out.new ≡ put_text out.old (odds_text instance.now labels.now rule entry.now odds.first odds.count) }
 {
-    let Some(other) = first else {
+    let Some(other) = odds.first else {
         return;
     };
-    put_item_head(out, odds_count(rule, odds));
-    put_pair(out, instance, labels, entry, &other, odds.saturating_sub(1));
+    let more = odds.count.saturating_sub(1);
+    put_item_head(out, odds_count(rule, odds.count));
+    put_pair(out, instance, labels, entry, &other, more);
 }
 
 /// Appends the item of an entry, from the entries after it, for a rule of pairs.
@@ -339,8 +340,8 @@ fn put_pairs(
     let _entries = plan.entries();
     let instance = plan.instance();
     let first = first_odd(instance, rule, entry, plan.later(index as u32));
-    let odds = count_odd(instance, rule, entry, plan.later(index as u32));
-    put_odds(out, instance, labels, rule, entry, first, odds);
+    let count = count_odd(instance, rule, entry, plan.later(index as u32));
+    put_odds(out, instance, labels, rule, entry, Odds { first, count });
 }
 
 /// Appends the item of an entry, from the entries after it.

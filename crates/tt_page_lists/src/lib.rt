@@ -4,6 +4,7 @@
 mod grouped;
 mod items;
 mod lists;
+mod odds;
 mod reason;
 mod rule;
 

@@ -9,10 +9,11 @@ ghost use Rattle.tt_page_plan.specs.Kinds.{belongs_to};
 ghost use Rattle.tt_page_weeks.specs.Lectures.{lecture_text};
 ghost use Rattle.tt_page_weeks.specs.Grids.{barred_when, barred_course, barred_text, cell_head, cell_text, row_head, row_text, seats_text, grid_head, paper_name, table_head, grid_title, day_head, grid_text, curriculum_of, index_item, section_head, section_text};
 
+use crate::grid::Grid;
 use crate::hues::put_hue;
 use crate::lectures::put_lecture;
 use crate::view::View;
-use tt_instance::Instance;
+use tt_instance::{Instance, Slot};
 use tt_page_plan::{
     Plan, caption_of, course_name, is_in_week, put_name, put_week_link, section_of, title_of,
 };
@@ -121,45 +122,29 @@ fn put_cell_head(out: &mut PageText, kind: Kind, number: u32, day: u32, period: 
 
 /// Appends a cell: a period of a day.
 #[tactic(auto, using(tt_page_text::proofs::Growing::puts), unfolding(crate::specs::Grids::cell_text))]
-fn put_cell(
-    out: &mut PageText,
-    plan: &Plan<'_, '_>,
-    view: &View<'_>,
-    kind: Kind,
-    number: u32,
-    own: &[u32],
-    period: u32,
-    day: u32,
-)
-    requires own { All (λ c. c < length plan.now.problem.courses) own.now }
-    requires period { period < plan.now.problem.periods }
-    requires day { day < plan.now.problem.days }
-    ensures { out.new ≡ put_text out.old (cell_text plan.now.problem plan.now.table view.now.labels.now view.now.is_linked kind number own.now period day) }
+fn put_cell(out: &mut PageText, plan: &Plan<'_, '_>, view: &View<'_>, grid: &Grid<'_>, slot: Slot)
+    requires own { All (λ c. c < length plan.now.problem.courses) grid.now.own.now }
+    requires period { slot.period < plan.now.problem.periods }
+    requires day { slot.day < plan.now.problem.days }
+    ensures { out.new ≡ put_text out.old (cell_text plan.now.problem plan.now.table view.now.labels.now view.now.is_linked grid.now.kind grid.now.number grid.now.own.now slot.period slot.day) }
 {
-    put_cell_head(out, kind, number, day, period);
-    put_all_barred(out, plan.instance(), view.labels, own, day, period);
+    let Slot { day, period } = slot;
+    put_cell_head(out, grid.kind, grid.number, day, period);
+    put_all_barred(out, plan.instance(), view.labels, grid.own, day, period);
     let entries = plan.in_period(day, period);
-    put_lectures(out, plan, view, kind, number, entries);
+    put_lectures(out, plan, view, grid.kind, grid.number, entries);
     put_token(out, b"</td>\n");
 }
 
 /// Appends the cells of a period.
 #[tactic(auto, using(tt_page_text::proofs::Growing::puts))]
-fn put_cells(
-    out: &mut PageText,
-    plan: &Plan<'_, '_>,
-    view: &View<'_>,
-    kind: Kind,
-    number: u32,
-    own: &[u32],
-    period: u32,
-)
-    requires own { All (λ c. c < length plan.now.problem.courses) own.now }
+fn put_cells(out: &mut PageText, plan: &Plan<'_, '_>, view: &View<'_>, grid: &Grid<'_>, period: u32)
+    requires own { All (λ c. c < length plan.now.problem.courses) grid.now.own.now }
     requires period { period < plan.now.problem.periods }
-    ensures { out.new ≡ put_text out.old (flat_map (cell_text plan.now.problem plan.now.table view.now.labels.now view.now.is_linked kind number own.now period) (range_below plan.now.problem.days)) }
+    ensures { out.new ≡ put_text out.old (flat_map (cell_text plan.now.problem plan.now.table view.now.labels.now view.now.is_linked grid.now.kind grid.now.number grid.now.own.now period) (range_below plan.now.problem.days)) }
 {
     for day in 0..plan.instance().days() {
-        put_cell(out, plan, view, kind, number, own, period, day);
+        put_cell(out, plan, view, grid, Slot { day, period });
     }
 }
 
@@ -175,39 +160,24 @@ fn put_row_head(out: &mut PageText, labels: &Labels, period: u32)
 
 /// Appends a row: a period of each day.
 #[tactic(auto, using(tt_page_text::proofs::Growing::puts), unfolding(crate::specs::Grids::row_text))]
-fn put_row(
-    out: &mut PageText,
-    plan: &Plan<'_, '_>,
-    view: &View<'_>,
-    kind: Kind,
-    number: u32,
-    own: &[u32],
-    period: u32,
-)
-    requires own { All (λ c. c < length plan.now.problem.courses) own.now }
+fn put_row(out: &mut PageText, plan: &Plan<'_, '_>, view: &View<'_>, grid: &Grid<'_>, period: u32)
+    requires own { All (λ c. c < length plan.now.problem.courses) grid.now.own.now }
     requires period { period < plan.now.problem.periods }
-    ensures { out.new ≡ put_text out.old (row_text plan.now.problem plan.now.table view.now.labels.now view.now.is_linked kind number own.now period) }
+    ensures { out.new ≡ put_text out.old (row_text plan.now.problem plan.now.table view.now.labels.now view.now.is_linked grid.now.kind grid.now.number grid.now.own.now period) }
 {
     put_row_head(out, view.labels, period);
-    put_cells(out, plan, view, kind, number, own, period);
+    put_cells(out, plan, view, grid, period);
     put_token(out, b"</tr>\n");
 }
 
 /// Appends the rows of a grid.
 #[tactic(auto, using(tt_page_text::proofs::Growing::puts))]
-fn put_rows(
-    out: &mut PageText,
-    plan: &Plan<'_, '_>,
-    view: &View<'_>,
-    kind: Kind,
-    number: u32,
-    own: &[u32],
-)
-    requires { All (λ c. c < length plan.now.problem.courses) own.now }
-    ensures { out.new ≡ put_text out.old (flat_map (row_text plan.now.problem plan.now.table view.now.labels.now view.now.is_linked kind number own.now) (range_below plan.now.problem.periods)) }
+fn put_rows(out: &mut PageText, plan: &Plan<'_, '_>, view: &View<'_>, grid: &Grid<'_>)
+    requires { All (λ c. c < length plan.now.problem.courses) grid.now.own.now }
+    ensures { out.new ≡ put_text out.old (flat_map (row_text plan.now.problem plan.now.table view.now.labels.now view.now.is_linked grid.now.kind grid.now.number grid.now.own.now) (range_below plan.now.problem.periods)) }
 {
     for period in 0..plan.instance().periods() {
-        put_row(out, plan, view, kind, number, own, period);
+        put_row(out, plan, view, grid, period);
     }
 }
 
@@ -322,7 +292,7 @@ pub fn put_grid(out: &mut PageText, plan: &Plan<'_, '_>, view: &View<'_>, kind: 
     put_grid_title(out, instance, kind, number);
     put_day_heads(out, instance, view.labels);
     put_token(out, b"</tr>\n</thead>\n<tbody>\n");
-    put_rows(out, plan, view, kind, number, own);
+    put_rows(out, plan, view, &Grid { kind, number, own });
     put_token(out, b"</tbody>\n</table>\n</div>\n");
 }
 

@@ -1,6 +1,7 @@
 //! The weeks of the rooms, teachers and curricula, as grids.
 #![tactic(auto)]
 
+mod grid;
 mod grids;
 mod groups;
 mod hues;

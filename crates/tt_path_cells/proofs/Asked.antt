@@ -14,10 +14,10 @@ use Rattle.tt_instance.specs.Courses.{unavailable}
 use Rattle.tt_instance.specs.declared.cell.Cell.{Cell}
 use Rattle.tt_path.specs.Live.{is_barred, is_dead, is_live, live_period}
 use Rattle.tt_path.specs.declared.facts.Fact.{Fact}
-use Rattle.tt_path_cells.specs.Inner.Tables.{has_cell, is_open, Shows}
-use Rattle.tt_path_cells.proofs.Reading.{spare-cell}
+use Rattle.tt_path_tables.specs.Inner.Tables.{has_cell, is_open, Shows}
+use Rattle.tt_path_tables.proofs.Reading.{spare-cell}
 use Rattle.tt_path_cells.specs.Inner.Shown.{is_free_of, AreTables, AreEarlier}
-use Rattle.tt_path_cells.proofs.Losing.{shows-same}
+use Rattle.tt_path_tables.proofs.Losing.{shows-same}
 
 module _ (p : Problem) (facts : List Fact) (live : List ℕ) (shows : Shows p (is_live p facts) live) where
   pub dead-cell : (x : Cell) → InRange p x → not (has_cell p live x) ≡ is_dead p facts x

@@ -12,11 +12,11 @@ use Rattle.tt_path.specs.Inner.Nested.{is_excluded}
 use Rattle.tt_path.specs.declared.facts.Pattern.{Pattern}
 use Rattle.tt_path.specs.declared.facts.Fact.{Fact}
 use Rattle.tt_path.proofs.Same.{same_pattern-true}
-use Rattle.tt_path_cells.specs.Inner.Tables.{Loses}
+use Rattle.tt_path_tables.specs.Inner.Tables.{Loses}
 use Rattle.tt_path_cells.specs.Inner.Shown.{is_free_of, AreListed, Adds}
 use Rattle.tt_path_cells.proofs.Confined.{kills_all}
 use Rattle.tt_path_cells.proofs.More.{is_barred-no}
-use Rattle.tt_path_cells.proofs.Losing.{shows-less, shows-same}
+use Rattle.tt_path_tables.proofs.Losing.{shows-less, shows-same}
 use Rattle.tt_path_cells.proofs.Renewed.{list_any_yes}
 
 module _ (p : Problem) (path : List Fact) (f : Fact) (denies : f.holds ≡ false) where

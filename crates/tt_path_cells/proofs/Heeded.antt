@@ -1,5 +1,5 @@
 -- Which yes-facts have been looked at again after a no-fact.
-use Rattle.std.proofs.Common.{◌≡◌, ℕ, ◌+◌, ◌<◌, Bool, true, false, not, ◌&&◌, ◌||◌, List, [], ◌∷◌, ◌++◌, length, refl, sym, ap, ◌∙◌, subst, arith, inl, inr, ◌⊎◌}
+use Rattle.std.proofs.Common.{◌≡◌, ℕ, ◌<◌, Bool, true, false, not, ◌&&◌, ◌||◌, List, [], ◌∷◌, ◌++◌, length, refl, sym, ap, ◌∙◌, subst, inl, inr, ◌⊎◌}
 use Rattle.std.specs.List.{list_any}
 use Rattle.std.proofs.lemmas.Bool.{and_parts, and_from, or_cases, or_left, or_right, both_ways, false_from_ne_true}
 use Rattle.std.proofs.lemmas.List.{get_or_default}
@@ -16,7 +16,7 @@ use Rattle.tt_path.specs.Live.{is_barred, excludes, is_dead, is_live}
 use Rattle.tt_path.specs.Inner.Nested.{is_excluded}
 use Rattle.tt_path.specs.declared.facts.Pattern.{Pattern}
 use Rattle.tt_path.specs.declared.facts.Fact.{Fact}
-use Rattle.tt_path_cells.specs.Inner.Tables.{has_cell, IsTable, Shows}
+use Rattle.tt_path_tables.specs.Inner.Tables.{has_cell, IsTable, Shows}
 use Rattle.tt_path_cells.specs.Inner.Touching.{can_touch}
 use Rattle.tt_path_cells.specs.Inner.Shown.{is_free_of, AreListed, Settles, Renews}
 use Rattle.tt_path_cells.specs.Inner.Shelves.{no_pattern, pattern_at}
@@ -98,7 +98,8 @@ module _ (p : Problem) (yes : List Pattern) (free : List ℕ) (g : Pattern) wher
 
 -- all yes-facts
 module _ (p : Problem) (yes : List Pattern) (free : List ℕ) (g : Pattern) (old new : List ℕ)
-    (a : Asks p yes free old g (λ j. j < length yes) new) (path : List Fact) (f : Fact) (listed : AreListed (path ++ f ∷ []) yes) (denies : f.holds ≡ false) (same : f.pattern ≡ g)
+    (a : Asks p yes free old g (λ j. j < length yes) new) (path : List Fact) (f : Fact) (listed : AreListed (path ++ f ∷ []) yes)
+    (denies : f.holds ≡ false) (same : f.pattern ≡ g)
     (open_cells : Shows p (is_free_of p (path ++ f ∷ [])) free)
     (before : Shows p (λ x. is_live p path x && not (matches p g x)) old) (x : Cell) (k : InRange p x) where
   abbrev after : List Fact

@@ -11,11 +11,11 @@ use Rattle.tt_list_laws.proofs.Sums.{each_from_list_any}
 use Rattle.tt_instance.specs.Problem.{Problem}
 use Rattle.tt_instance.specs.Cells.{all_rooms}
 use Rattle.tt_path.specs.declared.facts.Pattern.{Pattern}
-use Rattle.tt_path_cells.specs.Inner.Rooms.{has_room}
-use Rattle.tt_path_cells.specs.Inner.Tables.{is_open}
-use Rattle.tt_path_cells.specs.declared.rooms.Rooms.{Rooms}
-use Rattle.tt_path_cells.specs.declared.rooms.Rooms.TheVariants.{All, One, Nothing}
-use Rattle.tt_path_cells.specs.Inner.Struck.{is_left}
+use Rattle.tt_path_tables.specs.Inner.Rooms.{has_room}
+use Rattle.tt_path_tables.specs.Inner.Tables.{is_open}
+use Rattle.tt_path_tables.specs.declared.rooms.Rooms.{Rooms}
+use Rattle.tt_path_tables.specs.declared.rooms.Rooms.TheVariants.{All, One, Nothing}
+use Rattle.tt_path_tables.specs.Inner.Struck.{is_left}
 
 module _ (p : Problem) (free : List ℕ) (g : Pattern) (d s k : ℕ) where
   abbrev open_room : ℕ → Bool

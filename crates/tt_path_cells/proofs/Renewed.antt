@@ -14,10 +14,10 @@ use Rattle.tt_path.specs.declared.facts.Who.TheVariants.{Course, Curriculum}
 use Rattle.tt_path.specs.declared.facts.Pattern.{Pattern}
 use Rattle.tt_path.specs.declared.facts.Fact.{Fact}
 use Rattle.tt_path_cells.proofs.More.{is_barred-yes, is_barred-no, is_dead-yes}
-use Rattle.tt_path_cells.specs.Inner.Tables.{Loses}
+use Rattle.tt_path_tables.specs.Inner.Tables.{Loses}
 use Rattle.tt_path_cells.specs.Inner.Touching.{can_agree, can_share, can_touch}
 use Rattle.tt_path_cells.specs.Inner.Shown.{is_free_of, yes_facts, Settles, Renews, Adds}
-use Rattle.tt_path_cells.proofs.Losing.{shows-less, shows-same}
+use Rattle.tt_path_tables.proofs.Losing.{shows-less, shows-same}
 
 -- ---- patterns that touch
 

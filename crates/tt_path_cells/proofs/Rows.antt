@@ -13,9 +13,9 @@ use Rattle.tt_path.specs.declared.facts.Who.{Who}
 use Rattle.tt_path.specs.declared.facts.Who.TheVariants.{Course, Curriculum}
 use Rattle.tt_path.specs.declared.facts.Pattern.{Pattern}
 use Rattle.tt_path.proofs.Lost.{is_who-has}
-use Rattle.tt_path_cells.specs.Inner.Tables.{IsTable}
+use Rattle.tt_path_tables.specs.Inner.Tables.{IsTable}
 use Rattle.tt_path_cells.specs.Inner.Touching.{can_agree, can_share, can_touch}
-use Rattle.tt_path_cells.specs.Inner.Slots.{Covers}
+use Rattle.tt_path_tables.specs.Inner.Slots.{Covers}
 use Rattle.tt_path_cells.specs.Inner.Shelves.{pattern_at, row_of, last_of, column_at, column_of, shelf_at, shelf_of, IsNewest}
 use Rattle.tt_path_cells.specs.Inner.Asking.{Asks}
 use Rattle.tt_path_cells.proofs.Heeded.{asks-none, asks-more}

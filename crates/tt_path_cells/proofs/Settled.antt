@@ -15,11 +15,11 @@ use Rattle.tt_path.specs.declared.facts.Pattern.{Pattern}
 use Rattle.tt_path.specs.declared.facts.Fact.{Fact}
 use Rattle.tt_path_cells.specs.Inner.Killing.{is_free, IsConfined}
 use Rattle.tt_path_cells.proofs.Confined.{kills_there, kills_all, spares_all, spares_elsewhere}
-use Rattle.tt_path_cells.specs.Inner.Tables.{IsTable, Shows, Loses}
-use Rattle.tt_path_cells.specs.Inner.Struck.{is_left, loses_room}
-use Rattle.tt_path_cells.specs.Inner.Slots.{is_allowed, is_left_in, Covers, IsNone, IsFirst}
-use Rattle.tt_path_cells.specs.Inner.Shown.{is_free_of, is_struck, Settles}
-use Rattle.tt_path_cells.proofs.Losing.{loses-none, loses-same}
+use Rattle.tt_path_tables.specs.Inner.Tables.{IsTable, Shows, Loses}
+use Rattle.tt_path_tables.specs.Inner.Struck.{is_left, loses_room, is_struck}
+use Rattle.tt_path_tables.specs.Inner.Slots.{is_allowed, is_left_in, Covers, IsNone, IsFirst}
+use Rattle.tt_path_cells.specs.Inner.Shown.{is_free_of, Settles}
+use Rattle.tt_path_tables.proofs.Losing.{loses-none, loses-same}
 use Rattle.tt_path_cells.proofs.Struck.{left-free, free-left, kills-loses}
 
 -- ---- periods and their numbers

@@ -84,7 +84,8 @@ module _ (p : Problem) (ys : List Pattern) where
           newest_len = length-set newest shelf (length ys + 1) ∙ a.newest_len;
           older_len = length-append older (next ∷ []) ∙ ap (λ n. n + 1) len ∙ sym more_len;
           each_shelf = λ k h. elim (cases_eq shelf k) [
-            | inl e ↦ recast p more (length more) (length more) k k (length ys + 1) (slice_index_or (slice_set newest shelf (length ys + 1)) k 0)
+            | inl e ↦ recast p more (length more) (length more) k k (length ys + 1)
+                (slice_index_or (slice_set newest shelf (length ys + 1)) k 0)
                 refl refl
                 (sym (ap (λ i. slice_index_or (slice_set newest shelf (length ys + 1)) i 0) (sym e)
                 ∙ get_or-set_same newest shelf (length ys + 1) 0 (omega (arith, a.newest_len))))
@@ -166,7 +167,8 @@ pub shelved-none : (p : Problem) → AreShelves p [] (replicate (shelves p) 0) [
 shelved-none p = record {
   newest_len = length-replicate (shelves p) 0;
   older_len = refl;
-  each_shelf = λ k h. recast p [] 0 0 k k 0 (slice_index_or (replicate (shelves p) 0) k 0) refl refl (sym (get_or-replicate (shelves p) k 0 0 h))
+  each_shelf = λ k h. recast p [] 0 0 k k 0 (slice_index_or (replicate (shelves p) 0) k 0) refl refl
+      (sym (get_or-replicate (shelves p) k 0 0 h))
       (record { within = omega arith; here = λ l. absurd (omega arith); none = λ j a b e. absurd (omega arith) });
   each_place = λ i h. absurd (omega arith);
 }

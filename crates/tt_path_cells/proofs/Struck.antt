@@ -3,12 +3,10 @@ use Rattle.std.proofs.Common.{◌≡◌, ℕ, zero, suc, ◌<◌, Bool, true, fa
 use Rattle.std.specs.Prelude.{◌==◌, nat_lt, Contains, slice_index_or}
 use Rattle.std.specs.List.{list_any, list_all, AllByRecursion}
 use Rattle.std.proofs.lemmas.Bool.{and_parts, and_from, lt-ltb, ltb-true, eqb-true, cases_lt, cases_eq, cases_Bool, or_cases, or_left, or_right, both_ways, false_from_ne_true, le-ltb}
-use Rattle.std.proofs.Math.Bool.{or-false}
 use Rattle.tt_list_laws.specs.Words.{has_number}
 use Rattle.tt_list_laws.proofs.Members.{at_member, each_member, any_member, member_from_any}
 use Rattle.tt_list_laws.proofs.Numbers.{any_below}
 use Rattle.tt_list_laws.proofs.Sums.{each_from_list_all}
-use Rattle.tt_list_laws.proofs.Tests.{same_test}
 use Rattle.tt_list_laws.proofs.Range.{below_member, all_below, at_below}
 use Rattle.tt_list_laws.proofs.Truth.{same_truth, wanted, not_wanted}
 use Rattle.tt_instance.specs.Problem.{Problem, Curriculum}
@@ -17,21 +15,18 @@ use Rattle.tt_instance.specs.Courses.{conflict, one_teacher, one_curriculum, mem
 use Rattle.tt_instance.specs.declared.cell.Cell.{Cell}
 use Rattle.tt_path.specs.Facts.{matches, is_who, agrees}
 use Rattle.tt_path.specs.Live.{clash}
+use Rattle.tt_path.proofs.Lost.{is_who-has}
 use Rattle.tt_path.specs.Inner.Nested.{courses_of}
 use Rattle.tt_path.specs.declared.facts.Who.{Who}
 use Rattle.tt_path.specs.declared.facts.Who.TheVariants as Whose
 use Rattle.tt_path.specs.declared.facts.Pattern.{Pattern}
 use Rattle.tt_path.specs.declared.facts.Fact.{Fact}
 use Rattle.tt_path_cells.specs.Inner.Killing.{is_free, kills_by, kills_at}
-use Rattle.tt_path_cells.specs.Inner.Tables.{has_cell, Shows, is_open}
-use Rattle.tt_path_cells.specs.Inner.Struck.{is_left_to, is_left, is_lost_to, loses_room}
+use Rattle.tt_path_tables.specs.Inner.Tables.{has_cell, Shows, is_open}
+use Rattle.tt_path_tables.specs.Inner.Struck.{is_left_to, is_left, is_lost_to, loses_room}
 use Rattle.tt_path_cells.specs.Inner.Shown.{is_free_of}
 
 -- ---- the courses that are meant
-
-pub who-has : (p : Problem) (who : Who) (c : ℕ) → has_number (courses_of p who) c ≡ is_who p who c
-who-has p (Whose.Course a) c = or-false (a == c) ∙ same_test a c c a sym sym
-who-has p (Whose.Curriculum q) c = refl
 
 has-member : (ks : List ℕ) (c : ℕ) → has_number ks c ≡ true → Contains ks c
 has-member ks c e = let m = member_from_any (λ k. k == c) ks e in subst (Contains ks) (eqb-true m.0 c m.2) m.1
@@ -133,14 +128,14 @@ module _ (p : Problem) (path : List Fact) (free : List ℕ) (shows : Shows p (is
       let i = b.0 in
       let hk = ltb-true k (length p.courses) a.0 in
       let hi = below_member (length p.rooms) i b.1 in
-      let w = sym (who-has p g.who k) ∙ member-has (courses_of p g.who) k m.1 in
+      let w = is_who-has p g.who k ∙ member-has (courses_of p g.who) k m.1 in
       (cell k i (slot d s), in_range k i hk hi, open-free k i hk hi w b.2, refl, refl)
 
   pub free-left : (k i : ℕ) → k < length p.courses → i < length p.rooms → is_free p path g (cell k i (slot d s)) ≡ true
       → is_left p free g d s (courses_of p g.who) ≡ true
   free-left k i hk hi e =
       let o = free-open k i hk hi e in
-      any_member (is_left_to p free g d s) (courses_of p g.who) k (has-member (courses_of p g.who) k (who-has p g.who k ∙ o.0))
+      any_member (is_left_to p free g d s) (courses_of p g.who) k (has-member (courses_of p g.who) k (sym (is_who-has p g.who k) ∙ o.0))
       (and_from (nat_lt k (length p.courses)) (list_any (is_open p free g.room k d s) (all_rooms p)) (lt-ltb k (length p.courses) hk)
       (any_below (is_open p free g.room k d s) (length p.rooms) i hi o.1))
 
@@ -179,14 +174,14 @@ module _ (p : Problem) (path : List Fact) (free : List ℕ) (shows : Shows p (is
               (all_below (λ i. not (is_open p free g.room k d s i) || (i == r)) (length p.rooms)
               (λ i hi. not_wanted (is_open p free g.room k d s i) (i == r) (λ o.
               ap (λ b. b || (i == r)) (sym q) ∙ sym (clash-other p c k r i d s (apart k none m))
-              ∙ clashes e k i hk hi (sym (who-has p g.who k) ∙ member-has ks k m) o)))
+              ∙ clashes e k i hk hi (is_who-has p g.who k ∙ member-has ks k m) o)))
         ]
       ]
 
       own : kills_at p path g d s x ≡ true → has_number ks c ≡ true → is_open p free g.room c d s r ≡ false
       own e h = false_from_ne_true (is_open p free g.room c d s r) (λ o.
           both_ways (not (r == r)) (ap not (eq-eqb r r refl)) (sym (clash-own p c c r r d s refl)
-          ∙ clashes e c r hc hr (sym (who-has p g.who c) ∙ h) o))
+          ∙ clashes e c r hc hr (is_who-has p g.who c ∙ h) o))
 
       there : kills_at p path g d s x ≡ true → loses_room p free g d s ks c r ≡ true
       there e = elim (cases_Bool (has_number ks c)) [
@@ -206,13 +201,13 @@ module _ (p : Problem) (path : List Fact) (free : List ℕ) (shows : Shows p (is
             ∙ ap not (ne_eqb i r (λ z. both_ways (is_open p free g.room c d s r) none (ap (λ j. is_open p free g.room j d s r) (sym q)
             ∙ ap (is_open p free g.room k d s) (sym z) ∙ o)))
         | inr q ↦ clash-other p c k r i d s q ∙ or_left (conflict p k c) (i == r)
-            (who_conflict p g.who k c w (sym (who-has p g.who c) ∙ h) q)
+            (who_conflict p g.who k c w (is_who-has p g.who c ∙ h) q)
       ]
 
       back_other : has_number ks c ≡ false → list_all (is_lost_to p free g d s c r) ks ≡ true → (k i : ℕ) → k < length p.courses
           → i < length p.rooms → is_who p g.who k ≡ true → is_open p free g.room k d s i ≡ true → clash p (cell k i (slot d s)) x ≡ true
       back_other none e k i hk hi w o =
-          let m = has-member ks k (who-has p g.who k ∙ w) in
+          let m = has-member ks k (sym (is_who-has p g.who k) ∙ w) in
           let t = at_member (λ j. is_lost_to p free g d s c r j ≡ true) ks k (each_from_list_all (is_lost_to p free g d s c r) ks e) m in
           clash-other p c k r i d s (apart k none m)
           ∙ elim (or_cases (not (nat_lt k (length p.courses)) || conflict p k c)

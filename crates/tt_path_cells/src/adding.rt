@@ -4,123 +4,125 @@ ghost use Rattle.std.specs.Prelude.{◌≡◌, false, [], ◌∷◌, ◌++◌, O
 ghost use Rattle.std.specs.List.{list_any};
 ghost use Rattle.tt_path.specs.Facts.{same_pattern};
 ghost use Rattle.tt_instance_links.specs.Inner.Linked.{AreConflicts};
-ghost use Rattle.tt_path_cells.specs.Inner.Tables.{IsTable};
+ghost use Rattle.tt_path_tables.specs.Inner.Tables.{IsTable};
 ghost use Rattle.tt_path_cells.specs.Inner.Shown.{Adds};
 
+use crate::added::Added;
 use crate::again::{Denial, settle_again};
-use crate::barring::remove_matched;
-use crate::removing::remove_all;
 use crate::settling::settle;
 use crate::shelves::YesFacts;
+use crate::tables::Tables;
 use crate::watching::{NO_WATCH, Watches};
 use std::alloc::AllocError;
-use tt_bits::Trail;
 use tt_instance::Instance;
 use tt_instance_links::Conflicts;
-use tt_path::Fact;
+use tt_path_tables::{Basis, remove_all, remove_matched};
 
-/// Changes both tables for a no-fact, the last of the facts. `yes` has the patterns of the yes-facts; if one of them is the
-/// no-fact's, which `is_listed` says, no cell is live.
-fn deny(
-    instance: &Instance<'_>,
-    links: &Conflicts,
-    free: &mut Trail,
-    live: &mut Trail,
-    yes: &YesFacts<'_, '_>,
+/// Changes the tables for a no-fact. `yes` has the patterns of the yes-facts; if one of them is the no-fact's, no cell is live.
+fn deny<'a>(
+    instance: &'a Instance<'_>,
+    links: &'a Conflicts,
+    tables: &mut Tables,
+    yes: &'a YesFacts<'_, '_>,
     watches: &mut Watches,
-    fact: &Fact,
-    is_listed: bool,
+    added: &'a Added,
 ) -> Result<(), AllocError>
     requires links { AreConflicts instance.now links.now }
     requires same { yes.now.problem ≡ instance.now }
-    requires no { fact.now.holds ≡ false }
-    requires listed { is_listed ≡ list_any (λ g. same_pattern g fact.now.pattern) yes.now.patterns }
-    requires free { IsTable instance.now free.old.words }
-    requires live { IsTable instance.now live.old.words }
-    ensures ok { OnOk result (Adds instance.now yes.now.patterns free.old.words live.old.words fact.now
-        free.new.words live.new.words) }
-    ensures same_free { free.new.earlier ≡ free.old.earlier }
-    ensures same_live { live.new.earlier ≡ live.old.earlier }
+    requires no { added.now.fact.holds ≡ false }
+    requires listed { added.now.is_listed ≡ list_any (λ g. same_pattern g added.now.fact.pattern) yes.now.patterns }
+    requires free { IsTable instance.now tables.old.free.words }
+    requires live { IsTable instance.now tables.old.live.words }
+    ensures ok { OnOk result (Adds instance.now yes.now.patterns tables.old.free.words tables.old.live.words added.now.fact
+        tables.new.free.words tables.new.live.words) }
+    ensures same_free { tables.new.free.earlier ≡ tables.old.free.earlier }
+    ensures same_live { tables.new.live.earlier ≡ tables.old.live.earlier }
 {
-    remove_matched(instance, free, &fact.pattern)?;
-    if is_listed {
-        remove_all(instance, live)?;
+    let pattern = &added.fact.pattern;
+    remove_matched(instance, &mut tables.free, pattern)?;
+    if added.is_listed {
+        remove_all(instance, &mut tables.live)?;
         return Ok(());
     }
-    remove_matched(instance, live, &fact.pattern)?;
-    let denial = Denial {
+    remove_matched(instance, &mut tables.live, pattern)?;
+    let basis = Basis {
         instance,
         links,
-        free,
-        yes,
-        pattern: &fact.pattern,
+        free: &tables.free,
     };
-    settle_again(&denial, live, watches)?;
+    let denial = Denial {
+        basis,
+        yes,
+        pattern,
+    };
+    settle_again(&denial, &mut tables.live, watches)?;
     Ok(())
 }
 
-/// Changes both tables for the last of the facts. For a no-fact, `is_listed` says whether its pattern is one of the yes-facts'.
+/// Changes the tables for the last of the facts. `yes` has the patterns of the yes-facts.
 fn change(
     instance: &Instance<'_>,
     links: &Conflicts,
-    free: &mut Trail,
-    live: &mut Trail,
+    tables: &mut Tables,
     yes: &YesFacts<'_, '_>,
     watches: &mut Watches,
-    fact: &Fact,
-    is_listed: bool,
+    added: &Added,
 ) -> Result<(), AllocError>
     requires links { AreConflicts instance.now links.now }
     requires same { yes.now.problem ≡ instance.now }
-    requires listed { fact.now.holds ≡ false → is_listed ≡ list_any (λ g. same_pattern g fact.now.pattern) yes.now.patterns }
-    requires free { IsTable instance.now free.old.words }
-    requires live { IsTable instance.now live.old.words }
-    ensures ok { OnOk result (Adds instance.now yes.now.patterns free.old.words live.old.words fact.now
-        free.new.words live.new.words) }
-    ensures same_free { free.new.earlier ≡ free.old.earlier }
-    ensures same_live { live.new.earlier ≡ live.old.earlier }
+    requires listed { added.now.fact.holds ≡ false
+        → added.now.is_listed ≡ list_any (λ g. same_pattern g added.now.fact.pattern) yes.now.patterns }
+    requires free { IsTable instance.now tables.old.free.words }
+    requires live { IsTable instance.now tables.old.live.words }
+    ensures ok { OnOk result (Adds instance.now yes.now.patterns tables.old.free.words tables.old.live.words added.now.fact
+        tables.new.free.words tables.new.live.words) }
+    ensures same_free { tables.new.free.earlier ≡ tables.old.free.earlier }
+    ensures same_live { tables.new.live.earlier ≡ tables.old.live.earlier }
 {
-    if fact.holds {
-        settle(instance, links, free, live, &fact.pattern, NO_WATCH)?;
+    if added.fact.holds {
+        let basis = Basis {
+            instance,
+            links,
+            free: &tables.free,
+        };
+        settle(&basis, &mut tables.live, &added.fact.pattern, NO_WATCH)?;
         Ok(())
     } else {
-        deny(instance, links, free, live, yes, watches, fact, is_listed)?;
+        deny(instance, links, tables, yes, watches, added)?;
         Ok(())
     }
 }
 
-/// Marks both tables and changes them for the last of the facts. For a no-fact, `is_listed` says whether its pattern is one of the
-/// yes-facts'.
+/// Marks the tables and changes them for the last of the facts. `yes` has the patterns of the yes-facts.
 pub fn add(
     instance: &Instance<'_>,
     links: &Conflicts,
-    free: &mut Trail,
-    live: &mut Trail,
+    tables: &mut Tables,
     yes: &YesFacts<'_, '_>,
     watches: &mut Watches,
-    fact: &Fact,
-    is_listed: bool,
+    added: &Added,
 ) -> Result<(), AllocError>
     requires links { AreConflicts instance.now links.now }
     requires same { yes.now.problem ≡ instance.now }
-    requires listed { fact.now.holds ≡ false → is_listed ≡ list_any (λ g. same_pattern g fact.now.pattern) yes.now.patterns }
-    requires free { IsTable instance.now free.old.words }
-    requires live { IsTable instance.now live.old.words }
-    ensures ok { OnOk result (Adds instance.now yes.now.patterns free.old.words live.old.words fact.now
-        free.new.words live.new.words) }
-    ensures kept_free { OnOk result (free.new.earlier ≡ free.old.earlier ++ free.old.words ∷ []) }
-    ensures kept_live { OnOk result (live.new.earlier ≡ live.old.earlier ++ live.old.words ∷ []) }
-    ensures err_free { OnErr result (free.new ≡ free.old) }
-    ensures err_live { OnErr result (live.new ≡ live.old) }
+    requires listed { added.now.fact.holds ≡ false
+        → added.now.is_listed ≡ list_any (λ g. same_pattern g added.now.fact.pattern) yes.now.patterns }
+    requires free { IsTable instance.now tables.old.free.words }
+    requires live { IsTable instance.now tables.old.live.words }
+    ensures ok { OnOk result (Adds instance.now yes.now.patterns tables.old.free.words tables.old.live.words added.now.fact
+        tables.new.free.words tables.new.live.words) }
+    ensures kept_free { OnOk result (tables.new.free.earlier ≡ tables.old.free.earlier ++ tables.old.free.words ∷ []) }
+    ensures kept_live { OnOk result (tables.new.live.earlier ≡ tables.old.live.earlier ++ tables.old.live.words ∷ []) }
+    ensures err_free { OnErr result (tables.new.free ≡ tables.old.free) }
+    ensures err_live { OnErr result (tables.new.live ≡ tables.old.live) }
 {
-    free.mark()?;
-    if let Err(fault) = live.mark() {
-        free.undo();
+    tables.free.mark()?;
+    if let Err(fault) = tables.live.mark() {
+        tables.free.undo();
         return Err(fault);
     }
-    if let Err(fault) = change(instance, links, free, live, yes, watches, fact, is_listed) {
-        free.undo();
-        live.undo();
+    if let Err(fault) = change(instance, links, tables, yes, watches, added) {
+        tables.free.undo();
+        tables.live.undo();
         return Err(fault);
     }
     Ok(())

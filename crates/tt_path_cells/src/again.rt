@@ -1,24 +1,21 @@
 //! The older yes-facts after a no-fact.
 
-ghost use Rattle.std.specs.Prelude.{◌≡◌, ◌<◌, ◌≤◌, ℕ, length, OnOk};
-ghost use Rattle.tt_instance_links.specs.Inner.Linked.{AreConflicts};
-ghost use Rattle.tt_path_cells.specs.Inner.Tables.{IsTable};
+ghost use Rattle.std.specs.Prelude.{◌≡◌, ◌<◌, ◌≤◌, length, OnOk};
+ghost use Rattle.tt_path_tables.specs.Inner.Tables.{IsTable};
 ghost use Rattle.tt_path_cells.specs.Inner.Touching.{can_agree, can_share, can_touch};
 ghost use Rattle.tt_path_cells.specs.Inner.Shown.{Renews};
-ghost use Rattle.tt_path_cells.specs.Inner.Shelves.{pattern_at, row_of, shelf_of, last_of, shelves};
+ghost use Rattle.tt_path_cells.specs.Inner.Shelves.{pattern_at, row_of, shelf_of, shelves};
 ghost use Rattle.tt_path_cells.specs.Inner.Asking.{Asks};
+ghost use Rattle.tt_path_tables.specs.Inner.Bases.{IsBasis};
 
-use crate::courses::courses_of;
-use crate::periods::slots_of;
-use crate::removing::is_cleared;
 use crate::settling::settle;
 use crate::shelves::{YesFacts, shelf_at};
 use crate::watching::Watches;
 use std::alloc::AllocError;
 use tt_bits::Trail;
 use tt_instance::Instance;
-use tt_instance_links::Conflicts;
 use tt_path::{Pattern, Who};
+use tt_path_tables::{Basis, courses_of, is_cleared, slots_of};
 
 /// Returns whether some number agrees with both, as far as they are given.
 fn can_agree(first: Option<u32>, second: Option<u32>) -> bool
@@ -57,9 +54,7 @@ fn can_touch(instance: &Instance<'_>, first: &Pattern, second: &Pattern) -> bool
 /// A no-fact that has been taken from the free cells, and what the live cells depend on.
 #[derive(Clone, Copy)]
 pub struct Denial<'a, 'p, 'i> {
-    pub instance: &'a Instance<'i>,
-    pub links: &'a Conflicts,
-    pub free: &'a Trail,
+    pub basis: Basis<'a, 'i>,
     pub yes: &'a YesFacts<'p, 'i>,
     pub pattern: &'a Pattern,
 }
@@ -71,15 +66,14 @@ fn settle_place(
     watches: &mut Watches,
     place: usize,
 ) -> Result<(), AllocError>
-    requires links { AreConflicts denial.now.instance.now denial.now.links.now }
-    requires free { IsTable denial.now.instance.now denial.now.free.now.words }
-    requires live { IsTable denial.now.instance.now live.old.words }
+    requires basis { IsBasis denial.now.basis }
+    requires live { IsTable denial.now.basis.instance.now live.old.words }
     requires place { place < length denial.now.yes.now.patterns }
-    ensures ok { OnOk result (Asks denial.now.instance.now denial.now.yes.now.patterns denial.now.free.now.words live.old.words
-        denial.now.pattern.now (λ j. j ≡ place) live.new.words) }
+    ensures ok { OnOk result (Asks denial.now.basis.instance.now denial.now.yes.now.patterns denial.now.basis.free.now.words
+        live.old.words denial.now.pattern.now (λ j. j ≡ place) live.new.words) }
     ensures unchanged { live.new.earlier ≡ live.old.earlier }
 {
-    let instance = denial.instance;
+    let instance = denial.basis.instance;
     let older = denial.yes.at(place);
     if !can_touch(instance, &older, denial.pattern) {
         return Ok(());
@@ -87,14 +81,7 @@ fn settle_place(
     if is_cleared(instance, live) {
         return Ok(());
     }
-    let watch = settle(
-        instance,
-        denial.links,
-        denial.free,
-        live,
-        &older,
-        watches.at(place),
-    )?;
+    let watch = settle(&denial.basis, live, &older, watches.at(place))?;
     watches.set(place, watch);
     Ok(())
 }
@@ -106,13 +93,13 @@ fn settle_shelf(
     watches: &mut Watches,
     shelf: usize,
 ) -> Result<(), AllocError>
-    requires links { AreConflicts denial.now.instance.now denial.now.links.now }
-    requires free { IsTable denial.now.instance.now denial.now.free.now.words }
-    requires live { IsTable denial.now.instance.now live.old.words }
-    requires same { denial.now.yes.now.problem ≡ denial.now.instance.now }
-    requires shelf { shelf < shelves denial.now.instance.now }
-    ensures ok { OnOk result (Asks denial.now.instance.now denial.now.yes.now.patterns denial.now.free.now.words live.old.words
-        denial.now.pattern.now (λ j. shelf_of denial.now.instance.now (pattern_at denial.now.yes.now.patterns j) ≡ shelf) live.new.words) }
+    requires basis { IsBasis denial.now.basis }
+    requires live { IsTable denial.now.basis.instance.now live.old.words }
+    requires same { denial.now.yes.now.problem ≡ denial.now.basis.instance.now }
+    requires shelf { shelf < shelves denial.now.basis.instance.now }
+    ensures ok { OnOk result (Asks denial.now.basis.instance.now denial.now.yes.now.patterns denial.now.basis.free.now.words
+        live.old.words denial.now.pattern.now
+        (λ j. shelf_of denial.now.basis.instance.now (pattern_at denial.now.yes.now.patterns j) ≡ shelf) live.new.words) }
     ensures unchanged { live.new.earlier ≡ live.old.earlier }
 {
     let mut above = denial.yes.newest(shelf);
@@ -131,16 +118,16 @@ fn settle_row(
     watches: &mut Watches,
     row: u32,
 ) -> Result<(), AllocError>
-    requires links { AreConflicts denial.now.instance.now denial.now.links.now }
-    requires free { IsTable denial.now.instance.now denial.now.free.now.words }
-    requires live { IsTable denial.now.instance.now live.old.words }
-    requires same { denial.now.yes.now.problem ≡ denial.now.instance.now }
-    requires row { row ≤ length denial.now.instance.now.courses }
-    ensures ok { OnOk result (Asks denial.now.instance.now denial.now.yes.now.patterns denial.now.free.now.words live.old.words
-        denial.now.pattern.now (λ j. row_of denial.now.instance.now (pattern_at denial.now.yes.now.patterns j).who ≡ row) live.new.words) }
+    requires basis { IsBasis denial.now.basis }
+    requires live { IsTable denial.now.basis.instance.now live.old.words }
+    requires same { denial.now.yes.now.problem ≡ denial.now.basis.instance.now }
+    requires row { row ≤ length denial.now.basis.instance.now.courses }
+    ensures ok { OnOk result (Asks denial.now.basis.instance.now denial.now.yes.now.patterns denial.now.basis.free.now.words
+        live.old.words denial.now.pattern.now
+        (λ j. row_of denial.now.basis.instance.now (pattern_at denial.now.yes.now.patterns j).who ≡ row) live.new.words) }
     ensures unchanged { live.new.earlier ≡ live.old.earlier }
 {
-    let instance = denial.instance;
+    let instance = denial.basis.instance;
     let (from, to) = slots_of(instance, denial.pattern);
     for column in from..to {
         settle_shelf(denial, live, watches, shelf_at(instance, row, column))?;
@@ -158,15 +145,14 @@ fn settle_rows(
     live: &mut Trail,
     watches: &mut Watches,
 ) -> Result<(), AllocError>
-    requires links { AreConflicts denial.now.instance.now denial.now.links.now }
-    requires free { IsTable denial.now.instance.now denial.now.free.now.words }
-    requires live { IsTable denial.now.instance.now live.old.words }
-    requires same { denial.now.yes.now.problem ≡ denial.now.instance.now }
-    ensures ok { OnOk result (Asks denial.now.instance.now denial.now.yes.now.patterns denial.now.free.now.words live.old.words
-        denial.now.pattern.now (λ j. j < length denial.now.yes.now.patterns) live.new.words) }
+    requires basis { IsBasis denial.now.basis }
+    requires live { IsTable denial.now.basis.instance.now live.old.words }
+    requires same { denial.now.yes.now.problem ≡ denial.now.basis.instance.now }
+    ensures ok { OnOk result (Asks denial.now.basis.instance.now denial.now.yes.now.patterns denial.now.basis.free.now.words
+        live.old.words denial.now.pattern.now (λ j. j < length denial.now.yes.now.patterns) live.new.words) }
     ensures unchanged { live.new.earlier ≡ live.old.earlier }
 {
-    let instance = denial.instance;
+    let instance = denial.basis.instance;
     let courses = instance.courses();
     for course in courses_of(instance, &denial.pattern.who) {
         if *course >= courses {
@@ -184,11 +170,10 @@ fn settle_all(
     live: &mut Trail,
     watches: &mut Watches,
 ) -> Result<(), AllocError>
-    requires links { AreConflicts denial.now.instance.now denial.now.links.now }
-    requires free { IsTable denial.now.instance.now denial.now.free.now.words }
-    requires live { IsTable denial.now.instance.now live.old.words }
-    ensures ok { OnOk result (Asks denial.now.instance.now denial.now.yes.now.patterns denial.now.free.now.words live.old.words
-        denial.now.pattern.now (λ j. j < length denial.now.yes.now.patterns) live.new.words) }
+    requires basis { IsBasis denial.now.basis }
+    requires live { IsTable denial.now.basis.instance.now live.old.words }
+    ensures ok { OnOk result (Asks denial.now.basis.instance.now denial.now.yes.now.patterns denial.now.basis.free.now.words
+        live.old.words denial.now.pattern.now (λ j. j < length denial.now.yes.now.patterns) live.new.words) }
     ensures unchanged { live.new.earlier ≡ live.old.earlier }
 {
     for place in 0..denial.yes.len() {
@@ -214,15 +199,14 @@ pub fn settle_again(
     live: &mut Trail,
     watches: &mut Watches,
 ) -> Result<(), AllocError>
-    requires links { AreConflicts denial.now.instance.now denial.now.links.now }
-    requires free { IsTable denial.now.instance.now denial.now.free.now.words }
-    requires live { IsTable denial.now.instance.now live.old.words }
-    requires same { denial.now.yes.now.problem ≡ denial.now.instance.now }
-    ensures ok { OnOk result (Renews denial.now.instance.now denial.now.yes.now.patterns denial.now.free.now.words live.old.words
-        denial.now.pattern.now live.new.words) }
+    requires basis { IsBasis denial.now.basis }
+    requires live { IsTable denial.now.basis.instance.now live.old.words }
+    requires same { denial.now.yes.now.problem ≡ denial.now.basis.instance.now }
+    ensures ok { OnOk result (Renews denial.now.basis.instance.now denial.now.yes.now.patterns denial.now.basis.free.now.words
+        live.old.words denial.now.pattern.now live.new.words) }
     ensures unchanged { live.new.earlier ≡ live.old.earlier }
 {
-    let are_few = denial.yes.len() <= shelves_asked(denial.instance, denial.pattern);
+    let are_few = denial.yes.len() <= shelves_asked(denial.basis.instance, denial.pattern);
     if are_few {
         settle_all(denial, live, watches)?;
         return Ok(());

@@ -3,20 +3,20 @@
 ghost use Rattle.std.specs.Prelude.{◌≡◌, ◌<◌, ◌≤◌, length};
 ghost use Rattle.tt_path.specs.declared.path.TheConstants.{MAX_FACTS};
 
+use crate::added::Added;
 use crate::adding::add;
-use crate::asking::{has_cell, has_period, periods_of};
-use crate::first::first_table;
 use crate::listing::{list_fact, unlist_fact};
 use crate::order::{Ranked, RoomOrder};
-use crate::places::cells_word;
 use crate::shelves::YesFacts;
+use crate::tables::Tables;
 use crate::watching::Watches;
 use std::alloc::{AllocError, Global};
 use std::marker::Model;
-use tt_bits::{Trail, is_empty};
-use tt_instance::Instance;
+use tt_bits::is_empty;
+use tt_instance::{Instance, Slot};
 use tt_instance_links::Conflicts;
 use tt_path::{Cell, Fact, Pattern};
+use tt_path_tables::{Spot, cells_word, first_table, has_cell, has_period, periods_of};
 
 /// The facts, which of them are the first yes-facts of their patterns, these patterns, the cells that are not barred, and the live ones.
 #[derive(Drop)]
@@ -28,8 +28,7 @@ pub struct Cells<'p, 'i> {
     firsts: Vec<bool>,
     yes: YesFacts<'p, 'i>,
     watches: Watches,
-    free: Trail,
-    live: Trail,
+    tables: Tables,
 }
 
 impl<'p, 'i> Model for Cells<'p, 'i> {
@@ -51,8 +50,8 @@ impl<'p, 'i> Model for Cells<'p, 'i> {
       depth : length s.facts.items ≤ MAX_FACTS;
       same : s.yes.problem ≡ s.instance.now;
       listing : IsListing s.facts.items s.firsts.items s.yes.patterns;
-      tables : AreTables s.instance.now s.facts.items s.free.words s.live.words;
-      earlier : AreEarlier s.instance.now s.facts.items s.free.earlier s.live.earlier;
+      tables : AreTables s.instance.now s.facts.items s.tables.free.words s.tables.live.words;
+      earlier : AreEarlier s.instance.now s.facts.items s.tables.free.earlier s.tables.live.earlier;
     } };
 }
 
@@ -86,8 +85,7 @@ impl<'p, 'i> Cells<'p, 'i> {
             firsts,
             yes,
             watches,
-            free,
-            live,
+            tables: Tables { free, live },
         })
     }
 
@@ -125,22 +123,15 @@ impl<'p, 'i> Cells<'p, 'i> {
         ensures unchanged { self.new.problem ≡ self.old.problem }
     {
         self.watches.grow(self.yes.len().saturating_add(1))?;
-        list_fact(
-            &mut self.facts,
-            &mut self.firsts,
-            &mut self.yes,
-            fact,
-            is_listed,
-        )?;
+        let added = Added { fact, is_listed };
+        list_fact(&mut self.facts, &mut self.firsts, &mut self.yes, &added)?;
         if let Err(fault) = add(
             self.instance,
             &self.links,
-            &mut self.free,
-            &mut self.live,
+            &mut self.tables,
             &self.yes,
             &mut self.watches,
-            &fact,
-            is_listed,
+            &added,
         ) {
             let _ = unlist_fact(&mut self.facts, &mut self.firsts, &mut self.yes);
             return Err(fault);
@@ -155,8 +146,8 @@ impl<'p, 'i> Cells<'p, 'i> {
         ensures fact { self.old.facts ≡ self.new.facts ++ result ∷ [] }
         ensures unchanged { self.new.problem ≡ self.old.problem }
     {
-        self.free.undo();
-        self.live.undo();
+        self.tables.free.undo();
+        self.tables.live.undo();
         unlist_fact(&mut self.facts, &mut self.firsts, &mut self.yes)
     }
 
@@ -174,7 +165,7 @@ impl<'p, 'i> Cells<'p, 'i> {
         requires { InRange self.now.problem cell }
         ensures { result ≡ is_dead self.now.problem self.now.facts cell }
     {
-        !has_cell(self.instance, &self.live, cell)
+        !has_cell(self.instance, &self.tables.live, cell)
     }
 
     /// Returns whether some room gives a live cell of the course in the period.
@@ -184,7 +175,12 @@ impl<'p, 'i> Cells<'p, 'i> {
         requires period { period < self.now.problem.periods }
         ensures { result ≡ live_period self.now.problem self.now.facts course (slot day period) }
     {
-        has_period(self.instance, &self.live, None, course, day, period)
+        let spot = Spot {
+            room: None,
+            course,
+            slot: Slot { day, period },
+        };
+        has_period(self.instance, &self.tables.live, spot)
     }
 
     /// Returns the live periods of a course on a day, as a set of bits.
@@ -194,7 +190,7 @@ impl<'p, 'i> Cells<'p, 'i> {
         ensures { (s : ℕ) → s < 64 → has_bit result s
             ≡ (nat_lt s self.now.problem.periods && live_period self.now.problem self.now.facts course (slot day s)) }
     {
-        periods_of(self.instance, &self.live, course, day)
+        periods_of(self.instance, &self.tables.live, course, day)
     }
 
     /// Returns the rooms of a block whose cells of the course in the period are live, as a set. The block consists of the room with number
@@ -208,7 +204,13 @@ impl<'p, 'i> Cells<'p, 'i> {
             ≡ (nat_lt (block * 64 + n) (length self.now.problem.rooms)
             && is_live self.now.problem self.now.facts (cell course (block * 64 + n) (slot day period))) }
     {
-        cells_word(self.instance, &self.live, course, day, period, block)
+        cells_word(
+            self.instance,
+            &self.tables.live,
+            course,
+            Slot { day, period },
+            block,
+        )
     }
 
     /// Returns whether the course has a live period on the day.

@@ -5,36 +5,36 @@ ghost use Rattle.std.specs.List.{list_any};
 ghost use Rattle.tt_path.specs.Facts.{same_pattern};
 ghost use Rattle.tt_path_cells.specs.Inner.Listing.{IsListing};
 
+use crate::added::Added;
 use crate::shelves::YesFacts;
 use std::alloc::AllocError;
 use tt_path::Fact;
 
 /// Returns whether it is a yes-fact whose pattern isn't listed.
-fn is_new(fact: &Fact, is_listed: bool) -> bool
-    ensures { result ≡ (fact.now.holds && not is_listed) }
+fn is_new(added: &Added) -> bool
+    ensures { result ≡ (added.now.fact.holds && not added.now.is_listed) }
 {
-    fact.holds && !is_listed
+    added.fact.holds && !added.is_listed
 }
 
-/// Adds a fact to the lists it belongs in, with whether it is the first yes-fact of its pattern: `is_listed` says that there is an
-/// earlier one. Not inlined, since inlining copies the fact field by field.
+/// Adds a fact to the lists it belongs in, with whether it is the first yes-fact of its pattern. Not inlined, since inlining copies
+/// the fact field by field.
 #[inline(never)]
 pub fn list_fact(
     facts: &mut Vec<Fact>,
     firsts: &mut Vec<bool>,
     yes: &mut YesFacts<'_, '_>,
-    fact: Fact,
-    is_listed: bool,
+    added: &Added,
 ) -> Result<(), AllocError>
     requires listing { IsListing facts.old.items firsts.old.items yes.old.patterns }
-    requires listed { is_listed ≡ list_any (λ g. same_pattern g fact.pattern) yes.old.patterns }
-    ensures ok { OnOk result (facts.new.items ≡ facts.old.items ++ fact ∷ []) }
+    requires listed { added.now.is_listed ≡ list_any (λ g. same_pattern g added.now.fact.pattern) yes.old.patterns }
+    ensures ok { OnOk result (facts.new.items ≡ facts.old.items ++ added.now.fact ∷ []) }
     ensures err { OnErr result (facts.new.items ≡ facts.old.items) }
     ensures unchanged { yes.new.problem ≡ yes.old.problem }
     ensures listing { IsListing facts.new.items firsts.new.items yes.new.patterns }
 {
-    let is_new = is_new(&fact, is_listed);
-    facts.push(fact)?;
+    let is_new = is_new(added);
+    facts.push(added.fact)?;
     if let Err(fault) = firsts.push(is_new) {
         let _ = facts.pop();
         return Err(fault.into());
@@ -42,7 +42,7 @@ pub fn list_fact(
     if !is_new {
         return Ok(());
     }
-    if let Err(fault) = yes.push(fact.pattern) {
+    if let Err(fault) = yes.push(added.fact.pattern) {
         let _ = firsts.pop();
         let _ = facts.pop();
         return Err(fault);

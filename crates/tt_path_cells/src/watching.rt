@@ -1,14 +1,11 @@
 //! Two periods in which a yes-fact had a free cell when it was last looked at: as long as it has one in each, it excludes no cell.
 
 ghost use Rattle.std.specs.Prelude.{◌≡◌, true};
-ghost use Rattle.tt_path_cells.specs.Inner.Tables.{IsTable};
+ghost use Rattle.tt_path_tables.specs.Inner.Tables.{IsTable};
 ghost use Rattle.tt_path_cells.specs.Inner.Spread.{IsSpread};
 
-use crate::periods::is_left_in;
 use std::alloc::{AllocError, Global};
-use tt_bits::Trail;
-use tt_instance::Instance;
-use tt_path::Pattern;
+use tt_path_tables::{Basis, Demand, is_left_in};
 
 /// The numbers of two periods, the first below the second; other numbers say that none are known.
 #[derive(Clone, Copy)]
@@ -24,21 +21,16 @@ pub const NO_WATCH: Watch = Watch {
 };
 
 /// Returns whether one of the courses has a free room that the pattern allows in each of the two periods.
-pub fn is_spread(
-    instance: &Instance<'_>,
-    free: &Trail,
-    pattern: &Pattern,
-    courses: &[u32],
-    watch: Watch,
-) -> bool
-    requires free { IsTable instance.now free.now.words }
-    ensures { result ≡ true → IsSpread instance.now free.now.words pattern.now courses.now watch.first watch.second }
+pub fn is_spread(basis: &Basis<'_, '_>, demand: &Demand<'_>, watch: Watch) -> bool
+    requires free { IsTable basis.now.instance.now basis.now.free.now.words }
+    ensures { result ≡ true → IsSpread basis.now.instance.now basis.now.free.now.words demand.now.pattern.now
+        demand.now.courses.now watch.first watch.second }
 {
-    let slots = instance.days() * instance.periods();
+    let slots = basis.instance.days() * basis.instance.periods();
     watch.first < watch.second
         && watch.second < slots
-        && is_left_in(instance, free, pattern, courses, watch.first)
-        && is_left_in(instance, free, pattern, courses, watch.second)
+        && is_left_in(basis, demand, watch.first)
+        && is_left_in(basis, demand, watch.second)
 }
 
 /// A watch for each pattern of the list of yes-facts. It is checked before it is used, so a pop leaves it as it is.

@@ -34,7 +34,8 @@ module _ (p : Problem) (groups : List PricedGroup) (apart : AreApart p groups) (
       let curricula = sum_by-of_flat_map (compactness_cost p t) (λ g. g.curricula) groups in
       let courses = sum_by-of_flat_map (working_days_cost p t) (λ g. g.courses) groups in
       let days = sum_by-same (working_days_cost p t) (days_cost p t) (flat_map (λ g. g.courses) groups) (days_paid p t ok) in
-      let some_curricula = sum_apart (compactness_cost p t) (flat_map (λ g. g.curricula) groups) (length p.curricula) apart.curricula apart.each_curriculum in
+      let some_curricula = sum_apart (compactness_cost p t) (flat_map (λ g. g.curricula) groups) (length p.curricula) apart.curricula
+      apart.each_curriculum in
       let some_courses = sum_apart (days_cost p t) (flat_map (λ g. g.courses) groups) (length p.courses) apart.courses apart.each_course in
       omega (arith, both, curricula, courses, days, some_curricula, some_courses)
 

@@ -60,11 +60,13 @@ module _ (p : Problem) (t : List Cell) (ok : IsFeasible p t) (rent : ℕ → Slo
       (λ e m. in_some_room e (in_range p t ok e m))) in
       let slots : (r : ℕ) → sum_by (λ e. cond (is_in r e) (rent e.room (slot_of e)) 0) t
       ≤ sum_by (λ s. sum_by (λ e. cond (is_in r e && is_at s e) (rent e.room (slot_of e)) 0) t) (all_slots p) = λ r.
-      spread_up (λ e. cond (is_in r e) (rent e.room (slot_of e)) 0) (λ s e. cond (is_in r e && is_at s e) (rent e.room (slot_of e)) 0) t (all_slots p)
+      spread_up (λ e. cond (is_in r e) (rent e.room (slot_of e)) 0) (λ s e. cond (is_in r e && is_at s e) (rent e.room (slot_of e)) 0) t
+      (all_slots p)
       (each_member (λ e. cond (is_in r e) (rent e.room (slot_of e)) 0
       ≤ sum_by (λ s. cond (is_in r e && is_at s e) (rent e.room (slot_of e)) 0) (all_slots p)) t
       (λ e m. in_some_slot r e (in_range p t ok e m))) in
-      let both = sum_by-le (λ r. sum_by (λ e. cond (is_in r e) (rent e.room (slot_of e)) 0) t) (λ r. sum_by (rent r) (all_slots p)) (all_rooms p)
+      let both = sum_by-le (λ r. sum_by (λ e. cond (is_in r e) (rent e.room (slot_of e)) 0) t) (λ r. sum_by (rent r) (all_slots p))
+      (all_rooms p)
       (each (λ r. sum_by (λ e. cond (is_in r e) (rent e.room (slot_of e)) 0) t ≤ sum_by (rent r) (all_slots p))
       (λ r. omega (arith, slots r, once r)) (all_rooms p)) in
       omega (arith, rooms, both)

@@ -87,11 +87,13 @@ module _ (p : Problem) (scale rooms : ℕ) (groups : List (PricedGroup × ℤ)) 
 
   courses_pay : signed_sum least (all_courses p) ≤ℤ (pos (rooms * stability_count p t) +ℤ signed_sum cost_of t)
   courses_pay =
-      let each_pays = signed_sum-le least (λ c. pos (rooms * stability_cost p t c) +ℤ signed_sum cost_of (filter (is_of c) t)) (all_courses p)
+      let each_pays = signed_sum-le least (λ c. pos (rooms * stability_cost p t c) +ℤ signed_sum cost_of (filter (is_of c) t))
+      (all_courses p)
       (each_weaker (λ c. c < length p.courses)
       (λ c. least c ≤ℤ (pos (rooms * stability_cost p t c) +ℤ signed_sum cost_of (filter (is_of c) t))) course_pays (all_courses p)
       (recursion_from_All (λ c. c < length p.courses) (all_courses p) (each_below (length p.courses)))) in
-      let apart = signed_sum-plus (λ c. pos (rooms * stability_cost p t c)) (λ c. signed_sum cost_of (filter (is_of c) t)) (all_courses p) in
+      let apart = signed_sum-plus (λ c. pos (rooms * stability_cost p t c)) (λ c. signed_sum cost_of (filter (is_of c) t)) (all_courses p)
+      in
       let stays = signed_sum-pos (λ c. rooms * stability_cost p t c) (all_courses p)
       ∙ ap pos (sum_times rooms (stability_cost p t) (all_courses p)) in
       let whole = by_course cost_of (length p.courses) t (λ e m. (in_range p t ok e m).course) in
@@ -114,7 +116,8 @@ module _ (p : Problem) (scale rooms : ℕ) (groups : List (PricedGroup × ℤ)) 
   -- what the groups pay for all lectures is what these get
   prices_meet : signed_sum (λ g. signed_sum (λ e. g.0.price e.course (slot_of e)) (entries_for p g.0 t)) groups ≡ signed_sum income t
   prices_meet =
-      signed_sum-same (λ g. signed_sum (λ e. g.0.price e.course (slot_of e)) (entries_for p g.0 t)) (λ g. signed_sum (price_for g.0) t) groups
+      signed_sum-same (λ g. signed_sum (λ e. g.0.price e.course (slot_of e)) (entries_for p g.0 t)) (λ g. signed_sum (price_for g.0) t)
+      groups
       (λ g. signed_sum-of_filter (λ e. g.0.price e.course (slot_of e)) (λ e. concerns p g.0 e.course) t)
       ∙ signed_sum-swap (λ g e. price_for g.0 e) groups t
       ∙ signed_sum-same (λ e. signed_sum (λ g. price_for g.0 e) groups) income t (λ e.

@@ -88,7 +88,8 @@ module _ (p : Problem) (g : PricedGroup) (instance : IsInstance p) (group : IsGr
       curricula = not_above 64 (length g.curricula) (first_fails curricula_test (own_test || (courses_test || lectures_test)) narrow);
       few = λ k d h. elim (cases_lt 253 (lectures p (get_or (courses_of p g) k d))) [
         | inl l ↦ absurd (both_ways lectures_test (second_fails courses_test lectures_test past_own)
-            (any_member (λ c. nat_lt 253 (lectures p c)) (courses_of p g) (get_or (courses_of p g) k d) (Contains-get_or (courses_of p g) k d h)
+            (any_member (λ c. nat_lt 253 (lectures p c)) (courses_of p g) (get_or (courses_of p g) k d)
+            (Contains-get_or (courses_of p g) k d h)
             (lt-ltb 253 (lectures p (get_or (courses_of p g) k d)) l)))
         | inr l ↦ l
       ];
@@ -128,14 +129,17 @@ module _ (p : Problem) (g : PricedGroup) (instance : IsInstance p) (group : IsGr
           let c = slice_index (counted_of p g) j in
           let e : slice_index (week_sizes p g) j ≡ lectures p c + 1 =
           get_or-append first last 0 j (omega (arith, h, first_long)) ∙ get_or-map (λ k. lectures p k + 1) (counted_of p g) j 0 0 h in
-          let few = few_lectures c (member_before (λ k. not (has_number g.uncounted k)) (courses_of p g) c (Contains-get_or (counted_of p g) j 0 h)) in
+          let few = few_lectures c (member_before (λ k. not (has_number g.uncounted k)) (courses_of p g) c
+          (Contains-get_or (counted_of p g) j 0 h)) in
           (omega (arith, e), omega (arith, e, few))
       | inr h ↦
           let i : ℕ = j - length (counted_of p g) in
           let inside : i < length g.courses = omega (arith, l, length-append first last, first_long, last_long) in
           let c = slice_index g.courses i in
           let e : slice_index (week_sizes p g) j ≡ slack p c + 1 =
-          get_or-append_right first last (length (counted_of p g)) j 0 first_long h ∙ get_or-map (λ k. slack p k + 1) g.courses i 0 0 inside in
-          let few = few_lectures c (courses_are.all c (course_own p (unpriced g) c (Contains-append_left g.courses g.further c (Contains-get_or g.courses i 0 inside)))) in
+          get_or-append_right first last (length (counted_of p g)) j 0 first_long h ∙ get_or-map (λ k. slack p k + 1) g.courses i 0 0 inside
+          in
+          let few = few_lectures c (courses_are.all c (course_own p (unpriced g) c
+          (Contains-append_left g.courses g.further c (Contains-get_or g.courses i 0 inside)))) in
           (omega (arith, e), omega (arith, e, few))
     ]

@@ -39,7 +39,8 @@ sum-of_some f ws cs apart_ws apart_cs inside =
     (λ c m. inr (any_member (λ k. c == k) cs c (inside c m) (eq-eqb c c refl))) in
     let down = distinct_sum (λ a b. a == b) eqb-true (λ a. eq-eqb a a refl) h cs ws apart_cs
     (λ c m. elim (cases_Bool (has_number ws c)) [
-      | inl e ↦ inr (let w = member_from_any (λ k. k == c) ws e in any_member (λ k. c == k) ws w.0 w.1 (eq-eqb c w.0 (sym (eqb-true w.0 c w.2))))
+      | inl e ↦ inr (let w = member_from_any (λ k. k == c) ws e in any_member (λ k. c == k) ws w.0 w.1
+          (eq-eqb c w.0 (sym (eqb-true w.0 c w.2))))
       | inr e ↦ inl (ap (λ b. cond b (f c) 0) e)
     ]) in
     omega (arith, same, up, down)
@@ -50,7 +51,8 @@ module _ (p : Problem) (scale : ℕ) (g : PricedGroup) (weights : List ℕ) (d :
   abbrev cs : List ℕ
   cs = courses_of p g
 
-  module _ (before : List CourseSet) (key : Key) (paid : ℤ) (whole : length before ≡ p.periods) (begins : Begins p (unpriced g) cs day before)
+  module _ (before : List CourseSet) (key : Key) (paid : ℤ) (whole : length before ≡ p.periods)
+      (begins : Begins p (unpriced g) cs day before)
       (begun : IsBegun p scale g cs weights d rules before key paid) where
     -- the counts are the lectures of the day
     pub counts-of_day : (i : ℕ) → i < length cs → slice_index begun.morning.counts i ≡ lectures_on p day (slice_index cs i)
@@ -68,14 +70,17 @@ module _ (p : Problem) (scale : ℕ) (g : PricedGroup) (weights : List ℕ) (d :
     paid-of_day small at_most =
         let m = begun.morning in
         let small_m = subst (λ n. n < 2 ^ 64) begun.pending small in
-        let ones = ones-of_word m.pending g.curricula (λ q. is_pending p day q (length before)) small_m at_most (begun.is.pending day begins) in
+        let ones = ones-of_word m.pending g.curricula (λ q. is_pending p day q (length before)) small_m at_most
+        (begun.is.pending day begins) in
         let settled = begun.is.paid day begins in
-        let end = subst (λ n. settled_cost p (unpriced g) day n + 2 * count_by (λ q. is_pending p day q n) g.curricula ≡ day_cost p (unpriced g) day)
+        let end = subst (λ n. settled_cost p (unpriced g) day n + 2 * count_by (λ q. is_pending p day q n) g.curricula ≡ day_cost p
+        (unpriced g) day)
         (sym whole) (day_cost-pending p (unpriced g) day) in
         let same : count_ones key.pending ≡ count_ones m.pending = ap count_ones begun.pending in
         let b : ℕ = 5 * beyond rules m.counts in
         let points : scale * (day_cost p (unpriced g) day + b) ≡ scale * (m.cost + b) + scale * (2 * count_ones key.pending) =
-        ap (λ n. scale * n) (let k : day_cost p (unpriced g) day + b ≡ (m.cost + b) + 2 * count_ones key.pending = omega (arith, ones, settled, end, same) in k)
+        ap (λ n. scale * n) (let k : day_cost p (unpriced g) day + b ≡ (m.cost + b) + 2 * count_ones key.pending = omega
+        (arith, ones, settled, end, same) in k)
         ∙ mul-add scale (m.cost + b) (2 * count_ones key.pending) in
         omega (arith, ints, begun.pays, prices-of_day p g d day before whole begins, ap pos points)
 
@@ -104,7 +109,8 @@ module _ (p : Problem) (scale : ℕ) (g : PricedGroup) (weights : List ℕ) (d :
       (λ i l. ap (λ k. k * (slice_index counts i - slice_index rules.caps i)) (are.paying i l)
       ∙ ap (λ k. cond (is_paying g (slice_index cs i)) 1 0 * (k - slice_index rules.caps i)) (same i l)
       ∙ ap (λ k. cond (is_paying g (slice_index cs i)) 1 0 * (lectures_on p day (slice_index cs i) - k)) (are.caps i l)
-      ∙ by_tests (has_number g.uncounted (slice_index cs i)) (has_number g.courses (slice_index cs i)) (lectures_on p day (slice_index cs i))
+      ∙ by_tests (has_number g.uncounted (slice_index cs i)) (has_number g.courses (slice_index cs i))
+      (lectures_on p day (slice_index cs i))
       (lectures p (slice_index cs i)) (slack p (slice_index cs i)))
       ∙ sum_indices (λ c. cond (has_number g.courses c) (over c) 0) cs
     where

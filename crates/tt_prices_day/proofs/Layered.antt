@@ -65,7 +65,8 @@ module _ (p : Problem) (scale : ℕ) (g : PricedGroup) (weights : List ℕ) (d :
       → node.paid ≡ pos 0 → IsLayer 0 (node ∷ [])
   layer-first node counts occupied pending nothing =
       let begun : IsBegun p scale g cs weights d rules [] node.key node.paid =
-      subst (IsBegun p scale g cs weights d rules [] node.key) (sym nothing) (begun-first p scale g cs weights d rules node.key counts occupied pending) in
+      subst (IsBegun p scale g cs weights d rules [] node.key) (sym nothing)
+      (begun-first p scale g cs weights d rules node.key counts occupied pending) in
       record {
         low = λ day valid. record {
           before = [];
@@ -138,7 +139,8 @@ module _ (p : Problem) (scale : ℕ) (g : PricedGroup) (weights : List ℕ) (d :
         let x = found.0 in
         let set = All-contains (IsCourseSet p (unpriced g) cs weights) sets x are_sets found.1 in
         let open_now : (i : ℕ) → i < length cs → has_course x i ≡ true → unavailable p (slice_index cs i) d s ≡ false = λ i l has.
-        valid.is.available s (slice_index cs i) inside (group.own (slice_index cs i) (Contains-get_or cs i 0 l)) (sym (found.2 i l) ∙ has) in
+        valid.is.available s (slice_index cs i) inside (group.own (slice_index cs i) (Contains-get_or cs i 0 l)) (sym (found.2 i l) ∙ has)
+        in
         let letter = of_period.all x found.1 open_now in
         let set_here : (i : ℕ) → i < length cs → has_course x i ≡ day (length old.before) (slice_index cs i) = λ i l.
         found.2 i l ∙ ap (λ n. day n (slice_index cs i)) (sym old.long) in
@@ -152,7 +154,8 @@ module _ (p : Problem) (scale : ℕ) (g : PricedGroup) (weights : List ℕ) (d :
               let z = w.1 in
               let step = w.2 in
               let word : x.curricula < 2 ^ 64 = subst (λ (t : CourseSet). t.curricula < 2 ^ 64) letter.2 step.set_word in
-              let price = of_period.priced letter.0 letter.1 ∙ ap (set_price g cs d s) letter.2 ∙ ap (λ n. set_price g cs d n x) (sym old.long) in
+              let price = of_period.priced letter.0 letter.1 ∙ ap (set_price g cs d s) letter.2 ∙ ap (λ n. set_price g cs d n x)
+              (sym old.long) in
               record {
                 before = old.before ++ x ∷ [];
                 long = length-append old.before (x ∷ []) ∙ ap (λ n. n + 1) old.long;
@@ -211,7 +214,8 @@ module _ (p : Problem) (scale : ℕ) (g : PricedGroup) (weights : List ℕ) (d :
         unpaid i n = unavailable p (slice_index cs i) d n
 
         cap_is : (i : ℕ) → is_counted g (slice_index cs i) ≡ true → cap p g (slice_index cs i) ≡ lectures p (slice_index cs i)
-        cap_is i k = ap (λ b. cond b (lectures p (slice_index cs i)) (cond (has_number g.courses (slice_index cs i)) (slack p (slice_index cs i) + 1) 0)) k
+        cap_is i k = ap (λ b. cond b (lectures p (slice_index cs i))
+            (cond (has_number g.courses (slice_index cs i)) (slack p (slice_index cs i) + 1) 0)) k
 
     pub layer-more : AreFollowed rules scale letters layer next → AreReached rules scale letters layer next → IsLayer s layer → IsLayer (s + 1) next
     layer-more followed reached old = record {

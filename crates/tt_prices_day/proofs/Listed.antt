@@ -95,7 +95,8 @@ courses-apart p g = each_two-of_filter (λ a b. not (a == b)) (concerns p g) (al
 never : (x : ℕ) (xs : List ℕ) → are_distinct (x ∷ xs) ≡ true → (j : ℕ) → j < length xs → x ≡ slice_index xs j → ⊥
 never x xs e j h same =
     let apart = (and_parts (list_all (λ b. not (x == b)) xs) (are_distinct xs) e).0 in
-    let here = at_member (λ b. not (x == b) ≡ true) xs (slice_index xs j) (each_from_list_all (λ b. not (x == b)) xs apart) (Contains-get_or xs j 0 h) in
+    let here = at_member (λ b. not (x == b) ≡ true) xs (slice_index xs j) (each_from_list_all (λ b. not (x == b)) xs apart)
+    (Contains-get_or xs j 0 h) in
     both_ways (x == slice_index xs j) (not-true (x == slice_index xs j) here) (eq-eqb x (slice_index xs j) same)
 
 -- numbers that are pairwise different are different at different places
@@ -105,7 +106,8 @@ distinct_index (x ∷ xs) e zero zero hi hj same = refl
 distinct_index (x ∷ xs) e zero (suc j) hi hj same = absurd (never x xs e j (omega (arith, hj)) same)
 distinct_index (x ∷ xs) e (suc i) zero hi hj same = absurd (never x xs e i (omega (arith, hi)) (sym same))
 distinct_index (x ∷ xs) e (suc i) (suc j) hi hj same =
-    ap suc (distinct_index xs (and_parts (list_all (λ b. not (x == b)) xs) (are_distinct xs) e).1 i j (omega (arith, hi)) (omega (arith, hj)) same)
+    ap suc (distinct_index xs (and_parts (list_all (λ b. not (x == b)) xs) (are_distinct xs) e).1 i j (omega (arith, hi))
+    (omega (arith, hj)) same)
 
 module _ (p : Problem) (g : PricedGroup) (shape : Shape) (d : ℕ) (is : IsShape p g shape) where
   abbrev cs : List ℕ
@@ -121,7 +123,8 @@ module _ (p : Problem) (g : PricedGroup) (shape : Shape) (d : ℕ) (is : IsShape
   own_course : (c : ℕ) → Contains g.courses c → Contains cs c
   own_course c m = is.narrow.group.all c (course_own p (unpriced g) c (Contains-append_left g.courses g.further c m))
 
-  module _ (rules_are : AreRules p g cs shape.rules) (counted : ArePlaces cs (counted_of p g) shape.counted.items) (own : AreOwn p g cs shape.own.items)
+  module _ (rules_are : AreRules p g cs shape.rules) (counted : ArePlaces cs (counted_of p g) shape.counted.items)
+      (own : AreOwn p g cs shape.own.items)
       (day : Day) (before : List CourseSet) (key : Key) (paid : ℤ) (whole : length before ≡ p.periods)
       (begins : Begins p (unpriced g) cs day before) (begun : IsBegun p scale g cs no_weights d shape.rules before key paid)
       (fits : (c : ℕ) → Contains (counted_of p g) c → lectures_on p day c ≤ lectures p c) (node : Node)
@@ -204,7 +207,8 @@ module _ (p : Problem) (g : PricedGroup) (shape : Shape) (d : ℕ) (is : IsShape
               ∙ ap (λ z. min z (slice_index_or shape.own.items i x).slack) (further_of_own i x k)
               ∙ ap (min (taken c - 1)) (own.slacks i x k)
               ∙ kept_further c (Contains-get_or g.courses i 0 in_courses)
-              ∙ sym (get_or-append_right a b n j 0 long h ∙ get_or-map (λ z. min (further_on p day z) (slack p z)) g.courses i 0 0 in_courses)
+              ∙ sym (get_or-append_right a b n j 0 long h ∙ get_or-map (λ z. min (further_on p day z) (slack p z)) g.courses i 0 0
+              in_courses)
         ]
 
     pub paid-of_entry : key.pending < 2 ^ 64
@@ -218,10 +222,12 @@ module _ (p : Problem) (g : PricedGroup) (shape : Shape) (d : ℕ) (is : IsShape
         let pairs = sum_pairs (λ x. further_at node x - x.slack) (λ c. (taken c - 1) - slack p c) shape.own.items g.courses own.whole
         (λ j x l. ap (λ n. n - (slice_index_or shape.own.items j x).slack) (further_of_own j x l)
         ∙ ap (λ n. (taken (slice_index g.courses j) - 1) - n) (own.slacks j x l)) in
-        let five = sum_by-same (λ c. 5 * (further_on p day c - slack p c)) (λ c. (further_on p day c - slack p c) * 5) g.courses (λ c. omega arith)
+        let five = sum_by-same (λ c. 5 * (further_on p day c - slack p c)) (λ c. (further_on p day c - slack p c) * 5) g.courses
+        (λ c. omega arith)
         ∙ sum_by-times (λ c. further_on p day c - slack p c) 5 g.courses in
         let sum : ℕ = sum_by (λ c. 5 * (further_on p day c - slack p c)) g.courses in
-        let all : day_cost p (unpriced g) day + sum ≡ (day_cost p (unpriced g) day + 5 * b) + 5 * late node = omega (arith, over, pairs, five) in
+        let all : day_cost p (unpriced g) day + sum ≡ (day_cost p (unpriced g) day + 5 * b) + 5 * late node = omega
+        (arith, over, pairs, five) in
         let points : scale * (day_cost p (unpriced g) day + sum) ≡ scale * (day_cost p (unpriced g) day + 5 * b) + scale * (5 * late node) =
         ap (λ n. scale * n) all ∙ mul-add scale (day_cost p (unpriced g) day + 5 * b) (5 * late node) in
         let whole_day = paid-of_day p scale g no_weights d shape.rules day before key paid whole begins begun small is.narrow.curricula in
@@ -249,7 +255,8 @@ day-listed p g shape d is layer ends entries are_layer ended ends_of all found r
       ∙ ap (λ (k : Key). max (slice_index k.counts i) (slice_index shape.rules.paying i)) b.same in
       let small : b.key.pending < 2 ^ 64 = subst (λ (k : Key). k.pending < 2 ^ 64) b.same end.pending_word in
       let ones : count_ones b.node.key.pending ≡ count_ones b.key.pending = ap (λ (k : Key). count_ones k.pending) b.same in
-      let paid_is = paid-of_entry p g shape d is rules_are counted own day b.before b.key b.paid b.long b.begins b.begun valid.fits z counts small in
+      let paid_is = paid-of_entry p g shape d is rules_are counted own day b.before b.key b.paid b.long b.begins b.begun valid.fits z counts
+      small in
       let end_paid : y.paid ≡ b.node.paid +ℤ pos (shape.scale * (2 * count_ones b.key.pending)) =
       end.paid ∙ ap (λ n. b.node.paid +ℤ pos (shape.scale * (2 * n))) ones in (
         e.0,
@@ -267,7 +274,8 @@ day-listed p g shape d is layer ends entries are_layer ended ends_of all found r
       let cs = courses_of p g in
       let day = day_of cs r.before in
       let begins = begins_day p (unpriced g) cs r.before (distinct_index cs (courses-apart p g)) in
-      let there_is : (t : ℕ) → t < p.periods → slice_get r.before t ≡ Some (get_or r.before t no_set) = λ t l. is_there r.before t (omega (arith, l, r.long)) in
+      let there_is : (t : ℕ) → t < p.periods → slice_get r.before t ≡ Some (get_or r.before t no_set) = λ t l. is_there r.before t
+      (omega (arith, l, r.long)) in
       let valid : IsPricedDay p g d day = record {
         is = record {
           available = λ t c l o h.
@@ -286,14 +294,17 @@ day-listed p g shape d is layer ends entries are_layer ended ends_of all found r
             let i = at.0 in
             let c_is : slice_index cs i ≡ c = get_or_default cs i 0 c at.1 ∙ at.2 in
             let few = r.fits i at.1 (ap (is_counted g) c_is ∙ k) in
-            let taught = counts-of_day p shape.scale g no_weights d shape.rules day r.before node.key node.paid r.long begins r.begun i at.1 in
+            let taught = counts-of_day p shape.scale g no_weights d shape.rules day r.before node.key node.paid r.long begins r.begun i at.1
+            in
             subst (λ (n : ℕ). lectures_on p day n ≤ lectures p n) c_is (omega (arith, few, taught, r.begun.is.counts i));
       } in
       let small : node.key.pending < 2 ^ 64 = end.pending_word in
-      let paid_is = paid-of_entry p g shape d is rules_are counted own day r.before node.key node.paid r.long begins r.begun valid.fits z end.counts small in (
+      let paid_is = paid-of_entry p g shape d is rules_are counted own day r.before node.key node.paid r.long begins r.begun valid.fits z
+      end.counts small in (
         day,
         valid,
-        amounts-of_entry p g shape d is rules_are counted own day r.before node.key node.paid r.long begins r.begun valid.fits z end.counts e w.2,
+        amounts-of_entry p g shape d is rules_are counted own day r.before node.key node.paid r.long begins r.begun valid.fits z end.counts
+            e w.2,
         omega (arith, ints, w.2.paid, end.paid, paid_is),
       );
 }

@@ -24,7 +24,8 @@ signed_sum-more f n =
     let z : n + 1 ≡ suc n = omega arith in
     let cut = signed_sum-append f (range_below n) (n ∷ []) in
     let last : signed_sum f (n ∷ []) ≡ f n = omega (arith, ints) in
-    sym (ap (λ k. signed_sum f (range_below k)) z) ∙ ap (signed_sum f) (range_below_more n) ∙ cut ∙ ap (λ k. signed_sum f (range_below n) +ℤ k) last
+    sym (ap (λ k. signed_sum f (range_below k)) z) ∙ ap (signed_sum f) (range_below_more n) ∙ cut ∙ ap
+    (λ k. signed_sum f (range_below n) +ℤ k) last
 
 -- the first term and the sum of all later terms
 signed_sum-head : (f : ℕ → ℤ) (n : ℕ) → signed_sum f (range_below (suc n)) ≡ f 0 +ℤ signed_sum (λ s. f (suc s)) (range_below n)

@@ -27,7 +27,8 @@ use Rattle.tt_prices_day.proofs.Priced.{prices-more}
 beyond-none : (rules : Rules) (counts : List ℕ) → ((i : ℕ) → slice_index counts i ≡ 0) → beyond rules counts ≡ 0
 beyond-none rules counts none =
     sum_by-same (λ i. slice_index rules.paying i * (slice_index counts i - slice_index rules.caps i)) (λ i. 0) (range_below 16)
-    (λ i. let z : slice_index counts i - slice_index rules.caps i ≡ 0 = omega (arith, none i) in ap (λ n. slice_index rules.paying i * n) z ∙ omega arith)
+    (λ i. let z : slice_index counts i - slice_index rules.caps i ≡ 0 = omega (arith, none i) in ap (λ n. slice_index rules.paying i * n) z
+    ∙ omega arith)
     ∙ sum_by-nothing (range_below 16)
 
 -- what is beyond the caps, first and then with another set
@@ -93,7 +94,8 @@ module _ (p : Problem) (scale : ℕ) (g : PricedGroup) (cs weights : List ℕ) (
       let at : 0 + length before ≡ length before = omega arith in
       let price_at = ap (λ n. set_price g cs d n x) at in
       let points : scale * (cost + 5 * beyond rules counts) ≡ scale * (m.cost + 5 * beyond rules m.counts) + scale * (2 * ones + 5 * here) =
-      ap (λ n. scale * n) (let k : cost + 5 * beyond rules counts ≡ (m.cost + 5 * beyond rules m.counts) + (2 * ones + 5 * here) = omega (arith, above) in k)
+      ap (λ n. scale * n) (let k : cost + 5 * beyond rules counts ≡ (m.cost + 5 * beyond rules m.counts) + (2 * ones + 5 * here) = omega
+      (arith, above) in k)
       ∙ mul-add scale (m.cost + 5 * beyond rules m.counts) (2 * ones + 5 * here) in
       let step_paid : next.paid ≡ node.paid +ℤ (letter.price +ℤ pos (scale * (2 * ones + 5 * here))) =
       step.paid ∙ ap (λ n. node.paid +ℤ (letter.price +ℤ pos (scale * n)))

@@ -67,7 +67,8 @@ module _ (m n : ℕ) (a b : ℤ) (few : m + n ≤ 2 ^ 100) (wa : IsWithin m a) (
 
   -- the first of them is no word yet
   pub sum_is_wide : to_z w128 (of_z w128 (a +ℤ to_z w128 (of_z w128 b))) ≡ a +ℤ b
-  sum_is_wide = ap (λ z. to_z w128 (of_z w128 (a +ℤ z))) (word_128 n b (omega (arith, few)) wb) ∙ word_128 (m + n) (a +ℤ b) few (within-plus m n a b wa wb)
+  sum_is_wide = ap (λ z. to_z w128 (of_z w128 (a +ℤ z))) (word_128 n b (omega (arith, few)) wb) ∙ word_128 (m + n) (a +ℤ b) few
+      (within-plus m n a b wa wb)
 
   pub sum_fits_wide : FitsSigned w128 (a +ℤ to_z w128 (of_z w128 b))
   sum_fits_wide = subst (FitsSigned w128) (sym (ap (λ z. a +ℤ z) (word_128 n b (omega (arith, few)) wb)))
@@ -103,11 +104,13 @@ rows_are p slots rows week are = record {
   week = week;
   courses = each (λ (row : Row). row.course < length p.courses) (λ k d l. (are.each k d l).course);
   once = subst (λ l. are_distinct l ≡ true) (courses_of_rows rows) are.once;
-  few = each (λ (row : Row). length row.prices ≤ slots) (λ k d l. subst (λ n. length (get_or (row_list rows) k d).prices ≤ n) (sym week) (are.each k d l).few);
+  few = each (λ (row : Row). length row.prices ≤ slots) (λ k d l. subst (λ n. length (get_or (row_list rows) k d).prices ≤ n) (sym week)
+      (are.each k d l).few);
 }
   where
     each : (P : Row → Type 0) → All P (row_list rows) → All (λ (row : PriceRow). P (row_of row)) rows
-    each P all k d l = subst P (get_or-map row_of rows k d (row_of d) l) (all k (row_of d) (subst (λ n. k < n) (sym (length-map rows row_of)) l))
+    each P all k d l = subst P (get_or-map row_of rows k d (row_of d) l)
+        (all k (row_of d) (subst (λ n. k < n) (sym (length-map rows row_of)) l))
 
     courses_of_rows : (rs : List PriceRow) → map (λ (row : Row). row.course) (row_list rs) ≡ map (λ (row : PriceRow). row.course) rs
     courses_of_rows [] = refl
@@ -153,10 +156,12 @@ module _ (p : Problem) (h : Header) (xs : List Part) (own : program.PricedGroup)
   pub more_apart : AreApart p (groups_of p more)
   more_apart = record {
     curricula = subst (λ l. are_distinct l ≡ true) (sym curricula_are)
-        (distinct_more (curricula_in xs) own.curricula.items (subst (λ l. are_distinct l ≡ true) (curricula_of p xs) apart.curricula) group.curricula.1
+        (distinct_more (curricula_in xs) own.curricula.items (subst (λ l. are_distinct l ≡ true) (curricula_of p xs) apart.curricula)
+        group.curricula.1
         (ap (λ l. list_any (has_number l) own.curricula.items) (sym account.curricula) ∙ unlisted_parts.0));
     courses = subst (λ l. are_distinct l ≡ true) (sym courses_are)
-        (distinct_more (courses_in xs) own.courses.items (subst (λ l. are_distinct l ≡ true) (courses_of p xs) apart.courses) group.courses.1
+        (distinct_more (courses_in xs) own.courses.items (subst (λ l. are_distinct l ≡ true) (courses_of p xs) apart.courses)
+        group.courses.1
         (ap (λ l. list_any (has_number l) own.courses.items) (sym account.courses) ∙ unlisted_parts.1));
     each_curriculum = subst (All (λ q. q < length p.curricula)) (sym curricula_are)
         (All-append (λ q. q < length p.curricula) (curricula_in xs) own.curricula.items
@@ -166,12 +171,14 @@ module _ (p : Problem) (h : Header) (xs : List Part) (own : program.PricedGroup)
         (subst (All (λ c. c < length p.courses)) (courses_of p xs) apart.each_course) group.courses.0);
   }
 
-  module _ (v : ℤ) (least : IsLeast p h.scale (group_of own) (Some v)) (small : IsWithin (2 ^ 58) v) (limits : IsWithinLimits p (group_of own)) where
+  module _ (v : ℤ) (least : IsLeast p h.scale (group_of own) (Some v)) (small : IsWithin (2 ^ 58) v)
+      (limits : IsWithinLimits p (group_of own)) where
     more_passed : Pass p h more
     more_passed = record {
       apart = more_apart;
       once = subst (λ l. are_distinct l ≡ true) (sym (ap (map (λ (x : RoomRents). x.room)) (rents_in-group xs text))) account.passed.once;
-      limits = subst (All (IsWithinLimits p)) (sym groups_are) (all_more (IsWithinLimits p) (groups_of p xs) (group_of own) account.passed.limits limits);
+      limits = subst (All (IsWithinLimits p)) (sym groups_are)
+          (all_more (IsWithinLimits p) (groups_of p xs) (group_of own) account.passed.limits limits);
       least = subst (All (λ g. (v : ℤ) × IsLeast p h.scale g (Some v))) (sym groups_are)
           (all_more (λ g. (v : ℤ) × IsLeast p h.scale g (Some v)) (groups_of p xs) (group_of own) account.passed.least (v, least));
     }
@@ -205,7 +212,8 @@ module _ (p : Problem) (h : Header) (xs : List Part) (own : program.PricedGroup)
       curricula = curricula ∙ ap (λ (l : List ℕ). l ++ own.curricula.items) account.curricula ∙ sym (curricula_in-group xs text);
       courses = courses ∙ ap (λ (l : List ℕ). l ++ own.courses.items) account.courses ∙ sym (courses_in-group xs text);
       prices = subst (λ l. IsPriceTable p l new.prices) (sym groups_are) prices;
-      rents = subst (λ l. IsRentTable p l new.rents) (sym (rents_in-group xs text)) (subst (IsRentTable p (rents_in xs)) (sym rents) account.rents);
+      rents = subst (λ l. IsRentTable p l new.rents) (sym (rents_in-group xs text))
+          (subst (IsRentTable p (rents_in xs)) (sym rents) account.rents);
       scale = ap (λ r. r.prices.scale) rents ∙ account.scale;
       counted = counted ∙ ap (λ n. n + 1) account.counted ∙ sym counted_more;
       least = more_least new.total total;
@@ -242,13 +250,16 @@ module _ (p : Problem) (h : Header) (xs : List Part) (x : RoomRents) (a : Accoun
       limits = subst (All (IsWithinLimits p)) (sym groups_same) account.passed.limits;
       least = subst (All (λ g. (v : ℤ) × IsLeast p h.scale g (Some v))) (sym groups_same) account.passed.least;
     };
-    curricula = ap (λ t. t.curricula.items) targets ∙ account.curricula ∙ sym (ap (flat_map (λ (g : Group). g.curricula)) (groups_in-rent xs x));
+    curricula = ap (λ t. t.curricula.items) targets ∙ account.curricula ∙ sym
+        (ap (flat_map (λ (g : Group). g.curricula)) (groups_in-rent xs x));
     courses = ap (λ t. t.courses.items) targets ∙ account.courses ∙ sym (ap (flat_map (λ (g : Group). g.courses)) (groups_in-rent xs x));
-    prices = subst (λ l. IsPriceTable p l new.prices) (sym groups_same) (subst (IsPriceTable p (groups_of p xs)) (sym prices) account.prices);
+    prices = subst (λ l. IsPriceTable p l new.prices) (sym groups_same)
+        (subst (IsPriceTable p (groups_of p xs)) (sym prices) account.prices);
     rents = subst (λ l. IsRentTable p l new.rents) (sym (rents_in-rent xs x)) rents;
     scale = scale ∙ account.scale;
     counted = counted ∙ account.counted ∙ sym (ap length groups_same);
-    least = subst (λ l. IsLeastSumOf p h.scale l new.total) (sym groups_same) (subst (IsLeastSumOf p h.scale (groups_of p xs)) (sym total) account.least);
+    least = subst (λ l. IsLeastSumOf p h.scale l new.total) (sym groups_same)
+        (subst (IsLeastSumOf p h.scale (groups_of p xs)) (sym total) account.least);
     within = subst (λ l. IsWithin (length l * 2 ^ 58) new.total) (sym groups_same)
         (subst (IsWithin (length (groups_of p xs) * 2 ^ 58)) (sym total) account.within);
   }

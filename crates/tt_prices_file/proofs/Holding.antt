@@ -122,7 +122,8 @@ one_total p h parts m n first second =
     let terms = signed_sum-same_member first.terms second.terms (all_courses p)
     (λ c there.
     let inside = below_member (length p.courses) c there in
-    term_same p (room_scale h) (groups_of p parts) (rent_of p parts) c (first.terms c) (second.terms c) (first.courses c inside) (second.courses c inside)) in
+    term_same p (room_scale h) (groups_of p parts) (rent_of p parts) c (first.terms c) (second.terms c) (first.courses c inside)
+    (second.courses c inside)) in
     omega (arith, ints, first.adds_up, second.adds_up, groups, terms)
 
 -- ---- what a feasible timetable pays
@@ -142,7 +143,8 @@ module _ (p : Problem) (h : Header) (parts : List Part) (right : IsRight p h par
       (λ g. sum_by (working_days_cost p t) g.courses) groups in
       let curricula = sum_by-of_flat_map (compactness_cost p t) (λ (g : PricedGroup). g.curricula) groups in
       let courses = sum_by-of_flat_map (working_days_cost p t) (λ (g : PricedGroup). g.courses) groups in
-      let days = sum_by-same (working_days_cost p t) (days_cost p t) (flat_map (λ (g : PricedGroup). g.courses) groups) (days_paid p t ok) in
+      let days = sum_by-same (working_days_cost p t) (days_cost p t) (flat_map (λ (g : PricedGroup). g.courses) groups) (days_paid p t ok)
+      in
       let first = ap (sum_by (compactness_cost p t)) (curricula_of p parts) in
       let second = ap (sum_by (days_cost p t)) (courses_of p parts) in
       omega (arith, shared, both, curricula, courses, days, first, second)
@@ -158,7 +160,8 @@ module _ (p : Problem) (h : Header) (parts : List Part) (right : IsRight p h par
       All-weaker (λ (g : PricedGroup × ℤ). IsLeast p h.scale g.0 (Some g.1)) (λ (g : PricedGroup × ℤ). IsGroupBound p h.scale g.0 g.1)
       (λ g least. least.0) total.least total.each in
       let all = all_pay p h.scale (room_scale h) total.least (rent_of p parts) total.terms bounds
-      (λ c l. subst (λ (groups : List PricedGroup). IsCourseBound p (room_scale h) groups (rent_of p parts) c (total.terms c)) (sym total.groups)
+      (λ c l. subst (λ (groups : List PricedGroup). IsCourseBound p (room_scale h) groups (rent_of p parts) c (total.terms c))
+      (sym total.groups)
       (course_bound p (room_scale h) (groups_of p parts) (rent_of p parts) c (total.terms c) (total.courses c l))) t ok in
       subst (λ n. (signed_sum (λ (g : PricedGroup × ℤ). g.1) total.least +ℤ signed_sum total.terms (all_courses p)) ≤ℤ
       pos (h.scale * n + room_scale h * rooms + all_rents p parts)) points_are all

@@ -71,7 +71,8 @@ module _ (sizes : Sizes) (has_rooms : Bool) where
       absurd (not_both_answers k part.0 after (sym part.1 ∙ ap (item_at sizes has_rooms) reads ∙ finish))
   goes_on s (x ∷ xs) (k ∷ ks) rest end after reads finish part =
       let same = part_same x k reads.0 part.0 (sym reads.1 ∙ part.1) in
-      let r = goes_on part.0 xs ks rest end after (subst (λ (z : Stream). ReadsParts sizes has_rooms z xs end) same.1 reads.2) finish part.2 in
+      let r = goes_on part.0 xs ks rest end after (subst (λ (z : Stream). ReadsParts sizes has_rooms z xs end) same.1 reads.2) finish part.2
+      in
       record {
         more = r.more;
         split = ap (λ (z : Part). z ∷ xs) same.0 ∙ ap (λ (l : List Part). k ∷ l) r.split;
@@ -151,7 +152,8 @@ not_twice ns ms rest n apart earlier here =
 
 -- ---- faults of a file that is right
 
-module _ (p : Problem) (is : IsInstance p) (bytes : List ℕ) (h : Header) (parts : List Part) (spelled : SpellsFile (sizes_of p) bytes h parts)
+module _ (p : Problem) (is : IsInstance p) (bytes : List ℕ) (h : Header) (parts : List Part)
+    (spelled : SpellsFile (sizes_of p) bytes h parts)
     (right : IsRight p h parts) where
   file : ReadsFile (sizes_of p) (stream_of bytes) h parts
   file = file_read p is bytes h parts spelled
@@ -200,9 +202,12 @@ module _ (p : Problem) (is : IsInstance p) (bytes : List ℕ) (h : Header) (part
   has_least xs g more split none =
       let there : Contains (groups_of p parts) (priced p g) =
       subst (λ (l : List PricedGroup). Contains l (priced p g))
-      (sym (ap (groups_of p) split ∙ ap (map (priced p)) (groups_in-append xs (GroupPart g ∷ more)) ∙ map-append (priced p) (groups_in xs) (g ∷ groups_in more)))
-      (Contains-append_right (map (priced p) (groups_in xs)) (priced p g ∷ map (priced p) (groups_in more)) (priced p g) (0, omega arith, refl)) in
-      let found = least_of right.is.least (recursion_from_All (λ (x : PricedGroup × ℤ). IsLeast p h.scale x.0 (Some x.1)) right.is.least right.is.each)
+      (sym (ap (groups_of p) split ∙ ap (map (priced p)) (groups_in-append xs (GroupPart g ∷ more)) ∙ map-append (priced p) (groups_in xs)
+      (g ∷ groups_in more)))
+      (Contains-append_right (map (priced p) (groups_in xs)) (priced p g ∷ map (priced p) (groups_in more)) (priced p g)
+      (0, omega arith, refl)) in
+      let found = least_of right.is.least (recursion_from_All (λ (x : PricedGroup × ℤ). IsLeast p h.scale x.0 (Some x.1)) right.is.least
+      right.is.each)
       (subst (λ (l : List PricedGroup). Contains l (priced p g)) (sym right.is.groups) there) in
       none found.1.1.0 found.1.1.1
     where
@@ -227,7 +232,8 @@ module _ (p : Problem) (is : IsInstance p) (bytes : List ℕ) (h : Header) (part
       let n = next reported (GroupPart g) reported.is.2 reported.is.3 in
       elim reported.is.4 [
         | inl q ↦ not_twice (curricula_in reported.parts) g.curricula (curricula_in n.0) q.0
-            (subst (λ (l : List ℕ). are_distinct l ≡ true) (curricula_of p parts ∙ numbers_split (λ x. x.curricula) reported.parts g n.0 n.1)
+            (subst (λ (l : List ℕ). are_distinct l ≡ true) (curricula_of p parts ∙ numbers_split (λ x. x.curricula) reported.parts g n.0
+            n.1)
             right.apart.curricula) q.2 q.1
         | inr c ↦ not_twice (courses_in reported.parts) g.courses (courses_in n.0) c.0
             (subst (λ (l : List ℕ). are_distinct l ≡ true) (courses_of p parts ∙ numbers_split (λ x. x.courses) reported.parts g n.0 n.1)
@@ -239,7 +245,8 @@ module _ (p : Problem) (is : IsInstance p) (bytes : List ℕ) (h : Header) (part
       let rooms : rented parts ≡ rented reported.parts ++ (x.room ∷ [] ++ rented n.0) =
       ap rented n.1 ∙ ap (map (λ (y : RoomRents). y.room)) (rents_in-append reported.parts (RentPart x ∷ n.0))
       ∙ map-append (λ (y : RoomRents). y.room) (rents_in reported.parts) (x ∷ rents_in n.0) in
-      not_twice (rented reported.parts) (x.room ∷ []) (rented n.0) r (subst (λ (l : List ℕ). are_distinct l ≡ true) rooms right.once) reported.is.4
+      not_twice (rented reported.parts) (x.room ∷ []) (rented n.0) r (subst (λ (l : List ℕ). are_distinct l ≡ true) rooms right.once)
+      reported.is.4
       (0, omega arith, reported.is.3)
   left_open (fault.Group i f) reported = tt
   left_open (fault.NoTimetable i) reported =

@@ -107,7 +107,8 @@ pub rent_at-push : (periods : ℕ) (xs : List RoomRents) (x : RoomRents) (r : �
     → rent_at periods (xs ++ x ∷ []) r s ≡ cond (x.room == r) (slice_index x.rents (s.day * periods + s.period)) (rent_at periods xs r s)
 rent_at-push periods [] x r s new = refl
 rent_at-push periods (y ∷ ys) x r s new =
-    by (y.room == r) refl (x.room == r) refl (y.room == x.room) refl (has_number (map (λ z. z.room) ys) x.room) new (rent_at-push periods ys x r s)
+    by (y.room == r) refl (x.room == r) refl (y.room == x.room) refl (has_number (map (λ z. z.room) ys) x.room) new
+    (rent_at-push periods ys x r s)
   where
     own : ℕ
     own = slice_index x.rents (s.day * periods + s.period)

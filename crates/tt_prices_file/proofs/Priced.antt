@@ -61,7 +61,8 @@ pub listed-push : (rows : List Row) (row : Row) (c j : ℕ) → has_number (map 
     → listed (rows ++ row ∷ []) c j ≡ cond (row.course == c) (number_at row.prices j) (listed rows c j)
 listed-push [] row c j new = refl
 listed-push (x ∷ xs) row c j new =
-    by (x.course == c) refl (row.course == c) refl (x.course == row.course) refl (has_number (map (λ (y : Row). y.course) xs) row.course) new
+    by (x.course == c) refl (row.course == c) refl (x.course == row.course) refl (has_number (map (λ (y : Row). y.course) xs) row.course)
+    new
     (listed-push xs row c j)
   where
     by : (a : Bool) → (x.course == c) ≡ a → (b : Bool) → (row.course == c) ≡ b → (d : Bool) → (x.course == row.course) ≡ d → (e : Bool)
@@ -69,7 +70,8 @@ listed-push (x ∷ xs) row c j new =
         → cond a (number_at x.prices j) (listed (xs ++ row ∷ []) c j)
         ≡ cond b (number_at row.prices j) (cond a (number_at x.prices j) (listed xs c j))
     by true f true g d h e none later =
-        absurd (both_ways (x.course == row.course) (h ∙ off d e none) (eq-eqb x.course row.course (eqb-true x.course c f ∙ sym (eqb-true row.course c g))))
+        absurd (both_ways (x.course == row.course) (h ∙ off d e none)
+        (eq-eqb x.course row.course (eqb-true x.course c f ∙ sym (eqb-true row.course c g))))
       where
         off : (d e : Bool) → (d || e) ≡ false → d ≡ false
         off true e k = absurd cc
@@ -130,7 +132,8 @@ module _ (p : Problem) (g : PricedGroup) where
         map-of_map (x ∷ xs) = ap (λ (l : List ℕ). x.course ∷ l) (map-of_map xs)
 
     more : (c j : ℕ) → Listed (rows ++ row ∷ []) c j ≡ cond (row.course == c) (number_at row.prices.items j) (Listed rows c j)
-    more c j = ap (λ (l : List Row). listed l c j) (map-append row_of rows (row ∷ [])) ∙ listed-push (map row_of rows) (row_of row) c j new_row
+    more c j = ap (λ (l : List Row). listed l c j) (map-append row_of rows (row ∷ [])) ∙ listed-push (map row_of rows) (row_of row) c j
+        new_row
 
     none : (j : ℕ) → Listed rows row.course j ≡ pos 0
     none j = listed-none (map row_of rows) row.course j new_row
@@ -154,7 +157,8 @@ module _ (p : Problem) (g : PricedGroup) where
         by c j false e true f = sym (more c j ∙ ap (λ z. cond z (number_at row.prices.items j) (Listed rows c j)) e)
 
     -- a row of a course that it concerns
-    module _ (new : PriceTable) (added : AddsRow now row new) (own : concerns p g row.course ≡ true) (inside : row.course < length p.courses)
+    module _ (new : PriceTable) (added : AddsRow now row new) (own : concerns p g row.course ≡ true)
+        (inside : row.course < length p.courses)
         (few : length row.prices.items ≤ old.slots) (small : All IsPrice row.prices.items)
         (whole : length old.sums.items ≡ length p.courses * old.slots) where
       abbrev start : ℕ
@@ -165,7 +169,8 @@ module _ (p : Problem) (g : PricedGroup) where
 
       added_at : (j : ℕ) → j < length row.prices.items
           → number_at new.sums.items (start + j) ≡ number_at now.sums.items (start + j) +ℤ number_at row.prices.items j
-      added_at j l = subst (λ n. number_at new.sums.items (row.course * n + j) ≡ number_at now.sums.items (row.course * n + j) +ℤ number_at row.prices.items j)
+      added_at j l = subst (λ n. number_at new.sums.items (row.course * n + j) ≡ number_at now.sums.items (row.course * n + j) +ℤ number_at
+          row.prices.items j)
           same_slots (added.added j l)
 
       before : (k : ℕ) → k < start → number_at new.sums.items k ≡ number_at now.sums.items k
@@ -230,9 +235,11 @@ module _ (p : Problem) (g : PricedGroup) where
           at : (c j : ℕ) → c < length p.courses → j < old.slots → (a : Bool) → (row.course == c) ≡ a → number_at new.sums.items (c * old.slots + j)
               ≡ number_at old.sums.items (c * old.slots + j) +ℤ cond (concerns p g c) (Listed (rows ++ row ∷ []) c j) (pos 0)
           at c j l k true e = subst (λ d. number_at new.sums.items (d * old.slots + j)
-              ≡ number_at old.sums.items (d * old.slots + j) +ℤ cond (concerns p g d) (Listed (rows ++ row ∷ []) d j) (pos 0)) (eqb-true row.course c e)
+              ≡ number_at old.sums.items (d * old.slots + j) +ℤ cond (concerns p g d) (Listed (rows ++ row ∷ []) d j) (pos 0))
+              (eqb-true row.course c e)
               (elim (cases_lt j (length row.prices.items)) [
-                | inl h ↦ added_at j h ∙ ap (λ z. z +ℤ number_at row.prices.items j) (untouched j k) ∙ ap (λ z. number_at old.sums.items (start + j) +ℤ z) (sym own_price)
+                | inl h ↦ added_at j h ∙ ap (λ z. z +ℤ number_at row.prices.items j) (untouched j k) ∙ ap
+                    (λ z. number_at old.sums.items (start + j) +ℤ z) (sym own_price)
                 | inr h ↦ after (start + j) (omega (arith, h)) ∙ untouched j k ∙ zero (number_at old.sums.items (start + j))
                     ∙ ap (λ z. number_at old.sums.items (start + j) +ℤ z) (sym (own_price ∙ get_or_past row.prices.items j (pos 0) h))
               ])
@@ -268,17 +275,20 @@ new_at (n ∷ ns) (suc i) d once l =
     by (n == get_or ns i d) refl (has_number (take i ns) (get_or ns i d)) parts.0 (new_at ns i d parts.1 (omega (arith, l)))
   where
     by : (a : Bool) → (n == get_or ns i d) ≡ a → (b : Bool) → list_all (λ b. not (n == b)) ns ≡ true → b ≡ false → (a || b) ≡ false
-    by true e b all f = absurd (both_ways (list_all (λ b. not (n == b)) ns) (list_all_at (λ b. not (n == b)) ns i d (omega (arith, l)) (ap not e)) all)
+    by true e b all f = absurd (both_ways (list_all (λ b. not (n == b)) ns)
+        (list_all_at (λ b. not (n == b)) ns i d (omega (arith, l)) (ap not e)) all)
     by false e b all f = f
 
-module _ (p : Problem) (g : PricedGroup) (items : List PriceRow) (i : ℕ) (row : PriceRow) (row_is : row ≡ get_or items i row) (there : i < length items)
+module _ (p : Problem) (g : PricedGroup) (items : List PriceRow) (i : ℕ) (row : PriceRow) (row_is : row ≡ get_or items i row)
+    (there : i < length items)
     (old now : PriceTable) (rows : AreRowsOf p old.slots items) (grown : IsGrownBy p g (take i items) old now) where
   new_row_at : has_number (map (λ (x : PriceRow). x.course) (take i items)) row.course ≡ false
   new_row_at =
       ap (λ (l : List ℕ). has_number l row.course) (sym (take-map (λ (x : PriceRow). x.course) i items))
       ∙ subst (λ n. has_number (take i (map (λ (x : PriceRow). x.course) items)) n ≡ false)
       (get_or-map (λ (x : PriceRow). x.course) items i row 0 there ∙ ap (λ (x : PriceRow). x.course) (sym row_is))
-      (new_at (map (λ (x : PriceRow). x.course) items) i 0 rows.once (subst (λ n. i < n) (sym (length-map items (λ (x : PriceRow). x.course))) there))
+      (new_at (map (λ (x : PriceRow). x.course) items) i 0 rows.once
+      (subst (λ n. i < n) (sym (length-map items (λ (x : PriceRow). x.course))) there))
 
   abbrev taken : take (i + 1) items ≡ take i items ++ row ∷ []
   taken = take_more items i row there ∙ ap (λ x. take i items ++ x ∷ []) (sym row_is)
@@ -326,11 +336,14 @@ grown_table p groups own old new periods table grown = record {
   within = let long = length-append groups (group_of own ∷ []) in
       subst (λ n. All (IsWithin n) new.sums.items) (omega (arith, long)) (grown.within (length groups * 1_000_000) table.within);
   sums = λ c d s l dl sl.
-      subst (λ n. number_at new.sums.items (c * n + (d * p.periods + s)) ≡ prices_of p (groups ++ group_of own ∷ []) c (slot d s)) (sym grown.slots)
+      subst (λ n. number_at new.sums.items (c * n + (d * p.periods + s)) ≡ prices_of p (groups ++ group_of own ∷ []) c (slot d s))
+      (sym grown.slots)
       (grown.sums c (d * p.periods + s) l (inside d s dl sl)
-      ∙ ap (λ z. z +ℤ cond (concerns p (group_of own) c) (listed (map row_of own.rows.items) c (d * p.periods + s)) (pos 0)) (table.sums c d s l dl sl)
+      ∙ ap (λ z. z +ℤ cond (concerns p (group_of own) c) (listed (map row_of own.rows.items) c (d * p.periods + s)) (pos 0))
+      (table.sums c d s l dl sl)
       ∙ ap (λ z. prices_of p groups c (slot d s) +ℤ cond (concerns p (group_of own) c) z (pos 0))
-      (sym (price_listed own.periods (map row_of own.rows.items) c (slot d s) ∙ ap (λ n. listed (map row_of own.rows.items) c (d * n + s)) periods))
+      (sym (price_listed own.periods (map row_of own.rows.items) c (slot d s) ∙ ap (λ n. listed (map row_of own.rows.items) c (d * n + s))
+      periods))
       ∙ sym (prices_of-push p groups (group_of own) c (slot d s)));
 }
   where

@@ -25,7 +25,8 @@ use Rattle.tt_prices_file.proofs.Priced.{other_row}
 rent_at-none : (periods : ℕ) (xs : List RoomRents) (r : ℕ) (s : Slot) → has_number (map (λ (x : RoomRents). x.room) xs) r ≡ false
     → rent_at periods xs r s ≡ 0
 rent_at-none periods [] r s none = refl
-rent_at-none periods (x ∷ xs) r s none = by (x.room == r) (has_number (map (λ (y : RoomRents). y.room) xs) r) none (rent_at-none periods xs r s)
+rent_at-none periods (x ∷ xs) r s none = by (x.room == r) (has_number (map (λ (y : RoomRents). y.room) xs) r) none
+    (rent_at-none periods xs r s)
   where
     by : (a b : Bool) → (a || b) ≡ false → (b ≡ false → rent_at periods xs r s ≡ 0)
         → cond a (get_or x.rents (s.day * periods + s.period) 0) (rent_at periods xs r s) ≡ 0
@@ -46,7 +47,8 @@ module _ (old part : List ℕ) (start : ℕ) (fits : start + length part ≤ len
 
   pub pasted-before : (k : ℕ) → k < start → get_or pasted k 0 ≡ get_or old k 0
   pasted-before k l =
-      ap (λ xs. get_or xs k 0) is ∙ get_or_append_left (take start old) (part ++ drop (start + length part) old) 0 k (omega (arith, front, l))
+      ap (λ xs. get_or xs k 0) is ∙ get_or_append_left (take start old) (part ++ drop (start + length part) old) 0 k
+      (omega (arith, front, l))
       ∙ get_or-take start old k 0 l
 
   behind : (k : ℕ) → start ≤ k → get_or pasted k 0 ≡ get_or (part ++ drop (start + length part) old) (k - start) 0
@@ -60,7 +62,8 @@ module _ (old part : List ℕ) (start : ℕ) (fits : start + length part ≤ len
 
   pub pasted-after : (k : ℕ) → start + length part ≤ k → get_or pasted k 0 ≡ get_or old k 0
   pasted-after k l =
-      behind k (omega (arith, l)) ∙ get_or-append_right part (drop (start + length part) old) (length part) (k - start) 0 refl (omega (arith, l))
+      behind k (omega (arith, l)) ∙ get_or-append_right part (drop (start + length part) old) (length part) (k - start) 0 refl
+      (omega (arith, l))
       ∙ get_or-drop (start + length part) old (k - start - length part) 0
       ∙ (let same : start + length part + (k - start - length part) ≡ k = omega (arith, l) in ap (λ n. get_or old n 0) same)
 
@@ -81,7 +84,8 @@ module _ (old part : List ℕ) (start : ℕ) (fits : start + length part ≤ len
 
 -- ---- the rents of one more room
 
-module _ (p : Problem) (xs : List RoomRents) (x : RoomRents) (old : RentTable) (table : IsRentTable p xs old) (inside : x.room < length p.rooms)
+module _ (p : Problem) (xs : List RoomRents) (x : RoomRents) (old : RentTable) (table : IsRentTable p xs old)
+    (inside : x.room < length p.rooms)
     (few : length x.rents ≤ old.slots) (small : All (λ n. n ≤ MAX_AMOUNT) x.rents) (none : has_number (map (λ (y : RoomRents). y.room) xs) x.room ≡ false) where
   abbrev start : ℕ
   start = x.room * old.slots
@@ -111,7 +115,8 @@ module _ (p : Problem) (xs : List RoomRents) (x : RoomRents) (old : RentTable) (
             ∙ sym (get_or_past x.rents (d * p.periods + s) 0 h)
       ])
   at r d s rl dl sl false e =
-      elim (other_row old.slots x.room r (d * p.periods + s) (length x.rents) (λ same. both_ways (x.room == r) e (eq-eqb x.room r same)) place few) [
+      elim (other_row old.slots x.room r (d * p.periods + s) (length x.rents) (λ same. both_ways (x.room == r) e (eq-eqb x.room r same))
+      place few) [
         | inl h ↦ pasted-before rents x.rents start rents_fit (r * old.slots + (d * p.periods + s)) h
         | inr h ↦ pasted-after rents x.rents start rents_fit (r * old.slots + (d * p.periods + s)) h
       ] ∙ table.rents r d s rl dl sl

@@ -17,7 +17,8 @@ sum_one : (f : ℕ → ℕ) (n : ℕ) → sum_by f (n ∷ []) ≡ f n
 sum_one f n = omega arith
 
 sum_more : (f : ℕ → ℕ) (n : ℕ) → sum_by f (range_below (n + 1)) ≡ sum_by f (range_below n) + f n
-sum_more f n = ap (sum_by f) (range_more n) ∙ sum_by-append f (range_below n) (n ∷ []) ∙ ap (λ k. sum_by f (range_below n) + k) (sum_one f n)
+sum_more f n = ap (sum_by f) (range_more n) ∙ sum_by-append f (range_below n) (n ∷ []) ∙ ap (λ k. sum_by f (range_below n) + k)
+    (sum_one f n)
 
 same_below : (f g : ℕ → ℕ) (n : ℕ) → ((k : ℕ) → k < n → f k ≡ g k) → sum_by f (range_below n) ≡ sum_by g (range_below n)
 same_below f g zero same = refl
@@ -29,14 +30,16 @@ same_below f g (suc n) same =
 
 -- the first n numbers, and m further ones
 sum_split : (f : ℕ → ℕ) (n m : ℕ) → sum_by f (range_below (n + m)) ≡ sum_by f (range_below n) + sum_by (λ j. f (n + j)) (range_below m)
-sum_split f n zero = let none : n + zero ≡ n = omega arith in ap (λ k. sum_by f (range_below k)) none ∙ (let z : sum_by f (range_below n) ≡ sum_by f (range_below n) + 0 = omega arith in z)
+sum_split f n zero = let none : n + zero ≡ n = omega arith in ap (λ k. sum_by f (range_below k)) none ∙
+    (let z : sum_by f (range_below n) ≡ sum_by f (range_below n) + 0 = omega arith in z)
 sum_split f n (suc m) =
     let on : suc m ≡ m + 1 = omega arith in
     let far : n + suc m ≡ (n + m) + 1 = omega arith in
     ap (λ k. sum_by f (range_below k)) far ∙ sum_more f (n + m) ∙ ap (λ k. k + f (n + m)) (sum_split f n m)
     ∙ (let turn : (sum_by f (range_below n) + sum_by (λ j. f (n + j)) (range_below m)) + f (n + m)
     ≡ sum_by f (range_below n) + (sum_by (λ j. f (n + j)) (range_below m) + f (n + m)) = omega arith in turn)
-    ∙ ap (λ k. sum_by f (range_below n) + k) (sym (sum_more (λ j. f (n + j)) m) ∙ ap (λ k. sum_by (λ j. f (n + j)) (range_below k)) (sym on))
+    ∙ ap (λ k. sum_by f (range_below n) + k) (sym (sum_more (λ j. f (n + j)) m) ∙ ap (λ k. sum_by (λ j. f (n + j)) (range_below k))
+    (sym on))
 
 -- rows of so many numbers each
 sum_rows : (f : ℕ → ℕ) (width rows : ℕ)

@@ -24,14 +24,16 @@ pub adds_next : (sums prices : List ℤ) (start i : ℕ) (now : List ℤ) (z : �
 adds_next sums prices start i now z first there is = record {
   whole = length-set now (start + i) z ∙ first.whole;
   added = λ j l. elim (cases_lt j i) [
-    | inl h ↦ let ne : start + j ≢ start + i = omega (arith, h) in get_or-set_other now (start + i) (start + j) z (pos 0) ne ∙ first.added j h
+    | inl h ↦ let ne : start + j ≢ start + i = omega (arith, h) in get_or-set_other now (start + i) (start + j) z (pos 0) ne ∙ first.added j
+        h
     | inr h ↦
         let same : i ≡ j = omega (arith, l, h) in
         subst (λ k. number_at (set now (start + i) z) (start + k) ≡ number_at sums (start + k) +ℤ number_at prices k) same
         (get_or-set_same now (start + i) z (pos 0) there ∙ is)
   ];
   before = λ k l. let ne : k ≢ start + i = omega (arith, l) in get_or-set_other now (start + i) k z (pos 0) ne ∙ first.before k l;
-  after = λ k l. let ne : k ≢ start + i = omega (arith, l) in get_or-set_other now (start + i) k z (pos 0) ne ∙ first.after k (omega (arith, l));
+  after = λ k l. let ne : k ≢ start + i = omega (arith, l) in get_or-set_other now (start + i) k z (pos 0) ne ∙ first.after k
+      (omega (arith, l));
 }
 
 -- one number, read of the table and of the row, and added

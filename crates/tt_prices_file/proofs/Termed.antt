@@ -33,7 +33,8 @@ pub if_none : {X : Type 0} (P : Type 0) (o : Option X) → o ≡ None → IfNone
 if_none P o is holds = subst (λ z. IfNone z P) is holds
 
 pub range_more : (n : ℕ) → range_below (n + 1) ≡ range_below n ++ n ∷ []
-range_more n = sym (map-id (range_below (n + 1))) ∙ map-range_with_len_more (λ k. k) 0 n n (omega arith) ∙ ap (λ l. l ++ n ∷ []) (map-id (range_below n))
+range_more n = sym (map-id (range_below (n + 1))) ∙ map-range_with_len_more (λ k. k) 0 n n (omega arith) ∙ ap (λ l. l ++ n ∷ [])
+    (map-id (range_below n))
 
 -- ---- what the tables say of a course
 
@@ -70,7 +71,8 @@ term_more p scale groups xs n total v new before term is = record {
         (subst (IsTerm p scale groups (rent_at p.periods xs) n) (sym own) term)
   ];
   adds_up =
-      is ∙ ap (λ z. z +ℤ v) (before.adds_up ∙ sym (signed_sum-same_member terms before.terms (range_below n) (λ c inside. old c (below_member n c inside))))
+      is ∙ ap (λ z. z +ℤ v) (before.adds_up ∙ sym (signed_sum-same_member terms before.terms (range_below n)
+      (λ c inside. old c (below_member n c inside))))
       ∙ ap (λ z. signed_sum terms (range_below n) +ℤ z) (sym last)
       ∙ sym (signed_sum-append terms (range_below n) (n ∷ [])) ∙ ap (signed_sum terms) (sym (range_more n));
 }

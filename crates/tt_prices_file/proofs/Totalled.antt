@@ -48,7 +48,8 @@ module _ (m : ℕ) (a b r : ℤ) (few : m ≤ 2 ^ 90) (wa : IsWithin m a) (wb : 
       ∙ word_128 (m + 2 ^ 74 + 2 ^ 64) ((a +ℤ b) -ℤ r) (omega (arith, few)) all_within
 
   pub balance_within : IsWithin (2 ^ 100) (to_z w128 (of_z w128 (sum_word -ℤ to_z w128 (of_z w128 r))))
-  balance_within = subst (IsWithin (2 ^ 100)) (sym balance_is) (let w = all_within in (omega (arith, ints, few, w.0), omega (arith, ints, few, w.1)))
+  balance_within = subst (IsWithin (2 ^ 100)) (sym balance_is)
+      (let w = all_within in (omega (arith, ints, few, w.0), omega (arith, ints, few, w.1)))
 
 -- the total of the parts of an account
 pub has_total : (p : Problem) (h : Header) (xs : List Part) (a : Account) (terms total : ℤ) (rents : ℕ) → IsAccountOf p h xs a

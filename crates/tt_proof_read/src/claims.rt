@@ -10,8 +10,8 @@ ghost use Rattle.tt_proof_read.specs.Reading.{claim_word_of, claim_after_word, c
 
 use crate::fault::TextFault;
 use crate::fields::{read_course, read_curriculum, read_price, token};
+use crate::form::ProofForm;
 use crate::prices::read_prices;
-use crate::sizes::Sizes;
 use crate::tables::Tables;
 use std::alloc::Global;
 use tt_leaf::{Claim, PriceList};
@@ -54,18 +54,18 @@ fn read_claim_after_word<R: Source>(
     alloc: Global,
     feed: &mut Feed,
     source: &mut R,
-    sizes: Sizes,
-    version: u8,
+    form: ProofForm,
     word: ClaimWord,
     tables: &mut Tables,
 ) -> Result<Claim, TextFault>
-    requires word { IsWordIn version word }
-    requires tables { AreTables sizes tables.old }
-    ensures tables { AreTables sizes tables.new }
-    ensures read { ReadsAs R.Source feed.old source.old feed.new source.new (λ c. c) result (claim_after_word sizes word) }
+    requires word { IsWordIn form.version word }
+    requires tables { AreTables form.sizes tables.old }
+    ensures tables { AreTables form.sizes tables.new }
+    ensures read { ReadsAs R.Source feed.old source.old feed.new source.new (λ c. c) result (claim_after_word form.sizes word) }
     ensures forward { IfOk result (λ _. room_of feed.new < room_of feed.old) }
-    ensures within { IfOk result (IsClaimAt sizes version) }
+    ensures within { IfOk result (IsClaimAt form.sizes form.version) }
 {
+    let sizes = form.sizes;
     match word {
         ClaimWord::Capacity => {
             let course = read_course(feed, source, sizes)?;
@@ -105,21 +105,20 @@ fn read_claim<R: Source>(
     alloc: Global,
     feed: &mut Feed,
     source: &mut R,
-    sizes: Sizes,
-    version: u8,
+    form: ProofForm,
     tables: &mut Tables,
 ) -> Result<Option<Claim>, TextFault>
-    requires { AreTables sizes tables.old }
-    ensures tables { AreTables sizes tables.new }
-    ensures read { ReadsAs R.Source feed.old source.old feed.new source.new (λ c. c) result (claim_at sizes version) }
+    requires { AreTables form.sizes tables.old }
+    ensures tables { AreTables form.sizes tables.new }
+    ensures read { ReadsAs R.Source feed.old source.old feed.new source.new (λ c. c) result (claim_at form.sizes form.version) }
     ensures forward { IfOk result (λ _. room_of feed.new < room_of feed.old) }
-    ensures within { IfOk result (λ c. IfSome c (IsClaimAt sizes version)) }
+    ensures within { IfOk result (λ c. IfSome c (IsClaimAt form.sizes form.version)) }
 {
     let at = token(feed, source)?;
-    let Some(word) = claim_word(feed.token(), at, version)? else {
+    let Some(word) = claim_word(feed.token(), at, form.version)? else {
         return Ok(None);
     };
-    let claim = read_claim_after_word(alloc, feed, source, sizes, version, word, tables)?;
+    let claim = read_claim_after_word(alloc, feed, source, form, word, tables)?;
     Ok(Some(claim))
 }
 
@@ -128,17 +127,16 @@ pub fn read_claims<R: Source>(
     alloc: Global,
     feed: &mut Feed,
     source: &mut R,
-    sizes: Sizes,
-    version: u8,
+    form: ProofForm,
     tables: &mut Tables,
 ) -> Result<Vec<Claim>, TextFault>
-    requires { AreTables sizes tables.old }
-    ensures tables { AreTables sizes tables.new }
-    ensures read { ReadsAs R.Source feed.old source.old feed.new source.new (λ v. v.items) result (claims_at sizes version) }
-    ensures within { IfOk result (λ v. All (IsClaimAt sizes version) v.items) }
+    requires { AreTables form.sizes tables.old }
+    ensures tables { AreTables form.sizes tables.new }
+    ensures read { ReadsAs R.Source feed.old source.old feed.new source.new (λ v. v.items) result (claims_at form.sizes form.version) }
+    ensures within { IfOk result (λ v. All (IsClaimAt form.sizes form.version) v.items) }
 {
     let mut claims = Vec::new(alloc);
-    while let Some(claim) = read_claim(alloc, feed, source, sizes, version, tables)? {
+    while let Some(claim) = read_claim(alloc, feed, source, form, tables)? {
         claims.push(claim)?;
     }
     Ok(claims)

@@ -5,6 +5,7 @@ mod claims;
 mod fault;
 mod faulty;
 mod fields;
+mod form;
 mod format;
 mod header;
 mod laws;

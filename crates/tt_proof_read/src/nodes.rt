@@ -10,11 +10,11 @@ ghost use Rattle.tt_proof_read.specs.Reading.{node_word_of, node_after_word, nod
 use crate::claims::read_claims;
 use crate::fault::TextFault;
 use crate::fields::{read_course, token};
+use crate::form::ProofForm;
 use crate::format::MAX_PROOF_NODES;
 use crate::lists::read_list;
 use crate::node::Node;
 use crate::patterns::read_pattern;
-use crate::sizes::Sizes;
 use crate::tables::Tables;
 use std::alloc::Global;
 use tt_leaf::{ClaimList, CourseList, Leaf};
@@ -54,16 +54,16 @@ fn read_node_after_word<R: Source>(
     alloc: Global,
     feed: &mut Feed,
     source: &mut R,
-    sizes: Sizes,
-    version: u8,
+    form: ProofForm,
     word: NodeWord,
     tables: &mut Tables,
 ) -> Result<Node, TextFault>
-    requires { AreTables sizes tables.old }
-    ensures tables { AreTables sizes tables.new }
-    ensures read { ReadsAs R.Source feed.old source.old feed.new source.new (λ n. n) result (node_after_word sizes version word) }
-    ensures node { IfOk result (IsNodeAt sizes version) }
+    requires { AreTables form.sizes tables.old }
+    ensures tables { AreTables form.sizes tables.new }
+    ensures read { ReadsAs R.Source feed.old source.old feed.new source.new (λ n. n) result (node_after_word form.sizes form.version word) }
+    ensures node { IfOk result (IsNodeAt form.sizes form.version) }
 {
+    let sizes = form.sizes;
     match word {
         NodeWord::Split => {
             let pattern = read_pattern(feed, source, sizes)?;
@@ -86,7 +86,7 @@ fn read_node_after_word<R: Source>(
             Ok(Node::Leaf(Leaf::Slots(CourseList::new(courses))))
         }
         NodeWord::Cost => {
-            let claims = read_claims(alloc, feed, source, sizes, version, tables)?;
+            let claims = read_claims(alloc, feed, source, form, tables)?;
             Ok(Node::Leaf(Leaf::Cost(ClaimList::new(claims))))
         }
     }
@@ -99,15 +99,14 @@ pub fn read_node<R: Source>(
     alloc: Global,
     feed: &mut Feed,
     source: &mut R,
-    sizes: Sizes,
-    version: u8,
+    form: ProofForm,
     count: u32,
     tables: &mut Tables,
 ) -> Result<Node, TextFault>
-    requires { AreTables sizes tables.old }
-    ensures tables { AreTables sizes tables.new }
-    ensures read { ReadsAs R.Source feed.old source.old feed.new source.new (λ n. n) result (node_at sizes version count) }
-    ensures node { IfOk result (IsNodeAt sizes version) }
+    requires { AreTables form.sizes tables.old }
+    ensures tables { AreTables form.sizes tables.new }
+    ensures read { ReadsAs R.Source feed.old source.old feed.new source.new (λ n. n) result (node_at form.sizes form.version count) }
+    ensures node { IfOk result (IsNodeAt form.sizes form.version) }
     ensures room { IfOk result (λ _. count < MAX_PROOF_NODES) }
 {
     let at = token(feed, source)?;
@@ -115,5 +114,5 @@ pub fn read_node<R: Source>(
         return Err(TextFault::TooManyNodes(at));
     }
     let word = node_word(feed.token(), at)?;
-    read_node_after_word(alloc, feed, source, sizes, version, word, tables)
+    read_node_after_word(alloc, feed, source, form, word, tables)
 }

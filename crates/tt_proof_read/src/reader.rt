@@ -10,6 +10,7 @@ ghost use Rattle.tt_proof_read.specs.Readers.{IsNodeAt, IsReaderAfter, IsReading
 ghost use Rattle.tt_proof_read.specs.Sizes.{AreSizes};
 
 use crate::fault::TextFault;
+use crate::form::ProofForm;
 use crate::format::MAX_PROOF_NODES;
 use crate::header::{read_end, read_header};
 use crate::node::Node;
@@ -27,9 +28,8 @@ use tt_text::{Feed, Source};
 pub struct NodeReader {
     alloc: Global,
     feed: Feed,
-    sizes: Sizes,
+    form: ProofForm,
     tables: Tables,
-    version: u8,
     bound: Bound,
     count: u32,
     places: u32,
@@ -44,9 +44,9 @@ impl Model for NodeReader {
 
     ghost Value = { Reader };
 
-    ghost view = { λ a. record { fed = a.feed; sizes = a.sizes; version = a.version; bound = a.bound; count = a.count; places = a.places; fault = a.fault } };
+    ghost view = { λ a. record { fed = a.feed; sizes = a.form.sizes; version = a.form.version; bound = a.bound; count = a.count; places = a.places; fault = a.fault } };
 
-    ghost invariant = { λ a. record { nodes : a.count ≤ MAX_PROOF_NODES; places : a.places ≤ a.count + 1; tables : AreTables a.sizes a.tables; feed : a.fault ≡ None → a.feed.fault ≡ None } };
+    ghost invariant = { λ a. record { nodes : a.count ≤ MAX_PROOF_NODES; places : a.places ≤ a.count + 1; tables : AreTables a.form.sizes a.tables; feed : a.fault ≡ None → a.feed.fault ≡ None } };
 }
 
 impl NodeReader {
@@ -74,9 +74,8 @@ impl NodeReader {
         Ok(NodeReader {
             alloc,
             feed,
-            sizes,
+            form: ProofForm { sizes, version },
             tables,
-            version,
             bound,
             count: 0,
             places: 1,
@@ -95,7 +94,7 @@ impl NodeReader {
     pub fn version(&self) -> u8
         ensures { result ≡ self.now.version }
     {
-        self.version
+        self.form.version
     }
 
     /// Returns whether the tree is complete.
@@ -127,13 +126,12 @@ impl NodeReader {
         if self.whole() {
             return Ok(None);
         }
-        let (sizes, version, count) = (self.sizes, self.version, self.count);
+        let (form, count) = (self.form, self.count);
         match read_node(
             self.alloc,
             &mut self.feed,
             source,
-            sizes,
-            version,
+            form,
             count,
             &mut self.tables,
         ) {

@@ -197,7 +197,8 @@ groups_unfinished p is parts bytes k spelled apart within (TargetClaimedElsewher
     let no : kind.Groups ≡ kind.Prices = kinds_same p bytes (GroupsFile k) (PricesFile reported.part) spelled reported.is in cc
 groups_unfinished p is parts bytes k spelled apart within TooLarge reported =
     let same : reported.part ≡ GroupsFile k = same_part p is bytes reported.part (GroupsFile k) reported.is spelled in
-    absurd (not_large (sum_of (parts ++ GroupsFile k ∷ [])) within (subst (λ (x : Part). IsLarge (sum_of (parts ++ x ∷ []))) same reported.large))
+    absurd (not_large (sum_of (parts ++ GroupsFile k ∷ [])) within
+    (subst (λ (x : Part). IsLarge (sum_of (parts ++ x ∷ []))) same reported.large))
 
 -- if groups with prices claim a target that one of the parts claims, the two are not apart
 pub prices_meet : (p : Problem) → IsInstance p → (parts : List Part) (bytes : List ℕ) (k : PricesPart) (name : ClaimedTarget) (e : ℕ)
@@ -227,7 +228,8 @@ prices_unfinished p is parts bytes k spelled apart within (TargetClaimedElsewher
     prices_meet p is parts bytes k name e spelled apart reported
 prices_unfinished p is parts bytes k spelled apart within TooLarge reported =
     let same : reported.part ≡ PricesFile k = same_part p is bytes reported.part (PricesFile k) reported.is spelled in
-    absurd (not_large (sum_of (parts ++ PricesFile k ∷ [])) within (subst (λ (x : Part). IsLarge (sum_of (parts ++ x ∷ []))) same reported.large))
+    absurd (not_large (sum_of (parts ++ PricesFile k ∷ [])) within
+    (subst (λ (x : Part). IsLarge (sum_of (parts ++ x ∷ []))) same reported.large))
 
 pub only_unfinished : (p : Problem) → IsInstance p → (parts : List Part) (bytes : List ℕ) (part : Part) → IsPart p bytes part
     → AreApart (parts ++ part ∷ []) → IsSmall (sum_of (parts ++ part ∷ [])) → (f : FileFault)

@@ -1,11 +1,10 @@
 //! A timetable without the lectures of a group, and what they cost.
 
-use crate::present::present_cost;
 use rand_pcg::Pcg32;
 use std::alloc::{AllocError, Global};
 use tt_instance::Instance;
 use tt_occupancy::Occupied;
-use tt_replan_tables::{Group, Links, Prices, Rooms, Sizes, Week};
+use tt_replan_tables::{Group, Links, Prices, Rooms, Seating, Sizes, Week};
 
 /// The rooms, the week without the lectures of a group, the links of all courses to it, and its prices.
 #[derive(Drop)]
@@ -39,13 +38,12 @@ impl Board {
             return false;
         }
         self.week.read(occupied, &self.rooms, &self.links, group);
-        self.prices
-            .find(occupied, &self.rooms, &self.week, group, rng, noise);
+        let seating = Seating {
+            occupied,
+            rooms: &self.rooms,
+            week: &self.week,
+        };
+        self.prices.find(&seating, group, rng, noise);
         true
-    }
-
-    /// Returns the cost of the present plan of a group.
-    pub fn present_cost(&self, group: &Group) -> u32 {
-        present_cost(&self.links, &self.week, &self.prices, group)
     }
 }

@@ -1,6 +1,7 @@
 //! Sets of members that can be taught in one period.
 
-use tt_replan_tables::{Group, Links, MOST_MEMBERS, Prices, Slot, Week};
+use crate::board::Board;
+use tt_replan_tables::{Group, Links, MOST_MEMBERS, Slot};
 
 /// The maximum number of sets of members.
 pub const MOST_LETTERS: usize = 1 << MOST_MEMBERS;
@@ -86,21 +87,15 @@ impl Alphabet {
 }
 
 /// Returns a set of members with its price in a period, or `None` if it may not be taught in it.
-pub fn priced(
-    letter: Letter,
-    week: &Week,
-    prices: &Prices,
-    group: &Group,
-    slot: usize,
-) -> Option<Letter> {
-    let place = week.slot(slot);
+pub fn priced(letter: Letter, board: &Board, group: &Group, slot: usize) -> Option<Letter> {
+    let place = board.week.slot(slot);
     if !is_open(place, letter.members) {
         return None;
     }
     let mut price: u32 = 0;
     for (number, member) in group.members().iter().enumerate() {
         if letter.members & member.set != 0 {
-            price = price.wrapping_add(prices.get(slot, number).noisy);
+            price = price.wrapping_add(board.prices.get(slot, number).noisy);
         }
     }
     Some(Letter {

@@ -1,9 +1,10 @@
 //! The steps to a plan.
 
+use crate::board::Board;
 use std::alloc::{AllocError, Global};
 use tt_moves::Step;
 use tt_occupancy::Occupied;
-use tt_replan_tables::{Own, Prices, Rooms, Week, cheapest_seat, entry_at, put, put_next};
+use tt_replan_tables::{Own, Seating, Week, entry_at, put, put_next};
 
 /// The maximum number of steps that lead to a plan.
 const MOST_STEPS: usize = 512;
@@ -73,12 +74,12 @@ impl Plan {
     }
 
     /// Moves an entry to a room of a period.
-    fn push_move(&mut self, rooms: &Rooms, week: &mut Week, entry: u32, slot: usize, rank: u32) {
-        week.seat(slot, rank, entry);
-        let (day, period) = week.day_and_period(slot);
+    fn push_move(&mut self, board: &mut Board, entry: u32, slot: usize, rank: u32) {
+        board.week.seat(slot, rank, entry);
+        let (day, period) = board.week.day_and_period(slot);
         self.push(Step::Move {
             entry,
-            room: rooms.room(rank),
+            room: board.rooms.room(rank),
             day,
             period,
         });
@@ -97,22 +98,20 @@ impl Plan {
     }
 
     /// Gives a lecture a seat in a period.
-    fn place(
-        &mut self,
-        occupied: &Occupied<'_, '_>,
-        rooms: &Rooms,
-        week: &mut Week,
-        own: Own,
-        slot: usize,
-    ) {
+    fn place(&mut self, occupied: &Occupied<'_, '_>, board: &mut Board, own: Own, slot: usize) {
+        let seating = Seating {
+            occupied,
+            rooms: &board.rooms,
+            week: &board.week,
+        };
         if let Some(entry) = entry_at(occupied, own.entry)
-            && let Some(seat) = cheapest_seat(occupied, rooms, week, entry.course, slot)
+            && let Some(seat) = seating.cheapest(entry.course, slot)
         {
             self.paid = self.paid.saturating_add(seat.cost);
             if let Some(evicted) = seat.evicted {
-                self.push_move(rooms, week, evicted.entry, slot, evicted.rank);
+                self.push_move(board, evicted.entry, slot, evicted.rank);
             }
-            self.push_move(rooms, week, own.entry, slot, seat.rank);
+            self.push_move(board, own.entry, slot, seat.rank);
         }
     }
 
@@ -127,23 +126,18 @@ impl Plan {
     }
 
     /// Finds the steps to the plan. No steps are made if the seats cost more than their prices.
-    pub fn find_steps(
-        &mut self,
-        occupied: &Occupied<'_, '_>,
-        rooms: &Rooms,
-        week: &mut Week,
-        prices: &Prices,
-    ) {
+    pub fn find_steps(&mut self, occupied: &Occupied<'_, '_>, board: &mut Board) {
         self.clear();
-        self.keep_staying(week);
-        for number in 0..week.own_count() {
-            let own = week.own(number);
+        self.keep_staying(&mut board.week);
+        for number in 0..board.week.own_count() {
+            let own = board.week.own(number);
             if !self.has(own.slot, own.member)
-                && let Some(slot) = self.take_slot(week, own.member)
+                && let Some(slot) = self.take_slot(&board.week, own.member)
             {
-                let price = prices.get(slot, own.member.trailing_zeros() as usize).plain;
+                let member = own.member.trailing_zeros() as usize;
+                let price = board.prices.get(slot, member).plain;
                 self.priced = self.priced.saturating_add(price);
-                self.place(occupied, rooms, week, own, slot);
+                self.place(occupied, board, own, slot);
             }
         }
         if self.paid > self.priced || self.count == MOST_STEPS {

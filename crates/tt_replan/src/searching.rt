@@ -4,6 +4,7 @@ use crate::board::Board;
 use crate::folding::Folder;
 use crate::letters::Alphabet;
 use crate::placing::Plan;
+use crate::present::present_cost;
 use crate::spelling::Speller;
 use std::alloc::{AllocError, Global};
 use tt_occupancy::Occupied;
@@ -32,14 +33,9 @@ impl Search {
     /// Finds the possible vectors of a day within the limit. Returns whether there are any, and not too many.
     fn find_day(&mut self, board: &Board, group: &Group, day: usize, limit: u32) -> bool {
         let first = day.wrapping_mul(board.week.periods);
-        self.speller.find(
-            &board.week,
-            &board.prices,
-            group,
-            &self.alphabet,
-            first,
-            limit,
-        ) && self.folder.take(&mut self.speller, day)
+        self.speller
+            .find(board, group, &self.alphabet, first, limit)
+            && self.folder.take(&mut self.speller, day)
     }
 
     /// Finds the possible vectors of each day within the limit, and returns a lower bound of the cost of all days.
@@ -73,13 +69,12 @@ impl Search {
 
     /// Plans a group whose lectures are not on the board. Returns whether the tables were large enough.
     pub fn plan(&mut self, occupied: &Occupied<'_, '_>, board: &mut Board, group: &Group) -> bool {
-        let limit = board.present_cost(group);
+        let limit = present_cost(board, group);
         let Some(least) = self.find_days(board, group, limit) else {
             return false;
         };
         if self.write_plan(board, group, limit, least) {
-            self.plan
-                .find_steps(occupied, &board.rooms, &mut board.week, &board.prices);
+            self.plan.find_steps(occupied, board);
         }
         true
     }

@@ -1,9 +1,10 @@
 //! The possible lectures of a day, and their costs.
 
+use crate::board::Board;
 use crate::letters::{Alphabet, Letter, MOST_LETTERS, priced};
 use std::alloc::{AllocError, Global};
 use tt_instance::ISOLATED_COST;
-use tt_replan_tables::{Group, MOST_STATES, POINT, Prices, Week, put, put_next};
+use tt_replan_tables::{Group, MOST_STATES, POINT, put, put_next};
 
 /// The maximum number of sequences of sets of a day.
 const MOST_SEQUENCES: usize = 50_000;
@@ -144,18 +145,17 @@ impl Speller {
     /// Finds the sets of members for each period of a day. Returns whether their number is within the limit.
     fn find_letters(
         &mut self,
-        week: &Week,
-        prices: &Prices,
+        board: &Board,
         group: &Group,
         alphabet: &Alphabet,
         first: usize,
     ) -> bool {
         let mut sequences: usize = 1;
         self.counts.fill(0);
-        for period in 0..week.periods {
+        for period in 0..board.week.periods {
             let slot = first.wrapping_add(period);
             for letter in alphabet.letters() {
-                if let Some(letter) = priced(*letter, week, prices, group, slot) {
+                if let Some(letter) = priced(*letter, board, group, slot) {
                     self.push(period, letter);
                 }
             }
@@ -212,18 +212,17 @@ impl Speller {
     /// Finds the possible lectures of a day within the limit. Returns whether the day could be searched.
     pub fn find(
         &mut self,
-        week: &Week,
-        prices: &Prices,
+        board: &Board,
         group: &Group,
         alphabet: &Alphabet,
         first: usize,
         limit: u32,
     ) -> bool {
-        if !self.find_letters(week, prices, group, alphabet, first) {
+        if !self.find_letters(board, group, alphabet, first) {
             return false;
         }
         self.found_count = 0;
-        self.spell(0, week.periods, Front::first(group.all()), limit);
+        self.spell(0, board.week.periods, Front::first(group.all()), limit);
         true
     }
 

@@ -8,6 +8,7 @@ mod places;
 mod prices;
 mod reading;
 mod rooms;
+mod seating;
 mod seats;
 mod week;
 
@@ -17,5 +18,6 @@ pub use places::{put, put_next};
 pub use prices::{Price, Prices};
 pub use reading::{Sizes, course_count, entry_at, sizes_of};
 pub use rooms::{MOST_ROOMS, POINT, Rank, Rooms};
-pub use seats::{Evicted, Seat, cheapest_seat};
+pub use seating::Seating;
+pub use seats::{Evicted, Seat};
 pub use week::{Own, Slot, Week};

@@ -3,12 +3,10 @@
 use crate::drawing::at_most;
 use crate::group::{Group, MOST_MEMBERS};
 use crate::places::put;
-use crate::rooms::{POINT, Rooms};
-use crate::seats::cheapest_seat;
-use crate::week::Week;
+use crate::rooms::POINT;
+use crate::seating::Seating;
 use rand_pcg::Pcg32;
 use std::alloc::{AllocError, Global};
-use tt_occupancy::Occupied;
 
 /// The maximum price of a seat; a more expensive seat counts as this.
 const DEAREST: u32 = 200 * POINT;
@@ -53,17 +51,16 @@ impl Prices {
     /// Finds the prices, each with a noise of its own.
     pub fn find(
         &mut self,
-        occupied: &Occupied<'_, '_>,
-        rooms: &Rooms,
-        week: &Week,
+        seating: &Seating<'_, '_, '_>,
         group: &Group,
         rng: &mut Pcg32,
         noise: u32,
     ) {
+        let week = seating.week;
         for slot in 0..week.len() {
             for (number, member) in group.members().iter().enumerate() {
                 if week.slot(slot).open & member.set != 0
-                    && let Some(seat) = cheapest_seat(occupied, rooms, week, member.course, slot)
+                    && let Some(seat) = seating.cheapest(member.course, slot)
                 {
                     let plain = seat.cost.min(DEAREST);
                     let noisy = plain.wrapping_add(at_most(rng, noise));

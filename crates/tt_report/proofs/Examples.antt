@@ -12,14 +12,17 @@ table = at 0 0 0 0 ∷ at 1 0 0 1 ∷ []
 
 by_room : report_lines mini table Room
     ≡ (Text (codes "room") ∷ Text (shown (codes "R")) ∷ [])
-    ∷ (Number 0 ∷ Number 0 ∷ Text (shown (codes "a")) ∷ []) ∷ (Number 0 ∷ Number 1 ∷ Text (shown (codes "b")) ∷ []) ∷ (Number 0 ∷ Number 2 ∷ []) ∷ []
+    ∷ (Number 0 ∷ Number 0 ∷ Text (shown (codes "a")) ∷ []) ∷ (Number 0 ∷ Number 1 ∷ Text (shown (codes "b")) ∷ []) ∷
+    (Number 0 ∷ Number 2 ∷ []) ∷ []
 by_room = refl
 
 by_teacher : report_lines mini table Teacher
     ≡ (Text (codes "teacher") ∷ Text (shown (codes "t1")) ∷ [])
-    ∷ (Number 0 ∷ Number 0 ∷ Text (shown (codes "a")) ∷ Text (shown (codes "R")) ∷ []) ∷ (Number 0 ∷ Number 1 ∷ []) ∷ (Number 0 ∷ Number 2 ∷ [])
+    ∷ (Number 0 ∷ Number 0 ∷ Text (shown (codes "a")) ∷ Text (shown (codes "R")) ∷ []) ∷ (Number 0 ∷ Number 1 ∷ []) ∷
+    (Number 0 ∷ Number 2 ∷ [])
     ∷ (Text (codes "teacher") ∷ Text (shown (codes "t2")) ∷ [])
-    ∷ (Number 0 ∷ Number 0 ∷ []) ∷ (Number 0 ∷ Number 1 ∷ Text (shown (codes "b")) ∷ Text (shown (codes "R")) ∷ []) ∷ (Number 0 ∷ Number 2 ∷ []) ∷ []
+    ∷ (Number 0 ∷ Number 0 ∷ []) ∷ (Number 0 ∷ Number 1 ∷ Text (shown (codes "b")) ∷ Text (shown (codes "R")) ∷ []) ∷
+    (Number 0 ∷ Number 2 ∷ []) ∷ []
 by_teacher = refl
 
 by_curriculum : report_lines mini table Curriculum

@@ -83,6 +83,7 @@ module _ {W : Type 0} (C : W → Option (List ℕ)) (F : W → Bool) where
   -- all chunks were put
   pub name_put : (first now : Output W) (name rest : List ℕ) → length rest ≡ 0 → NamePut first now name rest → Puts C F first now (shown name)
   name_put first now name rest none before =
-      let empty : letters_text (utf8_lossy rest) ≡ [] = ap letters_text (utf8_lossy_empty rest none) ∙ ap (flat_map letter_text) chars-nil in
+      let empty : letters_text (utf8_lossy rest) ≡ [] = ap letters_text (utf8_lossy_empty rest none) ∙ ap (flat_map letter_text) chars-nil
+      in
       subst (Puts C F first now)
       (sym (append-nil before.text) ∙ ap (λ z. before.text ++ z) (sym empty) ∙ before.whole ∙ shown_letters name) before.puts

@@ -77,7 +77,8 @@ pub time_made : (texts : List (List ℕ)) (count n : ℕ) (ns : List ℕ) → Ti
 time_made texts count n ns made is = record {
   long = length-append ns (n ∷ []) ∙ ap (λ k. k + 1) made.long;
   each = λ i below. elim (cases_lt i count) [
-    | inl l ↦ subst (IsTimeText (get_or texts i [])) (sym (get_or_append_left ns (n ∷ []) 0 i (omega (arith, l, made.long)))) (made.each i l)
+    | inl l ↦ subst (IsTimeText (get_or texts i [])) (sym (get_or_append_left ns (n ∷ []) 0 i (omega (arith, l, made.long))))
+        (made.each i l)
     | inr l ↦
         let here : i ≡ length ns = omega (arith, l, below, made.long) in
         let last : get_or (ns ++ n ∷ []) i 0 ≡ n = ap (λ k. get_or (ns ++ n ∷ []) k 0) here ∙ get_or-append_seam ns n [] 0 in

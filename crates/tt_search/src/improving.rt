@@ -1,14 +1,15 @@
 //! The improvement of a timetable.
 
-ghost use Rattle.std.specs.Prelude.{◌≡◌, ◌<◌, ◌≤◌, ◌-◌, ◌/◌, List, length, IfOk, OnOk};
+ghost use Rattle.std.specs.Prelude.{◌≡◌, ◌<◌, ◌≤◌, ◌-◌, ◌/◌, List, length, IfOk};
 ghost use Rattle.tt_instance.specs.declared.cell.Cell.{Cell};
 ghost use Rattle.tt_table.specs.Table.{IsTimetable};
 ghost use Rattle.tt_walk.specs.Improved.{IsNoWorse, LeadsWithin, IsDescended};
 ghost use Rattle.tt_walk.specs.Inner.Pairs.{IsBest};
+ghost use Rattle.tt_walk.specs.Inner.Standings.{IsAtBest};
 
 use crate::annealing::walk_by_annealing;
 use crate::planning::walk_by_plans;
-use crate::restoring::restore;
+use crate::restoring::return_to_best;
 use rand_pcg::Pcg32;
 use std::alloc::{AllocError, Global};
 use tt_instance::Instance;
@@ -17,37 +18,31 @@ use tt_occupancy::Occupied;
 use tt_plans_anneal::{Annealing, can_anneal};
 use tt_replan::{Replanner, can_replan};
 use tt_table::Timetable;
-use tt_walk::{
-    Best, Cooling, Phase, Schedule, Span, Walker, is_settled, phases_for, samples, walk,
-};
+use tt_walk::{Cooling, Schedule, Span, Standing, Walker, is_settled, phases_for, samples, walk};
 use tt_watch::Watch;
 
 /// Walks from the best timetable, and then returns to the best one so far. No memory is allocated.
 fn walk_phase<W: Watch>(
-    occupied: &mut Occupied<'_, '_>,
-    best: &mut Best,
+    standing: &mut Standing<'_, '_>,
     walker: &mut Walker,
-    phase: Phase,
+    cooling: Cooling,
     draws: u64,
-    samples: u64,
     span: Span,
     watch: &mut W,
 )
-    requires positive { 0 < length occupied.old.entries }
-    requires here { best.old.entries.items ≡ occupied.old.entries }
-    requires best { (t : List Cell) × IsBest occupied.old.problem t best.old }
-    ensures problem { occupied.new.problem ≡ occupied.old.problem }
-    ensures positive { 0 < length occupied.new.entries }
-    ensures here { best.new.entries.items ≡ occupied.new.entries }
-    ensures best { (t : List Cell) → IsBest occupied.old.problem t best.old
-        → IsBest occupied.old.problem t best.new }
-    ensures reached { LeadsWithin occupied.old.problem occupied.old.entries draws occupied.new.entries }
+    requires positive { 0 < length standing.old.occupied.entries }
+    requires here { IsAtBest standing.old }
+    requires best { (t : List Cell) × IsBest standing.old.occupied.problem t standing.old.best }
+    ensures problem { standing.new.occupied.problem ≡ standing.old.occupied.problem }
+    ensures positive { 0 < length standing.new.occupied.entries }
+    ensures here { IsAtBest standing.new }
+    ensures best { (t : List Cell) → IsBest standing.old.occupied.problem t standing.old.best
+        → IsBest standing.old.occupied.problem t standing.new.best }
+    ensures reached { LeadsWithin standing.old.occupied.problem standing.old.occupied.entries draws standing.new.occupied.entries }
 {
-    walker.begin(occupied);
-    let entries = occupied.table().len() as u64;
-    let cooling = Cooling::new(phase, draws, samples, best.pair.cost, entries);
-    walk(occupied, best, walker, cooling, draws, span, watch);
-    restore(occupied, &best.entries);
+    walker.begin(&standing.occupied);
+    walk(standing, walker, cooling, draws, span, watch);
+    return_to_best(standing);
 }
 
 /// Checks whether plans can be made from a timetable.
@@ -58,38 +53,39 @@ fn can_plan(occupied: &Occupied<'_, '_>) -> bool {
 /// Walks in phases, each from the best timetable so far, and then returns to the best one. Only the first phase is walked if plans can be
 /// made, and none begins once the search is to end. Returns the number of draws that the phases walked were given. No memory is allocated.
 fn walk_phases<W: Watch>(
-    occupied: &mut Occupied<'_, '_>,
-    best: &mut Best,
+    standing: &mut Standing<'_, '_>,
     walker: &mut Walker,
     is_settled: bool,
     draws: u64,
     limit: u64,
     watch: &mut W,
 ) -> u64
-    requires positive { 0 < length occupied.old.entries }
-    requires here { best.old.entries.items ≡ occupied.old.entries }
-    requires best { (t : List Cell) × IsBest occupied.old.problem t best.old }
-    ensures problem { occupied.new.problem ≡ occupied.old.problem }
-    ensures positive { 0 < length occupied.new.entries }
-    ensures here { best.new.entries.items ≡ occupied.new.entries }
-    ensures best { (t : List Cell) → IsBest occupied.old.problem t best.old
-        → IsBest occupied.old.problem t best.new }
+    requires positive { 0 < length standing.old.occupied.entries }
+    requires here { IsAtBest standing.old }
+    requires best { (t : List Cell) × IsBest standing.old.occupied.problem t standing.old.best }
+    ensures problem { standing.new.occupied.problem ≡ standing.old.occupied.problem }
+    ensures positive { 0 < length standing.new.occupied.entries }
+    ensures here { IsAtBest standing.new }
+    ensures best { (t : List Cell) → IsBest standing.old.occupied.problem t standing.old.best
+        → IsBest standing.old.occupied.problem t standing.new.best }
     ensures within { result ≤ draws }
-    ensures reached { LeadsWithin occupied.old.problem occupied.old.entries result occupied.new.entries }
+    ensures reached { LeadsWithin standing.old.occupied.problem standing.old.occupied.entries result standing.new.occupied.entries }
 {
     let phases = phases_for(is_settled);
     let samples = samples(draws);
+    let entries = standing.occupied.table().len() as u64;
     let mut made = 0;
     for phase in phases {
-        if watch.is_over() || (made > 0 && can_plan(occupied)) {
+        if watch.is_over() || (made > 0 && can_plan(&standing.occupied)) {
             break;
         }
         let next = phase.draws(draws, made);
+        let cooling = Cooling::new(*phase, next, samples, standing.best.pair.cost, entries);
         let span = Span {
             before: made,
             limit,
         };
-        walk_phase(occupied, best, walker, *phase, next, samples, span, watch);
+        walk_phase(standing, walker, cooling, next, span, watch);
         made += next;
     }
     made
@@ -97,29 +93,28 @@ fn walk_phases<W: Watch>(
 
 /// Makes plans from the best timetable, if plans can be made, and then returns to the best one so far. No memory is allocated.
 fn go_plans<W: Watch>(
-    occupied: &mut Occupied<'_, '_>,
-    best: &mut Best,
+    standing: &mut Standing<'_, '_>,
     replanner: &mut Replanner,
     rng: &mut Pcg32,
     schedule: Schedule,
     span: Span,
     watch: &mut W,
 )
-    requires positive { 0 < length occupied.old.entries }
-    requires here { best.old.entries.items ≡ occupied.old.entries }
-    requires best { (t : List Cell) × IsBest occupied.old.problem t best.old }
-    ensures problem { occupied.new.problem ≡ occupied.old.problem }
-    ensures here { best.new.entries.items ≡ occupied.new.entries }
-    ensures best { (t : List Cell) → IsBest occupied.old.problem t best.old
-        → IsBest occupied.old.problem t best.new }
-    ensures reached { LeadsWithin occupied.old.problem occupied.old.entries schedule.draws occupied.new.entries }
+    requires positive { 0 < length standing.old.occupied.entries }
+    requires here { IsAtBest standing.old }
+    requires best { (t : List Cell) × IsBest standing.old.occupied.problem t standing.old.best }
+    ensures problem { standing.new.occupied.problem ≡ standing.old.occupied.problem }
+    ensures here { IsAtBest standing.new }
+    ensures best { (t : List Cell) → IsBest standing.old.occupied.problem t standing.old.best
+        → IsBest standing.old.occupied.problem t standing.new.best }
+    ensures reached { LeadsWithin standing.old.occupied.problem standing.old.occupied.entries schedule.draws standing.new.occupied.entries }
 {
-    if !can_plan(occupied) {
+    if !can_plan(&standing.occupied) {
         return;
     }
-    replanner.begin(occupied, rng);
-    walk_by_plans(occupied, best, replanner, rng, schedule, span, watch);
-    restore(occupied, &best.entries);
+    replanner.begin(&standing.occupied, rng);
+    walk_by_plans(standing, replanner, rng, schedule, span, watch);
+    return_to_best(standing);
 }
 
 /// The number of steps of an annealing for each unit of the root of the number of draws; at most one for each entry and draw is made.
@@ -146,86 +141,62 @@ fn annealed_steps(draws: u64, entries: usize) -> u64 {
     draws.isqrt().saturating_mul(ANNEALED).min(most)
 }
 
-/// Moves to the best timetable that annealing finds.
-fn anneal_to_best<W: Watch>(
+/// Moves to the best timetable that annealing finds, and returns it.
+fn anneal_to_best<'a, 'i, W: Watch>(
     alloc: Global,
-    occupied: &mut Occupied<'_, '_>,
+    occupied: Occupied<'a, 'i>,
     seed: u64,
     draws: u64,
     limit: u64,
     watch: &mut W,
-) -> Result<(), AllocError>
-    ensures problem { occupied.new.problem ≡ occupied.old.problem }
-    ensures best { OnOk result (IsNoWorse occupied.old.problem occupied.old.entries occupied.new.entries) }
-    ensures reached { OnOk result (LeadsWithin occupied.old.problem occupied.old.entries draws occupied.new.entries) }
+) -> Result<Occupied<'a, 'i>, AllocError>
+    ensures problem { IfOk result (λ o. o.problem ≡ occupied.entry.problem) }
+    ensures best { IfOk result (λ o. IsNoWorse occupied.entry.problem occupied.entry.entries o.entries) }
+    ensures reached { IfOk result (λ o. LeadsWithin occupied.entry.problem occupied.entry.entries draws o.entries) }
 {
-    let mut best = Best::new(alloc, occupied)?;
-    let first = Vec::from_slice(alloc, occupied.table().entries())?;
-    let steps = annealed_steps(draws, occupied.table().len());
-    let mut annealing = Annealing::new(alloc, occupied, seed, steps)?;
+    let mut standing = Standing::new(alloc, occupied)?;
+    let first = Vec::from_slice(alloc, standing.occupied.table().entries())?;
+    let steps = annealed_steps(draws, first.len());
+    let mut annealing = Annealing::new(alloc, &standing.occupied, seed, steps)?;
     let span = Span { before: 0, limit };
-    walk_by_annealing(
-        occupied,
-        &mut best,
-        &first,
-        &mut annealing,
-        draws,
-        span,
-        watch,
-    );
-    restore(occupied, &best.entries);
-    Ok(())
+    walk_by_annealing(&mut standing, &first, &mut annealing, draws, span, watch);
+    return_to_best(&mut standing);
+    Ok(standing.occupied)
 }
 
-/// Moves to the best timetable that this many drawn steps lead to.
-fn walk_to_best<W: Watch>(
+/// Moves to the best timetable that this many drawn steps lead to, and returns it.
+fn walk_to_best<'a, 'i, W: Watch>(
     alloc: Global,
-    occupied: &mut Occupied<'_, '_>,
+    occupied: Occupied<'a, 'i>,
     seed: u64,
     draws: u64,
     limit: u64,
     watch: &mut W,
-) -> Result<(), AllocError>
-    ensures problem { occupied.new.problem ≡ occupied.old.problem }
-    ensures best { OnOk result (IsNoWorse occupied.old.problem occupied.old.entries occupied.new.entries) }
-    ensures reached { OnOk result (LeadsWithin occupied.old.problem occupied.old.entries draws occupied.new.entries) }
+) -> Result<Occupied<'a, 'i>, AllocError>
+    ensures problem { IfOk result (λ o. o.problem ≡ occupied.entry.problem) }
+    ensures best { IfOk result (λ o. IsNoWorse occupied.entry.problem occupied.entry.entries o.entries) }
+    ensures reached { IfOk result (λ o. LeadsWithin occupied.entry.problem occupied.entry.entries draws o.entries) }
 {
     if occupied.table().is_empty() {
-        return Ok(());
+        return Ok(occupied);
     }
-    if is_annealed(occupied, draws) {
+    if is_annealed(&occupied, draws) {
         return anneal_to_best(alloc, occupied, seed, draws, limit, watch);
     }
-    let mut best = Best::new(alloc, occupied)?;
-    let mut walker = Walker::new(alloc, occupied, seed)?;
-    let mut replanner = Replanner::new(alloc, occupied)?;
-    walker.begin(occupied);
-    let is_settled = is_settled(occupied, &mut walker);
-    let made = walk_phases(
-        occupied,
-        &mut best,
-        &mut walker,
-        is_settled,
-        draws,
-        limit,
-        watch,
-    );
+    let mut standing = Standing::new(alloc, occupied)?;
+    let mut walker = Walker::new(alloc, &standing.occupied, seed)?;
+    let mut replanner = Replanner::new(alloc, &standing.occupied)?;
+    walker.begin(&standing.occupied);
+    let is_settled = is_settled(&standing.occupied, &mut walker);
+    let made = walk_phases(&mut standing, &mut walker, is_settled, draws, limit, watch);
     let schedule = Schedule::new(draws - made, is_settled);
     let span = Span {
         before: made,
         limit,
     };
     let rng = &mut walker.rng;
-    go_plans(
-        occupied,
-        &mut best,
-        &mut replanner,
-        rng,
-        schedule,
-        span,
-        watch,
-    );
-    Ok(())
+    go_plans(&mut standing, &mut replanner, rng, schedule, span, watch);
+    Ok(standing.occupied)
 }
 
 /// Searches for a better timetable with the same courses, from a seed and a number of steps: half of them are drawn, and make a walk
@@ -245,10 +216,10 @@ pub fn improve<W: Watch>(
     ensures descended { IfOk result (IsDescended instance.now table (steps / 2) (steps - steps / 2)) }
 {
     let draws = steps / 2;
-    let Ok(mut occupied) = Occupied::new(alloc, instance, table) else {
+    let Ok(occupied) = Occupied::new(alloc, instance, table) else {
         return Err(AllocError);
     };
-    walk_to_best(alloc, &mut occupied, seed, draws, steps, watch)?;
+    let mut occupied = walk_to_best(alloc, occupied, seed, draws, steps, watch)?;
     descend_in(&mut occupied, steps - draws);
     Ok(occupied.into_timetable())
 }

@@ -4,12 +4,13 @@ ghost use Rattle.std.specs.Prelude.{◌≡◌, ◌<◌, ◌≤◌, ◌+◌, ℕ,
 ghost use Rattle.tt_instance.specs.declared.cell.Cell.{Cell};
 ghost use Rattle.tt_walk.specs.Improved.{courses_of, LeadsWithin};
 ghost use Rattle.tt_walk.specs.Inner.Pairs.{IsBest};
+ghost use Rattle.tt_walk.specs.Inner.Standings.{IsAtBest};
 
 use rand_pcg::Pcg32;
 use tt_moves::{Step, apply, can_step};
 use tt_occupancy::Occupied;
 use tt_replan::Replanner;
-use tt_walk::{Best, Schedule, Span, entry_to_move};
+use tt_walk::{Schedule, Span, Standing, entry_to_move};
 use tt_watch::Watch;
 
 /// The number of plans between two reports to the watch, and between two questions whether the search is to end.
@@ -68,23 +69,22 @@ fn make_plan(
 /// Makes plans until there are enough or the search is to end, and stores the best timetable on the way. Each of their steps is a draw. No
 /// memory is allocated.
 pub fn walk_by_plans<W: Watch>(
-    occupied: &mut Occupied<'_, '_>,
-    best: &mut Best,
+    standing: &mut Standing<'_, '_>,
     replanner: &mut Replanner,
     rng: &mut Pcg32,
     schedule: Schedule,
     span: Span,
     watch: &mut W,
 )
-    requires positive { 0 < length occupied.old.entries }
-    requires best { (t : List Cell) × (courses_of occupied.old.entries ≡ courses_of t)
-        × IsBest occupied.old.problem t best.old }
-    ensures problem { occupied.new.problem ≡ occupied.old.problem }
-    ensures courses { courses_of occupied.new.entries ≡ courses_of occupied.old.entries }
-    ensures best { (t : List Cell) → courses_of occupied.old.entries ≡ courses_of t
-        → IsBest occupied.old.problem t best.old → IsBest occupied.old.problem t best.new }
-    ensures reached { best.old.entries.items ≡ occupied.old.entries
-        → LeadsWithin occupied.old.problem occupied.old.entries schedule.draws best.new.entries.items }
+    requires positive { 0 < length standing.old.occupied.entries }
+    requires best { (t : List Cell) × (courses_of standing.old.occupied.entries ≡ courses_of t)
+        × IsBest standing.old.occupied.problem t standing.old.best }
+    ensures problem { standing.new.occupied.problem ≡ standing.old.occupied.problem }
+    ensures courses { courses_of standing.new.occupied.entries ≡ courses_of standing.old.occupied.entries }
+    ensures best { (t : List Cell) → courses_of standing.old.occupied.entries ≡ courses_of t
+        → IsBest standing.old.occupied.problem t standing.old.best → IsBest standing.old.occupied.problem t standing.new.best }
+    ensures reached { IsAtBest standing.old
+        → LeadsWithin standing.old.occupied.problem standing.old.occupied.entries schedule.draws standing.new.best.entries.items }
 {
     let mut made: u64 = 0;
     for plan in 0..schedule.plans {
@@ -92,11 +92,12 @@ pub fn walk_by_plans<W: Watch>(
             break;
         }
         let noise = schedule.noise(plan, made);
-        let steps = make_plan(occupied, replanner, rng, noise, schedule.draws - made);
+        let left = schedule.draws - made;
+        let steps = make_plan(&mut standing.occupied, replanner, rng, noise, left);
         made += steps;
-        best.keep(occupied);
+        standing.best.keep(&standing.occupied);
         if plan % PLANS_BETWEEN == 0 {
-            span.tell(watch, made, best);
+            span.tell(watch, made, &standing.best);
         }
     }
 }

@@ -110,7 +110,8 @@ module _ (p : Problem) (parts : List Part) (s : Stream) (apart : AreApart parts)
       let own = all_at (λ z. are_apart (claims_of z) (targets_of_claims claims)) (λ z. is_among (claims_of z) y ≡ true) parts (e - 1)
       reported.passed.free first.is.1 in
       let free : is_among (targets_of_claims claims) y ≡ false =
-      not_true_is (is_among (targets_of_claims claims) y) (λ here. not_both (claims_of own.0) (targets_of_claims claims) own.1 y own.2 here) in
+      not_true_is (is_among (targets_of_claims claims) y) (λ here. not_both (claims_of own.0) (targets_of_claims claims) own.1 y own.2 here)
+      in
       let found = first_of parts claims (group_targets k.group) _ first (Some e) (who-elsewhere parts claims e y apart free first.is) in
       inr (after_claims (groups.ClaimedElsewhere i e) reported
       (ap (λ (n : ℕ). groups.ClaimedElsewhere n e) (sym reported.is.0) ∙ sym (ap (said (length claims)) found)

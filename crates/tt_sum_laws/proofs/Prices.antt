@@ -167,8 +167,10 @@ module _ (p : Problem) (h : Header) where
       subst (λ (l : List PricedGroup). Contains l (priced p g))
       (sym (ap (groups_of p) split ∙ ap (map (priced p)) (groups_in-append xs (GroupPart g ∷ more))
       ∙ map-append (priced p) (groups_in xs) (g ∷ groups_in more)))
-      (Contains-append_right (map (priced p) (groups_in xs)) (priced p g ∷ map (priced p) (groups_in more)) (priced p g) (0, omega arith, refl)) in
-      let found = All-contains (λ (x : PricedGroup). (v : ℤ) × IsLeast p h.scale x (Some v)) (groups_of p ys) (priced p g) passed.least there in
+      (Contains-append_right (map (priced p) (groups_in xs)) (priced p g ∷ map (priced p) (groups_in more)) (priced p g)
+      (0, omega arith, refl)) in
+      let found = All-contains (λ (x : PricedGroup). (v : ℤ) × IsLeast p h.scale x (Some v)) (groups_of p ys) (priced p g) passed.least
+      there in
       none found.1.1.0 found.1.1.1
 
 -- ---- two faults of one stream
@@ -222,7 +224,8 @@ module _ (p : Problem) (s : Stream) where
       inr (after_parts (fault.ClaimedTwice i) reported (answer (Some (GroupPart g)) reported.is.2) reported.is.3
       (inl (ap (λ (n : ℕ). fault.ClaimedTwice n) (sym reported.is.0), reported.is.4))
       (λ ys on passed. over_claimed p reported.header reported.parts g on.more ys
-      (next_split reported.header.has_rooms reported.parts ys reported.rest reported.is.2 (GroupPart g) reported.is.3 on) passed reported.is.4))
+      (next_split reported.header.has_rooms reported.parts ys reported.rest reported.is.2 (GroupPart g) reported.is.3 on) passed
+      reported.is.4))
   told (fault.RentedTwice r) reported closed =
       let x = reported.is.0 in
       let twice = subst (λ (n : ℕ). has_number (rented reported.parts) n ≡ true) (sym reported.is.3) reported.is.4 in
@@ -236,7 +239,8 @@ module _ (p : Problem) (s : Stream) where
       inr (after_parts (fault.NoTimetable i) reported (answer (Some (GroupPart g)) reported.is.2) reported.is.3
       (inr (ap (λ (n : ℕ). fault.NoTimetable n) (sym reported.is.0), reported.is.4.0))
       (λ ys on passed. over_impossible p reported.header reported.parts g on.more ys
-      (next_split reported.header.has_rooms reported.parts ys reported.rest reported.is.2 (GroupPart g) reported.is.3 on) passed reported.is.4.1))
+      (next_split reported.header.has_rooms reported.parts ys reported.rest reported.is.2 (GroupPart g) reported.is.3 on) passed
+      reported.is.4.1))
   told (fault.TooFewPlaces c) reported closed =
       inr (after_parts (fault.TooFewPlaces c) reported (answer None reported.is.0) reported.is.1 (inl (c, refl, reported.is.2))
       (λ ys on passed.

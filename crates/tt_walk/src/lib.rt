@@ -16,6 +16,7 @@ mod sampling;
 mod schedule;
 mod settled;
 mod span;
+mod standing;
 mod violations;
 mod walking;
 
@@ -26,4 +27,5 @@ pub use sampling::entry_to_move;
 pub use schedule::Schedule;
 pub use settled::is_settled;
 pub use span::Span;
+pub use standing::Standing;
 pub use walking::{Walker, walk};

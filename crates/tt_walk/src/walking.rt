@@ -4,13 +4,14 @@ ghost use Rattle.std.specs.Prelude.{◌≡◌, ◌<◌, ◌+◌, ℕ, List, leng
 ghost use Rattle.tt_instance.specs.declared.cell.Cell.{Cell};
 ghost use Rattle.tt_walk.specs.Improved.{courses_of, LeadsWithin};
 ghost use Rattle.tt_walk.specs.Inner.Pairs.{IsBest};
+ghost use Rattle.tt_walk.specs.Inner.Standings.{IsAtBest};
 
-use crate::best::Best;
 use crate::cell_entries::CellEntries;
 use crate::cooling::Cooling;
 use crate::drawing::draw;
 use crate::open::Open;
 use crate::span::Span;
+use crate::standing::Standing;
 use rand_core::SeedableRng;
 use rand_pcg::Pcg32;
 use std::alloc::{AllocError, Global};
@@ -69,31 +70,30 @@ fn try_draw(occupied: &mut Occupied<'_, '_>, walker: &mut Walker, cooling: &mut 
 
 /// Makes drawn steps until there are enough or the search is to end, and stores the best timetable on the way. No memory is allocated.
 pub fn walk<W: Watch>(
-    occupied: &mut Occupied<'_, '_>,
-    best: &mut Best,
+    standing: &mut Standing<'_, '_>,
     walker: &mut Walker,
     cooling: Cooling,
     draws: u64,
     span: Span,
     watch: &mut W,
 )
-    requires positive { 0 < length occupied.old.entries }
-    requires best { (t : List Cell) × (courses_of occupied.old.entries ≡ courses_of t)
-        × IsBest occupied.old.problem t best.old }
-    ensures problem { occupied.new.problem ≡ occupied.old.problem }
-    ensures courses { courses_of occupied.new.entries ≡ courses_of occupied.old.entries }
-    ensures best { (t : List Cell) → courses_of occupied.old.entries ≡ courses_of t
-        → IsBest occupied.old.problem t best.old → IsBest occupied.old.problem t best.new }
-    ensures reached { best.old.entries.items ≡ occupied.old.entries
-        → LeadsWithin occupied.old.problem occupied.old.entries draws best.new.entries.items }
+    requires positive { 0 < length standing.old.occupied.entries }
+    requires best { (t : List Cell) × (courses_of standing.old.occupied.entries ≡ courses_of t)
+        × IsBest standing.old.occupied.problem t standing.old.best }
+    ensures problem { standing.new.occupied.problem ≡ standing.old.occupied.problem }
+    ensures courses { courses_of standing.new.occupied.entries ≡ courses_of standing.old.occupied.entries }
+    ensures best { (t : List Cell) → courses_of standing.old.occupied.entries ≡ courses_of t
+        → IsBest standing.old.occupied.problem t standing.old.best → IsBest standing.old.occupied.problem t standing.new.best }
+    ensures reached { IsAtBest standing.old
+        → LeadsWithin standing.old.occupied.problem standing.old.occupied.entries draws standing.new.best.entries.items }
 {
     let mut cooling = cooling;
     for made in 0..draws {
         if span.is_over(watch, made) {
             break;
         }
-        try_draw(occupied, walker, &mut cooling);
-        best.keep(occupied);
-        span.show(watch, made, best);
+        try_draw(&mut standing.occupied, walker, &mut cooling);
+        standing.best.keep(&standing.occupied);
+        span.show(watch, made, &standing.best);
     }
 }

@@ -25,10 +25,12 @@ one_room_more c rooms r = by_test (has_number rooms r) refl
     by_test : (b : Bool) → has_number rooms r ≡ b
         → other_rooms c rooms (r + 1) ≡ other_rooms c rooms r ++ cond b [] (no_entry (pattern_in c r) ∷ [])
     by_test true listed =
-        ap (map (λ k. no_entry (pattern_in c k))) (filter_more-failing (λ k. not (has_number rooms k)) r (not_from_true (has_number rooms r) listed))
+        ap (map (λ k. no_entry (pattern_in c k))) (filter_more-failing (λ k. not (has_number rooms k)) r
+        (not_from_true (has_number rooms r) listed))
         ∙ sym (append-nil (other_rooms c rooms r))
     by_test false other =
-        ap (map (λ k. no_entry (pattern_in c k))) (filter_more-passing (λ k. not (has_number rooms k)) r (not_from_false (has_number rooms r) other))
+        ap (map (λ k. no_entry (pattern_in c k))) (filter_more-passing (λ k. not (has_number rooms k)) r
+        (not_from_false (has_number rooms r) other))
         ∙ map-append (λ k. no_entry (pattern_in c k)) (filter (λ k. not (has_number rooms k)) (range_below r)) (r ∷ [])
 
 pub other_rooms_more : (c : ℕ) (rooms : List ℕ) (r : ℕ) (before facts more : List Fact) → facts ≡ before ++ other_rooms c rooms r

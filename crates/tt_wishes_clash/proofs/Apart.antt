@@ -108,7 +108,8 @@ module _ (p : Problem) (t : List Cell) (ok : IsFeasible p t) where
   not_in_one_room : (x y : Cell) → Contains t x → Contains t y → same_cell x y ≡ false → (x.day == y.day) ≡ true
       → (x.period == y.period) ≡ true → (x.room == y.room) ≡ true → ⊥
   not_in_one_room x y hx hy differ days periods rooms =
-      only_one same_cell (λ z. is_in x.room z && is_at (slot_of x) z) t x y (same_cell-itself x) (one_in p t ok x (in_range p t ok x hx)) hx hy
+      only_one same_cell (λ z. is_in x.room z && is_at (slot_of x) z) t x y (same_cell-itself x) (one_in p t ok x (in_range p t ok x hx)) hx
+      hy
       (and_from (is_in x.room x) (is_at (slot_of x) x) (eq-eqb x.room x.room refl) (at_itself x))
       (and_from (is_in x.room y) (is_at (slot_of x) y) (eqb-turn x.room y.room rooms)
       (and_from (y.day == x.day) (y.period == x.period) (eqb-turn x.day y.day days) (eqb-turn x.period y.period periods))) differ

@@ -31,7 +31,8 @@ a_lecture_stays = refl
 
 -- A period that is closed is unavailable for each course.
 a_period_is_closed : left_out small (Closed (period 0) ∷ [])
-    ≡ record { course = 0; day = 0; period = 0 } ∷ record { course = 1; day = 0; period = 0 } ∷ record { course = 2; day = 0; period = 0 } ∷ []
+    ≡ record { course = 0; day = 0; period = 0 } ∷ record { course = 1; day = 0; period = 0 } ∷ record { course = 2; day = 0; period = 0 } ∷
+    []
 a_period_is_closed = refl
 
 -- The only room of a course is closed in a period, in which the others have a room.

@@ -103,7 +103,8 @@ module _ (p : Problem) where
   all_inside =
       let P = IsUnavailabilityOf p in
       each_flat P (courses_on p) (all_days p)
-      (each_below (λ d. AllByRecursion P (courses_on p d)) p.days (λ d hd. each_flat P (λ s. courses_at p (slot d s)) (range_below p.periods)
+      (each_below (λ d. AllByRecursion P (courses_on p d)) p.days
+      (λ d hd. each_flat P (λ s. courses_at p (slot d s)) (range_below p.periods)
       (each_below (λ s. AllByRecursion P (courses_at p (slot d s))) p.periods (λ s hs. each_map P (λ c. unavailability c (slot d s))
       (all_courses p) (each_below (λ c. P (unavailability c (slot d s))) (length p.courses) (λ c hc. (hc, hd, hs)))))))
 
@@ -135,6 +136,7 @@ module _ (p : Problem) where
         list_all-swap differ p.unavailabilities some
         ∙ all_with (λ y. is_new p ws y ≡ true) (λ y. list_all (λ x. differ x y) p.unavailabilities) fresh some new in
         each_two-append differ p.unavailabilities some
-        ∙ and_from (each_two differ p.unavailabilities) (list_all (λ x. list_all (differ x) some) p.unavailabilities && each_two differ some)
+        ∙ and_from (each_two differ p.unavailabilities) (list_all (λ x. list_all (differ x) some) p.unavailabilities && each_two differ
+        some)
         ok.unavailabilities_once
         (and_from (list_all (λ x. list_all (differ x) some) p.unavailabilities) (each_two differ some) apart parts.0)

@@ -6,6 +6,7 @@ ghost use Rattle.tt_proof_sum.specs.Added.{Give};
 ghost use Rattle.tt_call_changed_page.specs.ChangedPaged.{IsChangedPaged, IsChangedPageRefusal, IsBeforeProofs, IsUnwritten, is_failed_write, is_failed_read_at};
 
 use crate::calls::said::said_of;
+use crate::changed_texts::ChangedTexts;
 use crate::fault::ChangedPageFault;
 use std::alloc::Global;
 use tt_call_names::{PageNames, labels_for};
@@ -29,17 +30,16 @@ pub struct ChangedForm<'a> {
 /// if there are any, and a style; the status is 0. Either solution may break hard rules.
 pub fn changed_page<R: Peek, W: Sink>(
     alloc: Global,
-    instance: &[u8],
-    solution: &[u8],
-    form: ChangedForm<'_>,
+    texts: ChangedTexts<'_>,
     proofs: &mut [R],
-    style: &str,
     sink: &mut W,
 ) -> Result<u8, ChangedPageFault>
     // The bytes written are the page with the changes and with what the proofs prove.
-    ensures written { IfOk result (IsChangedPaged instance.now solution.now form.entry style.now (length proofs.old) (Give R.remaining proofs.old) (W.contents sink.old) (W.contents sink.new)) }
+    ensures written { IfOk result (IsChangedPaged texts.entry.instance.now texts.entry.solution.now texts.entry.form texts.entry.style.now
+        (length proofs.old) (Give R.remaining proofs.old) (W.contents sink.old) (W.contents sink.new)) }
     // A refusal reports the first error.
-    ensures fault { IfErr result (IsChangedPageRefusal instance.now solution.now form.entry style.now (length proofs.old) (Give R.remaining proofs.old) (W.contents sink.old) (W.contents sink.new)) }
+    ensures fault { IfErr result (IsChangedPageRefusal texts.entry.instance.now texts.entry.solution.now texts.entry.form texts.entry.style.now
+        (length proofs.old) (Give R.remaining proofs.old) (W.contents sink.old) (W.contents sink.new)) }
     // If one of the three files or the names are refused, no proof is read.
     ensures unread { IfErr result (λ f. IsBeforeProofs f → proofs.new ≡ proofs.old) }
     // If any other error than a failed write is reported, nothing is written.
@@ -50,6 +50,12 @@ pub fn changed_page<R: Peek, W: Sink>(
     ensures failed_read { (i : ℕ) (r : R) → slice_get proofs.new i ≡ Some r →
         R.has_failed r ≡ (if is_err_and result (is_failed_read_at (i + 1)) then true else R.has_failed (slice_index_or proofs.old i r)) }
 {
+    let ChangedTexts {
+        instance,
+        solution,
+        form,
+        style,
+    } = texts;
     let instance = read_instance(alloc, instance)?;
     let table = read_solution(alloc, &instance, solution)?;
     let before = match read_solution(alloc, &instance, form.older) {

@@ -24,6 +24,7 @@ ghost use Rattle.tt_call_answers.specs.Refusals.{IsUnwritten, is_failed_write};
 ghost use Rattle.tt_call_answers.specs.Sums.{IsSpelledAndFileCheckedUpToFailedRead};
 ghost use Rattle.tt_call_answers.specs.Refusals.{is_failed_read_at};
 
+use crate::proved_texts::ProvedTexts;
 use std::alloc::Global;
 use tt_call_answers::AppFault;
 use tt_call_names::{PageNames, labels_for};
@@ -111,22 +112,22 @@ pub fn page<W: Sink>(
 /// found.
 pub fn proved_page<R: Peek, W: Sink>(
     alloc: Global,
-    instance: &[u8],
-    solution: &[u8],
-    names: PageNames<'_>,
+    texts: ProvedTexts<'_>,
     proofs: &mut [R],
-    style: &str,
     sink: &mut W,
 ) -> Result<u8, AppFault>
     // The bytes written are the page with what the sum of the derived bounds proves, and this sum holds.
-    ensures written { IfOk result (IsProvedPaged instance.now solution.now names.entry style.now (Give R.remaining proofs.old) (W.contents sink.old) (W.contents sink.new)) }
+    ensures written { IfOk result (IsProvedPaged texts.entry.instance.now texts.entry.solution.now texts.entry.names texts.entry.style.now
+        (Give R.remaining proofs.old) (W.contents sink.old) (W.contents sink.new)) }
     // A refusal reports the first error.
-    ensures fault { IfErr result (IsProvedPageRefusal instance.now solution.now names.entry style.now (Give R.remaining proofs.old) (W.contents sink.old) (W.contents sink.new)) }
+    ensures fault { IfErr result (IsProvedPageRefusal texts.entry.instance.now texts.entry.solution.now texts.entry.names texts.entry.style.now
+        (Give R.remaining proofs.old) (W.contents sink.old) (W.contents sink.new)) }
     // If both files are spelled, the names fit and the proofs have a sum below 2^64, a page with what this sum proves is written if it isn't too
     // large, and only then, unless the refusal says nothing about the bytes or a write fails.
-    ensures only { (p : Problem) (t : List Cell) (labels : Labelled) (files : List (List ℕ)) (b : Bound) → SpellsBoth instance.now solution.now p t →
-        labels_for p names.entry ≡ Ok labels → Give R.remaining proofs.old files → (h : IsSum p files b) → all_points h.parts < 2 ^ 64 →
-        (proved : Proved) × IsProvedBy p b proved × (let text = page_text p t labels proved style.now in
+    ensures only { (p : Problem) (t : List Cell) (labels : Labelled) (files : List (List ℕ)) (b : Bound) →
+        SpellsBoth texts.entry.instance.now texts.entry.solution.now p t →
+        labels_for p texts.entry.names ≡ Ok labels → Give R.remaining proofs.old files → (h : IsSum p files b) → all_points h.parts < 2 ^ 64 →
+        (proved : Proved) × IsProvedBy p b proved × (let text = page_text p t labels proved texts.entry.style.now in
         MatchResult result (λ _. Appends (W.contents sink.old) (W.contents sink.new) text × IsWithinLimit text) (λ f. IsSilentOrNotPut f text)) }
     // If the instance, the solution or the names are refused, no proof is read.
     ensures unread { IfErr result (λ f. IsBeforeProofs f → proofs.new ≡ proofs.old) }
@@ -139,18 +140,19 @@ pub fn proved_page<R: Peek, W: Sink>(
         R.has_failed r ≡ (if is_err_and result (is_failed_read_at (i + 1)) then true else R.has_failed (slice_index_or proofs.old i r)) }
     // If a failed read is reported, all the bytes of its proof before it have been checked.
     ensures up_to_failed_read { (i : ℕ) (r q : R) (bytes : List ℕ) → result ≡ Err (AppFault.ReadFailedIn (i + 1)) → slice_get proofs.old i ≡ Some r →
-        slice_get proofs.new i ≡ Some q → R.remaining r ≡ Some bytes → IsSpelledAndFileCheckedUpToFailedRead instance.now bytes (R.remaining q) }
+        slice_get proofs.new i ≡ Some q → R.remaining r ≡ Some bytes →
+        IsSpelledAndFileCheckedUpToFailedRead texts.entry.instance.now bytes (R.remaining q) }
     // A fault holds none of memory or of a failed read.
     ensures lower { IfErr result HoldsNoStop }
 {
-    let instance = read_instance(alloc, instance)?;
-    let table = read_solution(alloc, &instance, solution)?;
-    let labels = labels_for(alloc, &instance, names)?;
+    let instance = read_instance(alloc, texts.instance)?;
+    let table = read_solution(alloc, &instance, texts.solution)?;
+    let labels = labels_for(alloc, &instance, texts.names)?;
     let bound = sum_proofs(alloc, &instance, proofs)?;
     let proved = explain_bound(alloc, &instance, bound)?;
     let look = Look {
         labels: &labels,
-        style,
+        style: texts.style,
     };
     let shown = Shown::Whole(&proved);
     tt_page::page(alloc, &instance, &table, shown, &look, sink)?;

@@ -5,17 +5,18 @@ use std::alloc::Global;
 use std::cell::{Cell, RefCell};
 use std::io::{Error, ErrorKind, Write};
 use tt_call_answers::AppFault;
-use tt_call_changed_page::{ChangedForm, ChangedPageFault, changed_page};
+use tt_call_changed_page::{ChangedForm, ChangedPageFault, ChangedTexts, changed_page};
 use tt_call_changes::ChangesFault;
 use tt_call_kept::{KeptFault, KeptFiles};
 use tt_call_kept_page::{PageTexts as KeptTexts, kept_page};
 use tt_call_names::PageNames;
-use tt_call_texts::{PageForm, page, proved_page};
+use tt_call_texts::{PageForm, ProvedTexts, page, proved_page};
 use tt_cli_arguments::{GivenWeeks, PageRequest};
 use tt_cli_files::{Batch, Draft, Label, OutputFault, Place, Ready, Role, StandardStream, finish};
+use tt_cli_progress::{Shown, World, Written, clear, ticker_of};
 use tt_cli_saving::{
-    CommandFault, Input, Inputs, LastUnread, Prepared, Reply, Shown, Target, World, Written, clear,
-    fault_over, proof_files, read_if_given, ticker_of,
+    CommandFault, Input, Inputs, LastUnread, Prepared, Reply, Target, fault_over, proof_files,
+    read_if_given,
 };
 use tt_page::{STYLE, Sheet};
 use tt_text::{Sink, Writing};
@@ -48,10 +49,15 @@ fn fill_plain<P: Peek, W: Sink>(
         ..
     } = texts;
     if proofs.is_empty() {
-        page(alloc, instance, solution, form, STYLE, sink)
-    } else {
-        proved_page(alloc, instance, solution, form.names, proofs, STYLE, sink)
+        return page(alloc, instance, solution, form, STYLE, sink);
     }
+    let proved = ProvedTexts {
+        instance,
+        solution,
+        names: form.names,
+        style: STYLE,
+    };
+    proved_page(alloc, proved, proofs, sink)
 }
 
 /// Writes a page to a sink, with what changed since an older solution if there is one, and with the bound of the proofs if there are any.
@@ -70,8 +76,13 @@ fn fill_page<P: Peek, W: Sink>(
     } = texts;
     let names = form.names;
     if let Some(older) = older {
-        let form = ChangedForm { older, names };
-        return Ok(changed_page(alloc, instance, solution, form, proofs, STYLE, sink)?);
+        let changed = ChangedTexts {
+            instance,
+            solution,
+            form: ChangedForm { older, names },
+            style: STYLE,
+        };
+        return Ok(changed_page(alloc, changed, proofs, sink)?);
     }
     if let Some(wishes) = wishes {
         let kept = KeptTexts {

@@ -1,5 +1,5 @@
 -- What the tables of a path show.
-use Rattle.std.specs.Prelude.{◌≡◌, ℕ, ◌<◌, ◌==◌, Bool, false, not, ◌&&◌, List, [], ◌∷◌, ◌++◌, length, take, map, filter, slice_index_or}
+use Rattle.std.specs.Prelude.{◌≡◌, ℕ, ◌<◌, Bool, false, not, ◌&&◌, List, [], ◌∷◌, ◌++◌, length, take, map, filter, slice_index_or}
 use Rattle.std.specs.List.{list_any}
 use Rattle.tt_instance.specs.Problem.{Problem}
 use Rattle.tt_instance.specs.declared.cell.Cell.{Cell}
@@ -7,8 +7,7 @@ use Rattle.tt_path.specs.Facts.{matches}
 use Rattle.tt_path.specs.Live.{is_barred, is_live, excludes}
 use Rattle.tt_path.specs.declared.facts.Fact.{Fact}
 use Rattle.tt_path.specs.declared.facts.Pattern.{Pattern}
-use Rattle.tt_path_cells.specs.Inner.Tables.{IsTable, Shows, Loses}
-use Rattle.tt_path_cells.specs.Inner.Struck.{loses_room}
+use Rattle.tt_path_tables.specs.Inner.Tables.{IsTable, Shows, Loses}
 
 -- The cell isn't barred on the path.
 abbrev pub is_free_of : Problem → List Fact → Cell → Bool
@@ -24,10 +23,6 @@ pub record AreEarlier (p : Problem) (path : List Fact) (frees lives : List (List
   pub frees_len : length frees ≡ length path
   pub lives_len : length lives ≡ length path
   pub each : (i : ℕ) → i < length path → AreTables p (take i path) (slice_index_or frees i []) (slice_index_or lives i [])
-
--- The cells that a fact takes from the courses in one period.
-abbrev pub is_struck : Problem → List ℕ → Pattern → ℕ → ℕ → List ℕ → Cell → Bool
-is_struck p free g d s ks x = (x.day == d) && (x.period == s) && loses_room p free g d s ks x.course x.room
 
 -- The new table has lost exactly the cells that the pattern excludes, on any path with these free cells.
 pub record Settles (p : Problem) (free old : List ℕ) (g : Pattern) (new : List ℕ) : Type 0 where

@@ -22,7 +22,8 @@ pub returns-in_err-instance-clause-fault : goal.returns-in_err-instance-clause-f
 returns-in_err-instance-clause-fault g c =
     let e = err_from_is_err_and c.from_residual.result c.from_residual.ensures.1 in
     rw (e.1, e.2)
-    (tells_instance c.args.texts (Give g.R.Source.remaining c.args.proofs.now) _ _ c.in_err-instance.field-0.0 c.in_err-instance.ensures.exact)
+    (tells_instance c.args.texts (Give g.R.Source.remaining c.args.proofs.now) _ _ c.in_err-instance.field-0.0
+    c.in_err-instance.ensures.exact)
 
 pub returns-in_err-table-clause-fault : goal.returns-in_err-table-clause-fault
 returns-in_err-table-clause-fault g c =
@@ -36,7 +37,8 @@ returns-in_err-labels-clause-fault g c =
     let e = err_from_is_err_and c.from_residual-in_err-labels.result c.from_residual-in_err-labels.ensures.1 in
     rw (e.1, e.2)
     (tells_names c.args.texts (Give g.R.Source.remaining c.args.proofs.now) _ _ c.in_ok-instance.instance c.in_ok-table.table
-    (record { spelled = c.in_ok-instance.ensures.found; solved = c.in_ok-table.ensures.found }) c.in_err-labels.field-0.0 c.in_err-labels.ensures)
+    (record { spelled = c.in_ok-instance.ensures.found; solved = c.in_ok-table.ensures.found }) c.in_err-labels.field-0.0
+    c.in_err-labels.ensures)
 
 pub returns-in_err-wishes-clause-fault : goal.returns-in_err-wishes-clause-fault
 returns-in_err-wishes-clause-fault g c =
@@ -61,7 +63,8 @@ returns-in_err-bound-clause-fault g c =
     c.in_ok-instance.ensures.found c.in_ok-again.ensures.found made in
     let stop = c.in_err-bound.field-0.0 in
     rw (e.1, e.2)
-    (tells_sum c.args.texts (Give g.R.Source.remaining c.args.proofs.now) _ _ c.in_ok-instance.instance c.in_ok-instance.ensures.found ws stop
+    (tells_sum c.args.texts (Give g.R.Source.remaining c.args.proofs.now) _ _ c.in_ok-instance.instance c.in_ok-instance.ensures.found ws
+    stop
     c.in_ok-wishes.ensures.found
     (λ proofs given. subst (λ (q : Problem). IsSumStop q proofs stop.file stop.stop) is (c.in_err-bound.ensures.fault proofs given)))
 
@@ -79,7 +82,8 @@ returns-in_err-page-clause-fault g c =
     (record { spelled = c.in_ok-instance.ensures.found; solved = c.in_ok-table.ensures.found })
     c.in_ok-labels.labels ws bound c.in_err-page.field-0.0 c.in_ok-labels.ensures c.in_ok-wishes.ensures.found
     (λ proofs given. subst (λ (q : Problem). IsSum q proofs bound) is (c.in_ok-bound.ensures.found proofs given))
-    (λ failed. subst (λ (x : Proved). TakesPart (g.W.Sink.contents c.args.sink.now) (g.W.Sink.contents c.page.new.sink) (page_text c.in_ok-instance.instance c.in_ok-table.table c.in_ok-labels.labels x
+    (λ failed. subst (λ (x : Proved). TakesPart (g.W.Sink.contents c.args.sink.now) (g.W.Sink.contents c.page.new.sink)
+    (page_text c.in_ok-instance.instance c.in_ok-table.table c.in_ok-labels.labels x
     c.args.texts.style.now)) c.kept-proved.ensures (c.in_err-page.ensures.part (ap (λ f. Err f) failed)))
     (subst (λ (x : Proved). ExplainsSize c.in_err-page.field-0.0 (page_text c.in_ok-instance.instance c.in_ok-table.table
     c.in_ok-labels.labels x c.args.texts.style.now)) c.kept-proved.ensures c.in_err-page.ensures.size))
@@ -97,7 +101,8 @@ returns-clause-written g c =
     let is = narrowed_there c.args.texts.files.instance.now c.in_ok-instance.instance c.in_ok-again.again narrow ws
     c.in_ok-instance.ensures.found c.in_ok-again.ensures.found made in
     let bound = c.in_ok-bound.bound in
-    let text : Proved → List ℕ = λ x. page_text c.in_ok-instance.instance c.in_ok-table.table c.in_ok-labels.labels x c.args.texts.style.now in
+    let text : Proved → List ℕ = λ x. page_text c.in_ok-instance.instance c.in_ok-table.table c.in_ok-labels.labels x c.args.texts.style.now
+    in
     record {
       bound = bound;
       paged = record {
@@ -107,7 +112,8 @@ returns-clause-written g c =
         both = record { spelled = c.in_ok-instance.ensures.found; solved = c.in_ok-table.ensures.found };
         named = c.in_ok-labels.ensures;
         within = subst (λ (x : Proved). IsWithinLimit (text x)) c.kept-proved.ensures c.in_ok-page.ensures.size;
-        written = subst (λ (x : Proved). Appends (g.W.Sink.contents c.args.sink.now) (g.W.Sink.contents c.page.new.sink) (text x)) c.kept-proved.ensures c.in_ok-page.ensures.written;
+        written = subst (λ (x : Proved). Appends (g.W.Sink.contents c.args.sink.now) (g.W.Sink.contents c.page.new.sink) (text x))
+            c.kept-proved.ensures c.in_ok-page.ensures.written;
         done = refl;
       };
       listed = ws;

@@ -12,7 +12,8 @@ returns c p old_ok new_ok =
     let all : c.in_ok-all.all.items ≡ c.args.newer.now = search rules in
     let kept : c.deref.result.now ≡ left.older.items = search rules in
     let kept_rooms : c.deref-2.result.now ≡ rooms.older.items = search rules in
-    let first = paired_of Place c.args.older.now c.args.newer.now c.entries-2.result.now c.in_ok-all.all.items left.pairs.items left.older.items
+    let first = paired_of Place c.args.older.now c.args.newer.now c.entries-2.result.now c.in_ok-all.all.items left.pairs.items
+    left.older.items
     left.newer.items c.entries-2.ensures.value all c.in_ok-left.ensures in
     let second = paired_of Period left.older.items left.newer.items c.deref.result.now left.newer.items rooms.pairs.items rooms.older.items
     rooms.newer.items kept refl c.in_ok-rooms.ensures in

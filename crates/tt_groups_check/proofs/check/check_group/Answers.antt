@@ -10,7 +10,8 @@ use Rattle.tt_groups_week.specs.Fold.{AreReady}
 use Rattle.tt_groups_week.specs.WeekLists.{Suits, AreReached, AreShort}
 use Rattle.std.proofs.lemmas.List.Elements.{Contains-get_or}
 use Rattle.tt_instance.specs.Courses.{lectures}
-use Rattle.tt_groups_check.specs.CoursesAndSizes.{AreCoursesAndSizes}
+use Rattle.tt_groups.specs.Listed.{AreCourses}
+use Rattle.tt_groups_day.specs.Found.{AreDistinct}
 use Rattle.tt_groups_check.specs.Lists.{AreOfDays}
 use Rattle.tt_groups_week.specs.declared.moves.Move.{Move}
 use Rattle.tt_groups_check.proofs.CoursesAndSizes.{narrow_from, courses_below, digits_between, digits_few, base_bound}
@@ -101,24 +102,22 @@ pub lists_of-requires : goal.lists_of-requires
 lists_of-requires c =
     let p = c.args.instance.now in
     let g = c.args.group.now in
-    let cs = c.in_ok-courses.courses.items in
-    let d = c.in-Some.digits in
     let narrow = narrow_from p g c.args.value (sym c.is_too_wide.ensures ∙ c.if-is_too_wide.false) in
-    let is = c.in_ok-courses.ensures.value in
     let made = rw c.in-Some.is at c.in_ok-digits.ensures.made in
-    let there : AreCoursesAndSizes p g cs d.sizes.items d.courses = record {
-      group = c.in_ok-courses.ensures.courses;
-      distinct = c.in_ok-courses.ensures.distinct;
+    let same = c.deref-2.ensures.value in
+    let is : c.deref-2.result.now ≡ courses_of p g = same ∙ c.in_ok-courses.ensures.value in
+    record {
+      group = subst (λ (l : List ℕ). AreCourses p g l) (sym same) c.in_ok-courses.ensures.courses;
+      distinct = subst (λ (l : List ℕ). AreDistinct l) (sym same) c.in_ok-courses.ensures.distinct;
       at_most = omega (arith, narrow.concerned, ap length is);
       own = narrow.courses;
       curricula = narrow.curricula;
       in_range = subst (λ (l : List ℕ). All (λ n. n < length p.courses) l) (sym is) (courses_below p g);
       lectures_few = subst (λ (l : List ℕ). All (λ n. lectures p n ≤ 255) l) (sym is)
           (λ k e h. narrow.lectures_few (get_or (courses_of p g) k e) (Contains-get_or (courses_of p g) k e h));
-      sizes_are = made.0 ∙ c.in_ok-sizes.ensures ∙ ap (group_sizes p g) c.deref.ensures.value;
-      courses_are = omega (arith, made.1, c.len.ensures);
-    } in
-    subst (λ (l : List ℕ). AreCoursesAndSizes p g l d.sizes.items d.courses) (sym c.deref-2.ensures.value) there
+      sizes_are = made.0 ∙ c.in_ok-sizes.ensures ∙ ap (group_sizes p g) (c.deref.ensures.value ∙ sym same);
+      courses_are = omega (arith, made.1, c.len.ensures, ap length same);
+    }
 
 pub returns-clause-too_cheap : goal.returns-clause-too_cheap
 returns-clause-too_cheap c = λ is.

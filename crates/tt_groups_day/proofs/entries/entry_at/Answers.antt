@@ -4,8 +4,8 @@ use Rattle.tt_groups_day.proofs.entries.entry_at.Goals as goal
 
 pub returns-clause-amounts : goal.returns-clause-amounts
 returns-clause-amounts c = λ k has own.
-    let cs = c.args.courses.now in
-    let g = c.args.group.now in
+    let cs = c.args.shape.now.courses.now in
+    let g = c.args.shape.now.group.now in
     let long : length g.courses ≤ c.loop-j.j = omega (arith, c.loop-j-test.false, ap length c.courses-own.ensures) in
     record {
       amounts = two_amounts g cs c.loop-j.amounts k

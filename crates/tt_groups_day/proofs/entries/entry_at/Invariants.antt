@@ -8,6 +8,6 @@ invariant-loop-j l = record {
   long : length l.amounts ≡ 32;
   first : (i : ℕ) → i < length l.courses → slice_index l.amounts i ≡ slice_index l.lectures i;
   more : (k : Vector) → ((i : ℕ) → i < length l.courses → slice_index l.lectures i ≡ k (slice_index l.courses i))
-      → ((c : ℕ) → Contains l.group.courses c → Contains l.courses c)
-      → (i : ℕ) → i < l.j → slice_index l.amounts (length l.courses + i) ≡ k (slice_index l.group.courses i) - 1;
+      → ((c : ℕ) → Contains l.shape.group.now.courses c → Contains l.courses c)
+      → (i : ℕ) → i < l.j → slice_index l.amounts (length l.courses + i) ≡ k (slice_index l.shape.group.now.courses i) - 1;
 }

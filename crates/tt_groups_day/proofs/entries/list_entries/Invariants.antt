@@ -4,7 +4,7 @@ use Rattle.tt_groups_day.proofs.entries.list_entries.Given as goal
 
 abbrev pub invariant-loop-place : goal.invariant-loop-place
 invariant-loop-place l = record {
-  has : HasEntries l.group l.courses l.sizes l.weights l.bound l.table l.place l.entries.items;
-  own : AreEntriesOf l.group l.courses l.sizes l.weights l.bound l.table l.place l.entries.items;
+  has : HasEntries l.shape.group.now l.shape.courses.now l.shape.sizes.now l.shape.weights.now l.bound l.table l.place l.entries.items;
+  own : AreEntriesOf l.shape.group.now l.shape.courses.now l.shape.sizes.now l.shape.weights.now l.bound l.table l.place l.entries.items;
   few : length l.entries.items ≤ l.place;
 }

@@ -16,32 +16,31 @@ use Rattle.tt_groups_day.proofs.search.+try_days.Goals.{in-Some+in_ok-take_seque
 pub loop-set-preserved : goal.loop-set-preserved
 loop-set-preserved t c =
     let a = c.args in
-    let most = a.most.now in
-    let periods = a.periods.now in
-    let sets = a.sets.now in
+    let space = a.space.now in
+    let sets = space.sets.now in
     let m = a.morning.now in
     let i = c.loop-set.set-index in
     let set = get_or sets i no_set in
     let now = c.match-more.table in
     let before = c.loop-set.invariant in
-    let Found : ℕ → ℕ → Type 0 = λ k v. IsFound most periods sets a.period m k v in
+    let Found : ℕ → ℕ → Type 0 = λ k v. IsFound space a.period m k v in
     elim c.match-more.branch [
       | in-Some+in_ok-take_sequence+in_ok-try_days w ↦
           let falls : Falls c.loop-set.table now =
           λ k. omega (arith, w.in_ok-try_days.ensures.falls k, ap (λ (l : List ℕ). slice_index l k) w.table-is) in
-          let tried = with-next most periods sets a.bound a.period m w.in-Some.next set w.try_days.new.table w.in-Some.ensures.leads
+          let tried = with-next space a.period m w.in-Some.next set w.try_days.new.table w.in-Some.ensures.leads
           w.in_ok-try_days.ensures.tried in
           record {
             falls = λ k. omega (arith, falls k, before.falls k);
-            tried = with-more most periods sets a.bound a.period m i no_set c.loop-set.table now c.loop-set-test.true falls before.tried
-                (subst (λ (l : List ℕ). IsTriedWith most periods sets a.bound a.period m l set) (sym w.table-is) tried);
+            tried = with-more space a.period m i no_set c.loop-set.table now c.loop-set-test.true falls before.tried
+                (subst (λ (l : List ℕ). IsTriedWith space a.period m l set) (sym w.table-is) tried);
             found = made-more Found a.table.now c.loop-set.table now before.found
                 (λ k. subst (λ (l : List ℕ). (slice_index l k ≡ slice_index c.loop-set.table k) ⊎ Found k (slice_index l k))
                 (sym w.table-is) (elim (w.in_ok-try_days.ensures.found k) [
                   | inl e ↦ inl e
                   | inr f ↦ inr
-                      (found-next most periods sets a.period m w.in-Some.next set
-                      (omega (arith, c.requires.inside, c.if-period-periods.false))
+                      (found-next space a.period m w.in-Some.next set
+                      (omega (arith, c.requires.inside, c.if-period-space.false))
                       (Contains-get_or sets i no_set c.loop-set-test.true) w.in-Some.ensures.leads w.in-Some.ensures.open
                       w.in-Some.ensures.fitting
                       k (slice_index w.try_days.new.table k) f)
@@ -85,13 +84,13 @@ loop-set-preserved t c =
       | in_default w ↦
           let falls : Falls c.loop-set.table now = λ k. omega (arith, ap (λ (l : List ℕ). slice_index l k) w.table-is) in
           let barred = rw w.in_default.is at c.more.ensures.barred in
-          let tried : IsTriedWith most periods sets a.bound a.period m now set =
+          let tried : IsTriedWith space a.period m now set =
           λ p g cs weights d sets_before days len inside sets_are complete morning is.
-          barred p g cs weights now d sets_before (day_at p g cs d a.period most periods no_period sets_before days len inside) is
-          morning in
+          let period = day_at p g cs d a.period space.most.now space.periods.now no_period sets_before days len inside in
+          barred p g cs weights now d sets_before period is morning in
           record {
             falls = λ k. omega (arith, falls k, before.falls k);
-            tried = with-more most periods sets a.bound a.period m i no_set c.loop-set.table now c.loop-set-test.true falls before.tried
+            tried = with-more space a.period m i no_set c.loop-set.table now c.loop-set-test.true falls before.tried
                 tried;
             found = made-more Found a.table.now c.loop-set.table now before.found
                 (λ k. inl (ap (λ (l : List ℕ). slice_index l k) w.table-is));
@@ -113,37 +112,37 @@ loop-set-preserved t c =
 
 pub returns-clause-at_most : goal.returns-clause-at_most
 returns-clause-at_most t c =
-    let k = length c.args.sets.now in
-    let n = length c.args.periods.now - c.args.period in
-    let rest = length c.args.periods.now - (c.args.period + 1) in
-    let last : n ≡ rest + 1 = omega (arith, c.requires.inside, c.if-period-periods.false) in
+    let k = length c.args.space.now.sets.now in
+    let n = length c.args.space.now.periods.now - c.args.period in
+    let rest = length c.args.space.now.periods.now - (c.args.period + 1) in
+    let last : n ≡ rest + 1 = omega (arith, c.requires.inside, c.if-period-space.false) in
     let all = sequences_first k n c.loop-set.set-index rest last (omega (arith, c.loop-set.auto.set-index-end)) in
     omega (arith, c.loop-set.invariant.at_most, all)
 
 pub returns-in_err-take_try-clause-at_most : goal.returns-in_err-take_try-clause-at_most
 returns-in_err-take_try-clause-at_most t c =
-    let k = length c.args.sets.now in
-    let n = length c.args.periods.now - c.args.period in
-    let rest = length c.args.periods.now - (c.args.period + 1) in
-    let last : n ≡ rest + 1 = omega (arith, c.requires.inside, c.if-period-periods.false) in
+    let k = length c.args.space.now.sets.now in
+    let n = length c.args.space.now.periods.now - c.args.period in
+    let rest = length c.args.space.now.periods.now - (c.args.period + 1) in
+    let last : n ≡ rest + 1 = omega (arith, c.requires.inside, c.if-period-space.false) in
     let all = sequences_first k n (c.loop-set.set-index + 1) rest last (omega (arith, c.loop-set-test.true)) in
     omega (arith, c.loop-set.invariant.at_most, c.in_err-take_try.ensures.used_up.0, all)
 
 pub returns-in_err-take_sequence-clause-at_most : goal.returns-in_err-take_sequence-clause-at_most
 returns-in_err-take_sequence-clause-at_most t c =
-    let k = length c.args.sets.now in
-    let n = length c.args.periods.now - c.args.period in
-    let rest = length c.args.periods.now - (c.args.period + 1) in
-    let last : n ≡ rest + 1 = omega (arith, c.requires.inside, c.if-period-periods.false) in
+    let k = length c.args.space.now.sets.now in
+    let n = length c.args.space.now.periods.now - c.args.period in
+    let rest = length c.args.space.now.periods.now - (c.args.period + 1) in
+    let last : n ≡ rest + 1 = omega (arith, c.requires.inside, c.if-period-space.false) in
     let all = sequences_first k n (c.loop-set.set-index + 1) rest last (omega (arith, c.loop-set-test.true)) in
     omega (arith, c.loop-set.invariant.at_most, c.in_ok-take_try.ensures.taken, c.take_sequence.ensures.tries, all)
 
 pub returns-in_err-try_days-clause-at_most : goal.returns-in_err-try_days-clause-at_most
 returns-in_err-try_days-clause-at_most t c =
-    let k = length c.args.sets.now in
-    let n = length c.args.periods.now - c.args.period in
-    let rest = length c.args.periods.now - (c.args.period + 1) in
-    let last : n ≡ rest + 1 = omega (arith, c.requires.inside, c.if-period-periods.false) in
+    let k = length c.args.space.now.sets.now in
+    let n = length c.args.space.now.periods.now - c.args.period in
+    let rest = length c.args.space.now.periods.now - (c.args.period + 1) in
+    let last : n ≡ rest + 1 = omega (arith, c.requires.inside, c.if-period-space.false) in
     let all = sequences_first k n (c.loop-set.set-index + 1) rest last (omega (arith, c.loop-set-test.true)) in
     omega (
       arith,
@@ -156,10 +155,10 @@ returns-in_err-try_days-clause-at_most t c =
 
 pub returns-in_err-take_try-clause-too_few : goal.returns-in_err-take_try-clause-too_few
 returns-in_err-take_try-clause-too_few t c =
-    let k = length c.args.sets.now in
-    let n = length c.args.periods.now - c.args.period in
-    let rest = length c.args.periods.now - (c.args.period + 1) in
-    let last : n ≡ rest + 1 = omega (arith, c.requires.inside, c.if-period-periods.false) in
+    let k = length c.args.space.now.sets.now in
+    let n = length c.args.space.now.periods.now - c.args.period in
+    let rest = length c.args.space.now.periods.now - (c.args.period + 1) in
+    let last : n ≡ rest + 1 = omega (arith, c.requires.inside, c.if-period-space.false) in
     let all = sequences_first k n (c.loop-set.set-index + 1) rest last (omega (arith, c.loop-set-test.true)) in
     let few : c.args.work.now.tries < sequences_of k n =
     omega (arith, c.loop-set.invariant.at_most, c.in_err-take_try.ensures.used_up.0, all) in
@@ -167,10 +166,10 @@ returns-in_err-take_try-clause-too_few t c =
 
 pub returns-in_err-take_sequence-clause-too_few : goal.returns-in_err-take_sequence-clause-too_few
 returns-in_err-take_sequence-clause-too_few t c =
-    let k = length c.args.sets.now in
-    let n = length c.args.periods.now - c.args.period in
-    let rest = length c.args.periods.now - (c.args.period + 1) in
-    let last : n ≡ rest + 1 = omega (arith, c.requires.inside, c.if-period-periods.false) in
+    let k = length c.args.space.now.sets.now in
+    let n = length c.args.space.now.periods.now - c.args.period in
+    let rest = length c.args.space.now.periods.now - (c.args.period + 1) in
+    let last : n ≡ rest + 1 = omega (arith, c.requires.inside, c.if-period-space.false) in
     let all = sequences_first k n (c.loop-set.set-index + 1) rest last (omega (arith, c.loop-set-test.true)) in
     let few : c.args.work.now.sequences < sequences_of k n =
     omega (
@@ -186,10 +185,10 @@ returns-in_err-take_sequence-clause-too_few t c =
 
 pub returns-in_err-try_days-clause-too_few : goal.returns-in_err-try_days-clause-too_few
 returns-in_err-try_days-clause-too_few t c =
-    let k = length c.args.sets.now in
-    let n = length c.args.periods.now - c.args.period in
-    let rest = length c.args.periods.now - (c.args.period + 1) in
-    let last : n ≡ rest + 1 = omega (arith, c.requires.inside, c.if-period-periods.false) in
+    let k = length c.args.space.now.sets.now in
+    let n = length c.args.space.now.periods.now - c.args.period in
+    let rest = length c.args.space.now.periods.now - (c.args.period + 1) in
+    let last : n ≡ rest + 1 = omega (arith, c.requires.inside, c.if-period-space.false) in
     let all = sequences_first k n (c.loop-set.set-index + 1) rest last (omega (arith, c.loop-set-test.true)) in
     let few : (c.args.work.now.sequences < sequences_of k n) ⊎ (c.args.work.now.tries < sequences_of k n) =
     elim c.in_err-try_days.ensures.too_few [
@@ -216,22 +215,22 @@ returns-in_err-try_days-clause-too_few t c =
     let e = err_from_is_err_and c.from_residual-in_err-try_days.result c.from_residual-in_err-try_days.ensures.1 in
     rw e.1 few
 
-pub returns-then-period-periods-clause-tried : goal.returns-then-period-periods-clause-tried
-returns-then-period-periods-clause-tried t c =
-    tried-end c.args.most.now c.args.periods.now c.args.sets.now c.args.bound c.args.period c.args.morning.now c.end.new.table
-    c.if-period-periods.true (omega arith) c.end.ensures.there
+pub returns-then-period-space-clause-tried : goal.returns-then-period-space-clause-tried
+returns-then-period-space-clause-tried t c =
+    tried-end c.args.space.now c.args.period c.args.morning.now c.end.new.table
+    c.if-period-space.true (omega arith) c.end.ensures.there
 
 pub returns-clause-tried : goal.returns-clause-tried
 returns-clause-tried t c =
-    tried-all c.args.most.now c.args.periods.now c.args.sets.now c.args.bound c.args.period c.loop-set.set-index c.args.morning.now
-    c.loop-set.table (omega (arith, c.requires.inside, c.if-period-periods.false)) c.loop-set-test.false c.loop-set.invariant.tried
+    tried-all c.args.space.now c.args.period c.loop-set.set-index c.args.morning.now
+    c.loop-set.table (omega (arith, c.requires.inside, c.if-period-space.false)) c.loop-set-test.false c.loop-set.invariant.tried
 
-pub returns-then-period-periods-clause-found : goal.returns-then-period-periods-clause-found
-returns-then-period-periods-clause-found t c = λ k. elim (c.end.ensures.only k) [
+pub returns-then-period-space-clause-found : goal.returns-then-period-space-clause-found
+returns-then-period-space-clause-found t c = λ k. elim (c.end.ensures.only k) [
   | inl e ↦ inl e
   | inr f ↦
       let a = c.args in
-      let Found : ℕ → ℕ → Type 0 = IsFound a.most.now a.periods.now a.sets.now a.period a.morning.now in
-      let at = found-end a.most.now a.periods.now a.sets.now a.period a.morning.now c.if-period-periods.true (omega arith) in
+      let Found : ℕ → ℕ → Type 0 = IsFound a.space.now a.period a.morning.now in
+      let at = found-end a.space.now a.period a.morning.now c.if-period-space.true (omega arith) in
       inr (subst (λ (n : ℕ). Found n (slice_index c.end.new.table k)) (sym f.0) (subst (Found a.morning.now.place) (sym f.1) at))
 ]

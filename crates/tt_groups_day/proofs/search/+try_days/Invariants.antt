@@ -6,16 +6,17 @@ use Rattle.tt_groups_day.specs.Work.{sequences_of}
 use Rattle.tt_groups_day.proofs.search.+try_days.Given as goal
 
 abbrev pub decreases-try_days : goal.decreases-try_days
-decreases-try_days l = length l.periods.now - l.period
+decreases-try_days l = length l.space.now.periods.now - l.period
 
 abbrev pub invariant-loop-set : goal.invariant-loop-set
 invariant-loop-set l = record {
   falls : Falls l.initial.table l.table;
-  tried : All (IsTriedWith l.most l.periods l.sets l.bound l.period l.morning l.table) (take l.set-index l.sets);
-  found : (k : ℕ) → (slice_index l.table k ≡ slice_index l.initial.table k) ⊎ IsFound l.most l.periods l.sets l.period l.morning k
+  tried : All (IsTriedWith l.space l.period l.morning l.table) (take l.set-index l.space.sets.now);
+  found : (k : ℕ) → (slice_index l.table k ≡ slice_index l.initial.table k) ⊎ IsFound l.space l.period l.morning k
       (slice_index l.table k);
   sequences : l.work.sequences ≤ l.initial.work.sequences;
   tries : l.work.tries ≤ l.initial.work.tries;
   each_tried : l.initial.work.sequences + l.work.tries ≤ l.initial.work.tries + l.work.sequences;
-  at_most : l.initial.work.tries ≤ l.work.tries + l.set-index * (1 + sequences_of (length l.sets) (length l.periods - (l.period + 1)));
+  at_most : l.initial.work.tries ≤ l.work.tries + l.set-index
+      * (1 + sequences_of (length l.space.sets.now) (length l.space.periods.now - (l.period + 1)));
 }

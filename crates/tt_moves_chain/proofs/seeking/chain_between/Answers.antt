@@ -6,8 +6,8 @@ use Rattle.tt_moves_chain.proofs.seeking.chain_between.Goals as goal
 pub returns-in-Some : goal.returns-in-Some
 returns-in-Some c =
     let o = c.args.occupied.now in
-    let a = c.args.from in
-    let b = c.args.to in
+    let a = c.args.pair.from in
+    let b = c.args.pair.to in
     let ms = c.in-Ok.members.items in
     let is = c.as_slice.ensures.value in
     let w = c.in-Some.ensures in
@@ -23,8 +23,8 @@ returns-in-Some c =
 pub returns : goal.returns
 returns c =
     let o = c.args.occupied.now in
-    let a = c.args.from in
-    let b = c.args.to in
+    let a = c.args.pair.from in
+    let b = c.args.pair.to in
     let ms = c.in-Ok.members.items in
     let is = c.as_slice.ensures.value in
     let none = λ (k : ℕ) (l : k < length ms). ap (λ z. is_shut o.problem o.entries a b (get_or z k 0)) (sym is)

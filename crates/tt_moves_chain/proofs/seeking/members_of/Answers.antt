@@ -11,8 +11,8 @@ use Rattle.tt_moves_chain.proofs.seeking.members_of.Goals as goal
 pub returns-clause-chain : goal.returns-clause-chain
 returns-clause-chain c =
     let o = c.args.occupied.now in
-    let a = c.args.from in
-    let b = c.args.to in
+    let a = c.args.pair.from in
+    let b = c.args.pair.to in
     let fs = c.in_ok-flags.flags.items in
     let are = c.in_ok-places.ensures ∙ ap places c.as_slice.ensures.value in
     let in_p = subst (λ (z : Problem). IsSpread z c.entries-entries.result.now a b c.args.entry fs) c.instance.ensures

@@ -13,15 +13,17 @@ pub loop-j-preserved : goal.loop-j-preserved
 loop-j-preserved c =
     let p = c.args.instance.now in
     let t = c.args.entries.now in
-    let from = c.args.from in
+    let a = c.args.pair.from in
+    let b = c.args.pair.to in
+    let place = c.args.place in
     let j = c.loop-j.j in
     let inv = c.loop-j.invariant in
     let old = c.loop-j.flags.items in
     let none : Cell = record { course = 0; room = 0; day = 0; period = 0 } in
-    let x = slice_index_or t from none in
-    let here : (k : ℕ) (d : Cell) → j ≡ k → k < length t → linked p c.args.a c.args.b x (slice_index_or t k d) ≡ true
+    let x = slice_index_or t place none in
+    let here : (k : ℕ) (d : Cell) → j ≡ k → k < length t → linked p a b x (slice_index_or t k d) ≡ true
     → c.is_linked.result ≡ true = λ k d same short l.
-    c.is_linked.ensures ∙ subst (λ z. linked p c.args.a c.args.b x z ≡ true)
+    c.is_linked.ensures ∙ subst (λ z. linked p a b x z ≡ true)
     (get_or_default t k d none short ∙ ap (λ n. get_or t n none) (sym same)) l in
     let old = c.loop-j.flags.items in
     let waited = c.loop-j.waiting.items in
@@ -59,6 +61,6 @@ loop-j-preserved c =
       ];
       sound = λ m closed starts before i e. elim (only i e) [
         | inl f ↦ inv.sound m closed starts before i f
-        | inr f ↦ ap m f.0 ∙ closed.links from j none c.requires.from c.loop-j-test.true starts (sym c.is_linked.ensures ∙ f.1)
+        | inr f ↦ ap m f.0 ∙ closed.links place j none c.requires.place c.loop-j-test.true starts (sym c.is_linked.ensures ∙ f.1)
       ];
     }

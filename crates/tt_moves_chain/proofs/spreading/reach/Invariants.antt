@@ -8,8 +8,8 @@ use Rattle.tt_moves_chain.proofs.spreading.reach.Given as goal
 abbrev pub invariant-loop-j : goal.invariant-loop-j
 invariant-loop-j l = record {
   marking : IsMarking l.initial.flags.items l.initial.waiting.items l.flags.items l.waiting.items;
-  reached : (k : ℕ) (d : Cell) → k < l.j → linked l.instance l.a l.b l.x (slice_index_or l.entries k d) ≡ true
+  reached : (k : ℕ) (d : Cell) → k < l.j → linked l.instance l.pair.from l.pair.to l.x (slice_index_or l.entries k d) ≡ true
       → marked l.flags.items k ≡ true;
-  sound : (m : ℕ → Bool) → IsClosed l.instance l.entries l.a l.b m → m l.from ≡ true
+  sound : (m : ℕ → Bool) → IsClosed l.instance l.entries l.pair.from l.pair.to m → m l.place ≡ true
       → ((i : ℕ) → marked l.initial.flags.items i ≡ true → m i ≡ true) → (i : ℕ) → marked l.flags.items i ≡ true → m i ≡ true;
 }

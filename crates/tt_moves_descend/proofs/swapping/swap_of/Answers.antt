@@ -18,7 +18,8 @@ returns-then-not-feasible-clause-ok c =
     (λ scan. scan_more (NoSwapOf a.first) a.occupied.now later.new.occupied a.left.now later.new.left scan (NoSwapBy a.first)
     (λ after. inr (
       (λ zero. absurd
-          (let feasible = c.feasible.ensures.1 (hard_is a.occupied.now.problem a.occupied.now.entries c.score.result c.score.ensures ∙ zero) in
+          (let feasible = c.feasible.ensures.1 (hard_is a.occupied.now.problem a.occupied.now.entries c.score.result c.score.ensures ∙ zero)
+          in
           let broken = c.if-not-feasible.true in cc)),
       after,
     )))

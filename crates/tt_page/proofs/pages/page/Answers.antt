@@ -5,6 +5,7 @@ use Rattle.tt_page_text.specs.Puts.{put_text, too_many, window}
 use Rattle.tt_page_text.specs.Windowed.{PageState}
 use Rattle.tt_page_text.specs.declared.page_text.TheConstants.{PAGE_PIECE_BYTES}
 use Rattle.tt_page.specs.Pages.{shown_text}
+use Rattle.tt_page.specs.Proofs.{IsShownOf}
 use Rattle.tt_page.proofs.Pieces.{page_counted, page_too_large, size_of_write}
 use Rattle.tt_page.proofs.pages.page.Goals as goal
 
@@ -18,9 +19,17 @@ returns-in_default-clause-size g c =
     c.args.look.now.style.now)) in
     page_too_large PAGE_PIECE_BYTES text c.put_all.new.out c.total.result put c.total.ensures c.in_default.is
 
-pub write_pieces-requires-clause-score : goal.write_pieces-requires-clause-score
-write_pieces-requires-clause-score g c =
-    subst (λ (p : Planned). IsScore p.problem p.table c.score-score.result) (sym c.in_ok-plan.ensures) c.score-score.ensures
+pub put_all-requires : goal.put_all-requires
+put_all-requires g c = record {
+  score = subst (λ (p : Planned). IsScore p.problem p.table c.score-score.result) (sym c.in_ok-plan.ensures) c.score-score.ensures;
+  shown = subst (λ (p : Planned). IsShownOf p.problem c.args.shown) (sym c.in_ok-plan.ensures) c.requires.shown;
+}
+
+pub write_pieces-requires-clause-content : goal.write_pieces-requires-clause-content
+write_pieces-requires-clause-content g c = record {
+  score = subst (λ (p : Planned). IsScore p.problem p.table c.score-score.result) (sym c.in_ok-plan.ensures) c.score-score.ensures;
+  shown = subst (λ (p : Planned). IsShownOf p.problem c.args.shown) (sym c.in_ok-plan.ensures) c.requires.shown;
+}
 
 pub write_pieces-requires-clause-total : goal.write_pieces-requires-clause-total
 write_pieces-requires-clause-total g c =

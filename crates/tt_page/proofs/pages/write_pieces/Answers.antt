@@ -6,7 +6,7 @@ use Rattle.tt_page_text.specs.Puts.{put_text, too_many, window}
 use Rattle.tt_page_text.specs.Windowed.{PageState}
 use Rattle.tt_page_text.specs.declared.page_text.TheConstants.{PAGE_PIECE_BYTES}
 use Rattle.tt_page_text.proofs.Windows.{bytes_of_all, bytes_to_end, size_put}
-use Rattle.tt_page.specs.Pages.{shown_text}
+use Rattle.tt_page.specs.Inner.Contents.{content_text}
 use Rattle.tt_page.proofs.Pieces.{piece_further, piece_taken, piece_failed, pieces_taken}
 use Rattle.tt_page.proofs.pages.write_pieces.Goals as goal
 
@@ -16,7 +16,7 @@ if_err (Err e) p = p
 
 pub pieces-init : goal.pieces-init
 pieces-init g c =
-    let text = shown_text c.args.plan.now.problem c.args.plan.now.table c.args.look.now.labels.now c.args.shown c.args.look.now.style.now in
+    let text = content_text c.args.content.now in
     let within : length text ≤ too_many = omega (arith, c.requires.total, c.requires.within) in record {
       within = omega arith;
       size = ap (λ (s : PageState). s.size) c.requires.first ∙ size_put (window 0 PAGE_PIECE_BYTES too_many) text;
@@ -27,7 +27,7 @@ pieces-init g c =
 
 pub returns-in_err-write_all-clause-part : goal.returns-in_err-write_all-clause-part
 returns-in_err-write_all-clause-part g c =
-    let text = shown_text c.args.plan.now.problem c.args.plan.now.table c.args.look.now.labels.now c.args.shown c.args.look.now.style.now in
+    let text = content_text c.args.content.now in
     if_err c.from_residual.result
     (piece_failed (g.W.Sink.contents c.args.sink.now) (g.W.Sink.contents c.pieces.sink)
     (g.W.Sink.contents c.write_all.new.sink) text c.bytes.result.now c.pieces.from PAGE_PIECE_BYTES
@@ -35,7 +35,7 @@ returns-in_err-write_all-clause-part g c =
 
 pub returns-then-from-total-clause-written : goal.returns-then-from-total-clause-written
 returns-then-from-total-clause-written g c =
-    let text = shown_text c.args.plan.now.problem c.args.plan.now.table c.args.look.now.labels.now c.args.shown c.args.look.now.style.now in
+    let text = content_text c.args.content.now in
     let mid = g.W.Sink.contents c.pieces.sink in
     let after = g.W.Sink.contents c.write_all.new.sink in
     let bytes = c.bytes-in-pieces.result.now in
@@ -47,7 +47,7 @@ returns-then-from-total-clause-written g c =
 
 pub pieces-smaller : goal.pieces-smaller
 pieces-smaller g c =
-    let text = shown_text c.args.plan.now.problem c.args.plan.now.table c.args.look.now.labels.now c.args.shown c.args.look.now.style.now in
+    let text = content_text c.args.content.now in
     let bytes = c.bytes-in-pieces.result.now in
     let left : c.pieces.from + length bytes < c.args.total = c.if-from-total.false in
     let short : c.pieces.from + length bytes < length text = omega (arith, c.requires.total, left) in
@@ -57,7 +57,7 @@ pieces-smaller g c =
 
 pub pieces-preserved : goal.pieces-preserved
 pieces-preserved g c =
-    let text = shown_text c.args.plan.now.problem c.args.plan.now.table c.args.look.now.labels.now c.args.shown c.args.look.now.style.now in
+    let text = content_text c.args.content.now in
     let mid = g.W.Sink.contents c.pieces.sink in
     let after = g.W.Sink.contents c.write_all.new.sink in
     let bytes = c.bytes-in-pieces.result.now in

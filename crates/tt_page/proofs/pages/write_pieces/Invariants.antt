@@ -1,18 +1,16 @@
 use Rattle.std.proofs.Common.{◌≡◌, ◌-◌, ◌≤◌, drop, take}
 use Rattle.tt_text.proofs.TakenParts.{Taken}
 use Rattle.tt_page_text.specs.declared.page_text.TheConstants.{PAGE_PIECE_BYTES}
-use Rattle.tt_page.specs.Pages.{shown_text}
+use Rattle.tt_page.specs.Inner.Contents.{content_text}
 use Rattle.tt_page.proofs.pages.write_pieces.Given as goal
 
 abbrev pub invariant-pieces : goal.invariant-pieces
 invariant-pieces g l = record {
   within : l.from ≤ l.total;
   size : l.out.size ≡ PAGE_PIECE_BYTES;
-  piece : l.out.bytes ≡ take PAGE_PIECE_BYTES (drop l.from (shown_text l.plan.problem l.plan.table l.look.labels.now l.shown
-      l.look.style.now));
-  taken : Taken (g.W.Sink.contents l.fn.sink) (g.W.Sink.contents l.sink)
-      (shown_text l.plan.problem l.plan.table l.look.labels.now l.shown l.look.style.now)
-      (drop l.from (shown_text l.plan.problem l.plan.table l.look.labels.now l.shown l.look.style.now));
+  piece : l.out.bytes ≡ take PAGE_PIECE_BYTES (drop l.from (content_text l.content));
+  taken : Taken (g.W.Sink.contents l.fn.sink) (g.W.Sink.contents l.sink) (content_text l.content)
+      (drop l.from (content_text l.content));
   failed : g.W.Sink.has_failed l.sink ≡ g.W.Sink.has_failed l.fn.sink;
 }
 

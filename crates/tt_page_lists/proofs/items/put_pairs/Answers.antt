@@ -25,9 +25,9 @@ returns c =
     subst (λ o. IfSome o (λ x. c.later-2.result ≡ filter (is_at (slot_of x)) later)) c.requires.there c.later-2.ensures.group in
     let first = c.first_odd-first.ensures ∙ ap (λ (q : Problem). find (is_odd q r e) c.later.result) c.instance-instance.ensures
     ∙ odds_first p r e c.later.result later group in
-    let odds = c.count_odd-odds.ensures.value
+    let odds = c.count_odd-count.ensures.value
     ∙ ap (λ (q : Problem). count_by (is_odd q r e) c.later-2.result) c.instance-instance.ensures
     ∙ odds_many p r e c.later-2.result later again in
     (rw c.instance-instance.ensures at c.put_odds.ensures)
     ∙ ap (put_text c.args.out.now)
-    (pairs_text p c.args.labels.now r e later c.first_odd-first.result c.count_odd-odds.result first odds)
+    (pairs_text p c.args.labels.now r e later c.first_odd-first.result c.count_odd-count.result first odds)

@@ -7,6 +7,6 @@ use Rattle.tt_page_weeks.proofs.grids.put_cells.Given as goal
 
 abbrev pub invariant-loop-day : goal.invariant-loop-day
 invariant-loop-day l =
-    l.out ≡ put_text l.initial.out (flat_map (cell_text l.plan.problem l.plan.table l.view.labels.now l.view.is_linked l.kind
-    l.number l.own l.period)
+    l.out ≡ put_text l.initial.out (flat_map (cell_text l.plan.problem l.plan.table l.view.labels.now l.view.is_linked l.grid.kind
+    l.grid.number l.grid.own.now l.period)
     (range_below l.day))

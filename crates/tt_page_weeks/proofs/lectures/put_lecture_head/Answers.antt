@@ -16,4 +16,5 @@ returns c =
     let first = c.args.out.now in
     let middle = c.put_token.new.out in
     then_put first middle _
-    (codes "<div class=\"lecture") (hue_class (first_curriculum c.args.plan.now.problem c.args.course)) (class_put c) (rw c.first_curriculum.ensures at c.put_hue.ensures)
+    (codes "<div class=\"lecture") (hue_class (first_curriculum c.args.plan.now.problem c.args.course)) (class_put c)
+    (rw c.first_curriculum.ensures at c.put_hue.ensures)

@@ -8,8 +8,8 @@ loop-place-init c =
     let a = c.args in
     let d = a.denial.now in
     record {
-      asks = asks-none d.instance.now d.yes.now.patterns d.free.now.words d.pattern.now a.live.now.words (λ j. j < 0) c.requires.live
-          (λ j l u t. omega arith);
+      asks = asks-none d.basis.instance.now d.yes.now.patterns d.basis.free.now.words d.pattern.now a.live.now.words (λ j. j < 0)
+          c.requires.live (λ j l u t. omega arith);
       earlier = refl;
     }
 
@@ -22,8 +22,8 @@ loop-place-preserved c =
     let d = a.denial.now in
     let n = c.loop-place.place in
     record {
-      asks = asks-more d.instance.now d.yes.now.patterns d.free.now.words d.pattern.now a.live.now.words c.loop-place.live.words
-          c.settle_place.new.live.words (λ j. j < n) (λ j. j ≡ n) (λ j. j < n + 1) c.loop-place.invariant.asks
+      asks = asks-more d.basis.instance.now d.yes.now.patterns d.basis.free.now.words d.pattern.now a.live.now.words
+          c.loop-place.live.words c.settle_place.new.live.words (λ j. j < n) (λ j. j ≡ n) (λ j. j < n + 1) c.loop-place.invariant.asks
           c.in_ok-settle_place.ensures.ok (λ j l u t. elim (cases_lt j n) [
             | inl w ↦ inl w
             | inr w ↦ inr (omega arith)
@@ -35,6 +35,6 @@ pub returns-clause-ok : goal.returns-clause-ok
 returns-clause-ok c =
     let a = c.args in
     let d = a.denial.now in
-    asks-same d.instance.now d.yes.now.patterns d.free.now.words d.pattern.now a.live.now.words c.loop-place.live.words
+    asks-same d.basis.instance.now d.yes.now.patterns d.basis.free.now.words d.pattern.now a.live.now.words c.loop-place.live.words
     (λ j. j < c.loop-place.place) (λ j. j < length d.yes.now.patterns) c.loop-place.invariant.asks
     (λ j l u t. omega (arith, c.len-place-end.ensures))

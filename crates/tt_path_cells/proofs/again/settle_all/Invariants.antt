@@ -6,6 +6,7 @@ abbrev pub invariant-loop-place : goal.invariant-loop-place
 invariant-loop-place l =
     let d = l.denial in
     record {
-      asks : Asks d.instance.now d.yes.now.patterns d.free.now.words l.fn.live.words d.pattern.now (λ j. j < l.place) l.live.words;
+      asks : Asks d.basis.instance.now d.yes.now.patterns d.basis.free.now.words l.fn.live.words d.pattern.now (λ j. j < l.place)
+          l.live.words;
       earlier : l.live.earlier ≡ l.fn.live.earlier;
     }

@@ -9,11 +9,11 @@ pub loop-column-init : goal.loop-column-init
 loop-column-init c =
     let a = c.args in
     let d = a.denial.now in
-    let p = d.instance.now in
+    let p = d.basis.instance.now in
     let yes = d.yes.now.patterns in
     let from = c.slots_of-from.result.0 in
     record {
-      asks = asks-none p yes d.free.now.words d.pattern.now a.live.now.words
+      asks = asks-none p yes d.basis.free.now.words d.pattern.now a.live.now.words
           (λ j. (row_of p (pattern_at yes j).who ≡ a.row) × (from ≤ column_of p (pattern_at yes j))
           × (column_of p (pattern_at yes j) < from)) c.requires.live (λ j l u t. let v = u.1 in let w = u.2 in omega arith);
       earlier = refl;
@@ -29,13 +29,13 @@ pub loop-column-preserved : goal.loop-column-preserved
 loop-column-preserved c =
     let a = c.args in
     let d = a.denial.now in
-    let p = d.instance.now in
+    let p = d.basis.instance.now in
     let yes = d.yes.now.patterns in
     let from = c.slots_of-from.result.0 in
     let n = c.loop-column.column in
     let shelf = c.shelf_at.result in
     record {
-      asks = asks-more p yes d.free.now.words d.pattern.now a.live.now.words c.loop-column.live.words c.settle_shelf.new.live.words
+      asks = asks-more p yes d.basis.free.now.words d.pattern.now a.live.now.words c.loop-column.live.words c.settle_shelf.new.live.words
           (λ j. (row_of p (pattern_at yes j).who ≡ a.row) × (from ≤ column_of p (pattern_at yes j))
           × (column_of p (pattern_at yes j) < n))
           (λ j. shelf_of p (pattern_at yes j) ≡ shelf)
@@ -54,7 +54,7 @@ pub returns-clause-ok : goal.returns-clause-ok
 returns-clause-ok c =
     let a = c.args in
     let d = a.denial.now in
-    let p = d.instance.now in
+    let p = d.basis.instance.now in
     let yes = d.yes.now.patterns in
     let from = c.slots_of-from.result.0 in
     let to = c.slots_of-from.result.1 in
@@ -62,7 +62,7 @@ returns-clause-ok c =
     let shelf = c.shelf_at-2.result in
     let last : last_of p ≡ c.days-days.result * c.periods-periods.result =
     ap (λ n. n * p.periods) (sym c.days-days.ensures.value) ∙ ap (λ n. c.days-days.result * n) (sym c.periods-periods.ensures.value) in
-    asks-more p yes d.free.now.words d.pattern.now a.live.now.words c.loop-column.live.words c.settle_shelf-2.new.live.words
+    asks-more p yes d.basis.free.now.words d.pattern.now a.live.now.words c.loop-column.live.words c.settle_shelf-2.new.live.words
     (λ j. (row_of p (pattern_at yes j).who ≡ a.row) × (from ≤ column_of p (pattern_at yes j))
     × (column_of p (pattern_at yes j) < n))
     (λ j. shelf_of p (pattern_at yes j) ≡ shelf)

@@ -6,10 +6,10 @@ use Rattle.tt_path_cells.proofs.again.settle_row.Given as goal
 abbrev pub invariant-loop-column : goal.invariant-loop-column
 invariant-loop-column l =
     let d = l.denial in
-    let p = d.instance.now in
+    let p = d.basis.instance.now in
     let yes = d.yes.now.patterns in
     record {
-      asks : Asks p yes d.free.now.words l.fn.live.words d.pattern.now
+      asks : Asks p yes d.basis.free.now.words l.fn.live.words d.pattern.now
           (λ j. (row_of p (pattern_at yes j).who ≡ l.row) × (l.from ≤ column_of p (pattern_at yes j))
           × (column_of p (pattern_at yes j) < l.column)) l.live.words;
       earlier : l.live.earlier ≡ l.fn.live.earlier;

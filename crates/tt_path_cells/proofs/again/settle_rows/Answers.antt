@@ -1,4 +1,4 @@
-use Rattle.std.proofs.Common.{◌≡◌, ◌+◌, ◌<◌, true, false, length, take, refl, sym, ap, ◌∙◌, arith, inl, inr}
+use Rattle.std.proofs.Common.{◌≡◌, ◌+◌, ◌<◌, true, length, take, refl, sym, ap, ◌∙◌, arith, inl, inr}
 use Rattle.std.specs.Prelude.{slice_index_or}
 use Rattle.std.proofs.Math.Seq.{take-length}
 use Rattle.std.proofs.lemmas.Bool.{both_ways}
@@ -13,11 +13,11 @@ pub loop-course-init : goal.loop-course-init
 loop-course-init c =
     let a = c.args in
     let d = a.denial.now in
-    let p = d.instance.now in
+    let p = d.basis.instance.now in
     let yes = d.yes.now.patterns in
     let ks = c.courses_of-course-items.result.now in
     record {
-      asks = asks-none p yes d.free.now.words d.pattern.now a.live.now.words
+      asks = asks-none p yes d.basis.free.now.words d.pattern.now a.live.now.words
           (λ j. (row_of p (pattern_at yes j).who < length p.courses)
           × (has_number (take 0 ks) (row_of p (pattern_at yes j).who) ≡ true)) c.requires.live
           (λ j l u t. both_ways (has_number (take 0 ks) (row_of p (pattern_at yes j).who)) refl u.1);
@@ -31,13 +31,13 @@ pub loop-course-preserved : goal.loop-course-preserved
 loop-course-preserved c =
     let a = c.args in
     let d = a.denial.now in
-    let p = d.instance.now in
+    let p = d.basis.instance.now in
     let yes = d.yes.now.patterns in
     let ks = c.courses_of-course-items.result.now in
     let i = c.loop-course.course-index in
     let inside : i < length ks = omega arith in
     record {
-      asks = asks-more p yes d.free.now.words d.pattern.now a.live.now.words c.loop-course.live.words c.settle_row.new.live.words
+      asks = asks-more p yes d.basis.free.now.words d.pattern.now a.live.now.words c.loop-course.live.words c.settle_row.new.live.words
           (λ j. (row_of p (pattern_at yes j).who < length p.courses)
           × (has_number (take i ks) (row_of p (pattern_at yes j).who) ≡ true))
           (λ j. row_of p (pattern_at yes j).who ≡ slice_index_or ks i 0)
@@ -55,13 +55,13 @@ pub loop-course-preserved-then-course-courses : goal.loop-course-preserved-then-
 loop-course-preserved-then-course-courses c =
     let a = c.args in
     let d = a.denial.now in
-    let p = d.instance.now in
+    let p = d.basis.instance.now in
     let yes = d.yes.now.patterns in
     let ks = c.courses_of-course-items.result.now in
     let i = c.loop-course.course-index in
     let inside : i < length ks = omega arith in
     record {
-      asks = asks-same p yes d.free.now.words d.pattern.now a.live.now.words c.loop-course.live.words
+      asks = asks-same p yes d.basis.free.now.words d.pattern.now a.live.now.words c.loop-course.live.words
           (λ j. (row_of p (pattern_at yes j).who < length p.courses)
           × (has_number (take i ks) (row_of p (pattern_at yes j).who) ≡ true))
           (λ j. (row_of p (pattern_at yes j).who < length p.courses)
@@ -78,14 +78,14 @@ pub returns-clause-ok : goal.returns-clause-ok
 returns-clause-ok c =
     let a = c.args in
     let d = a.denial.now in
-    let p = d.instance.now in
+    let p = d.basis.instance.now in
     let yes = d.yes.now.patterns in
     let ks = c.courses_of-course-items.result.now in
     let i = c.loop-course.course-index in
     let end : i ≡ length ks = omega arith in
     let whole : courses_of p d.pattern.now.who ≡ take i ks =
     sym (ap (λ n. take n ks) end ∙ take-length ks ∙ c.courses_of-course-items.ensures) in
-    asks-more p yes d.free.now.words d.pattern.now a.live.now.words c.loop-course.live.words c.settle_row-2.new.live.words
+    asks-more p yes d.basis.free.now.words d.pattern.now a.live.now.words c.loop-course.live.words c.settle_row-2.new.live.words
     (λ j. (row_of p (pattern_at yes j).who < length p.courses)
     × (has_number (take i ks) (row_of p (pattern_at yes j).who) ≡ true))
     (λ j. row_of p (pattern_at yes j).who ≡ c.courses-courses.result)

@@ -7,10 +7,10 @@ use Rattle.tt_path_cells.proofs.again.settle_rows.Given as goal
 abbrev pub invariant-loop-course : goal.invariant-loop-course
 invariant-loop-course l =
     let d = l.denial in
-    let p = d.instance.now in
+    let p = d.basis.instance.now in
     let yes = d.yes.now.patterns in
     record {
-      asks : Asks p yes d.free.now.words l.fn.live.words d.pattern.now
+      asks : Asks p yes d.basis.free.now.words l.fn.live.words d.pattern.now
           (λ j. (row_of p (pattern_at yes j).who < length p.courses)
           × (has_number (take l.course-index l.course-items) (row_of p (pattern_at yes j).who) ≡ true)) l.live.words;
       earlier : l.live.earlier ≡ l.fn.live.earlier;

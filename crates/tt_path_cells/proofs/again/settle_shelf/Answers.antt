@@ -11,13 +11,13 @@ pub loop-above-init : goal.loop-above-init
 loop-above-init c =
     let a = c.args in
     let d = a.denial.now in
-    let p = d.instance.now in
+    let p = d.basis.instance.now in
     let yes = d.yes.now.patterns in
     let h = subst (λ q. IsNewest q yes (length yes) a.shelf c.newest-above.result) c.requires.same c.newest-above.ensures in
     record {
       within = h.within;
       here = h.here;
-      asks = above-first p yes d.free.now.words d.pattern.now a.live.now.words a.shelf c.newest-above.result c.requires.live h;
+      asks = above-first p yes d.basis.free.now.words d.pattern.now a.live.now.words a.shelf c.newest-above.result c.requires.live h;
       earlier = refl;
     }
 
@@ -34,7 +34,7 @@ pub loop-above-preserved : goal.loop-above-preserved
 loop-above-preserved c =
     let a = c.args in
     let d = a.denial.now in
-    let p = d.instance.now in
+    let p = d.basis.instance.now in
     let yes = d.yes.now.patterns in
     let m = c.loop-above.above in
     let i = c.loop-above.invariant in
@@ -45,7 +45,7 @@ loop-above-preserved c =
     record {
       within = omega (arith, i.within);
       here = λ l. h.here l ∙ i.here some;
-      asks = above-next p yes d.free.now.words d.pattern.now a.live.now.words a.shelf m c.older-above.result c.loop-above.live.words
+      asks = above-next p yes d.basis.free.now.words d.pattern.now a.live.now.words a.shelf m c.older-above.result c.loop-above.live.words
           c.settle_place.new.live.words some (i.here some) h i.asks c.in_ok-settle_place.ensures.ok;
       earlier = c.settle_place.ensures.unchanged ∙ i.earlier;
     }
@@ -54,8 +54,8 @@ pub returns-clause-ok : goal.returns-clause-ok
 returns-clause-ok c =
     let a = c.args in
     let d = a.denial.now in
-    let p = d.instance.now in
+    let p = d.basis.instance.now in
     let yes = d.yes.now.patterns in
-    asks-same p yes d.free.now.words d.pattern.now a.live.now.words c.loop-above.live.words
+    asks-same p yes d.basis.free.now.words d.pattern.now a.live.now.words c.loop-above.live.words
     (λ j. (c.loop-above.above ≤ j) × (shelf_of p (pattern_at yes j) ≡ a.shelf)) (λ j. shelf_of p (pattern_at yes j) ≡ a.shelf)
     c.loop-above.invariant.asks (λ j l u t. (omega arith, u))

@@ -7,9 +7,10 @@ returns-then-not-is_new-clause-listing c =
     let a = c.args in
     let yes = a.yes.now.patterns in
     let m = c.is_new-is_new.result in
-    same_listing _ _ _ _ _ yes c.in_ok-push.ensures.items c.in_default.ensures.items (added-none yes a.fact m c.if-not-is_new.true)
-    (listing-pushed a.facts.now.items a.firsts.now.items yes a.fact m c.requires.listing
-    (c.is_new-is_new.ensures ∙ ap (λ b. a.fact.holds && not b) c.requires.listed))
+    same_listing _ _ _ _ _ yes c.in_ok-push.ensures.items c.in_default.ensures.items
+    (added-none yes a.added.now.fact m c.if-not-is_new.true)
+    (listing-pushed a.facts.now.items a.firsts.now.items yes a.added.now.fact m c.requires.listing
+    (c.is_new-is_new.ensures ∙ ap (λ b. a.added.now.fact.holds && not b) c.requires.listed))
 
 pub returns-clause-listing : goal.returns-clause-listing
 returns-clause-listing c =
@@ -17,6 +18,6 @@ returns-clause-listing c =
     let yes = a.yes.now.patterns in
     let m = c.is_new-is_new.result in
     same_listing _ _ _ _ _ _ c.in_ok-push.ensures.items c.in_default.ensures.items
-    (c.in_default-push.ensures.ok ∙ added-one yes a.fact m c.if-not-is_new.false)
-    (listing-pushed a.facts.now.items a.firsts.now.items yes a.fact m c.requires.listing
-    (c.is_new-is_new.ensures ∙ ap (λ b. a.fact.holds && not b) c.requires.listed))
+    (c.in_default-push.ensures.ok ∙ added-one yes a.added.now.fact m c.if-not-is_new.false)
+    (listing-pushed a.facts.now.items a.firsts.now.items yes a.added.now.fact m c.requires.listing
+    (c.is_new-is_new.ensures ∙ ap (λ b. a.added.now.fact.holds && not b) c.requires.listed))

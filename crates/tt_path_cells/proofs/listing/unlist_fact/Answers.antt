@@ -1,4 +1,4 @@
-use Rattle.std.proofs.Common.{◌≡◌, length, take, cond, ◌-◌, sym, ap, ◌∙◌, arith}
+use Rattle.std.proofs.Common.{length, take, cond, ◌-◌, sym, ap, ◌∙◌, arith}
 use Rattle.tt_path_cells.proofs.Listed.{listing-popped, marked-some, shortened}
 use Rattle.tt_path_cells.proofs.listing.unlist_fact.Goals as goal
 

@@ -2,4 +2,5 @@ use Rattle.tt_prices.proofs.Rooms.{course_bounded}
 use Rattle.tt_prices.proofs.laws.courses_are_bounded.Goals as goal
 
 pub returns : goal.returns
-returns c = λ p scale groups rent k b lowest none one low more t placing. course_bounded p scale groups rent k b lowest none one low more t placing
+returns c = λ p scale groups rent k b lowest none one low more t placing. course_bounded p scale groups rent k b lowest none one low more t
+    placing

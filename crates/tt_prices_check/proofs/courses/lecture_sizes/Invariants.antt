@@ -6,4 +6,5 @@ use Rattle.tt_prices_check.proofs.courses.lecture_sizes.Given as goal
 
 abbrev pub invariant-loop-course : goal.invariant-loop-course
 invariant-loop-course l =
-    l.sizes.items ≡ map (λ c. lectures l.instance c + 1) (filter (λ c. not (has_number l.group.uncounted.items c)) (take l.course-index l.courses))
+    l.sizes.items ≡ map (λ c. lectures l.instance c + 1) (filter (λ c. not (has_number l.group.uncounted.items c))
+    (take l.course-index l.courses))

@@ -59,7 +59,8 @@ returns-in-Ok-Some-clause-least c =
     let p = c.args.instance.now in
     let g = group_of c.args.group.now in
     let scale = c.args.scale in
-    let sized = subst (λ o. IfSome o (λ d. (d.sizes.items ≡ c.in_ok-sizes.field-0.sizes.items) × (d.courses ≡ c.in_ok-sizes.field-0.counted)))
+    let sized = subst (λ o. IfSome o (λ d. (d.sizes.items ≡ c.in_ok-sizes.field-0.sizes.items) ×
+    (d.courses ≡ c.in_ok-sizes.field-0.counted)))
     c.in-Some.is c.in_ok-digits.ensures.made in
     let days = subst (λ s. HasDays p s g c.in_ok-week.week.items) c.in-Ok.ensures.scale c.in_ok-week.ensures.each_day in
     let suits = suits_of p scale g (sized.0 ∙ c.in_ok-sizes.ensures.sizes) (sized.1 ∙ c.in_ok-sizes.ensures.counted)
@@ -80,7 +81,8 @@ returns-in-Ok-None-clause-least c =
     let p = c.args.instance.now in
     let g = group_of c.args.group.now in
     let scale = c.args.scale in
-    let sized = subst (λ o. IfSome o (λ d. (d.sizes.items ≡ c.in_ok-sizes.field-0.sizes.items) × (d.courses ≡ c.in_ok-sizes.field-0.counted)))
+    let sized = subst (λ o. IfSome o (λ d. (d.sizes.items ≡ c.in_ok-sizes.field-0.sizes.items) ×
+    (d.courses ≡ c.in_ok-sizes.field-0.counted)))
     c.in-Some.is c.in_ok-digits.ensures.made in
     let days = subst (λ s. HasDays p s g c.in_ok-week.week.items) c.in-Ok.ensures.scale c.in_ok-week.ensures.each_day in
     let suits = suits_of p scale g (sized.0 ∙ c.in_ok-sizes.ensures.sizes) (sized.1 ∙ c.in_ok-sizes.ensures.counted)

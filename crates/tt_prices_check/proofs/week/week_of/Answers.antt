@@ -42,8 +42,10 @@ loop-day-preserved c =
     let g = group_of c.args.group.now in
     record {
       all = ap length items ∙ length-append old (moves ∷ []) ∙ ap (λ n. n + 1) before.all;
-      ready = subst (All (λ (m : Vec PricedMove Global). AreReady digits.sizes.items digits.weights.items digits.courses m.items)) (sym items)
-          (all_pushed (λ (m : Vec PricedMove Global). AreReady digits.sizes.items digits.weights.items digits.courses m.items) old moves before.ready
+      ready = subst (All (λ (m : Vec PricedMove Global). AreReady digits.sizes.items digits.weights.items digits.courses m.items))
+          (sym items)
+          (all_pushed (λ (m : Vec PricedMove Global). AreReady digits.sizes.items digits.weights.items digits.courses m.items) old moves
+          before.ready
           c.in_ok-moves.ensures.ready);
       each_day = subst (HasDays p scale g) (sym items) (days_more p scale g old moves c.in-Ok.days.items before.each_day
           (subst (λ n. IsDayList p scale g n c.in-Ok.days.items) (sym before.all) c.in-Ok.ensures.list)

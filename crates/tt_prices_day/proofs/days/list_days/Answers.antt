@@ -39,7 +39,8 @@ loop-period-init c =
     record {
       layer = subst (λ (l : List Node). IsLayer a.instance.now a.shape.now.scale g no_weights a.day a.shape.now.rules 0 l) (sym is)
           (layer-first a.instance.now a.shape.now.scale g no_weights a.day a.shape.now.rules first_node (zeros 16) refl refl refl);
-      within = subst (All (IsNodeWithin 0)) (sym is) (all_pushed (IsNodeWithin 0) [] first_node (λ k d h. absurd (omega (arith, h))) first_within);
+      within = subst (All (IsNodeWithin 0)) (sym is) (all_pushed (IsNodeWithin 0) [] first_node (λ k d h. absurd (omega (arith, h)))
+          first_within);
       fewer = omega arith;
     }
 
@@ -52,7 +53,8 @@ next_layer-requires-clause-letters c =
     let within : All IsLetterWithin letters = λ k d h.
     let x : Letter = get_or letters k d in
     let there : Contains letters x = Contains-get_or letters k d h in
-    let set = subst (λ (l : List CourseSet). Contains l x.set) c.deref-in-loop-period.ensures.value (c.in_ok-letters.ensures.letters.own x there) in
+    let set = subst (λ (l : List CourseSet). Contains l x.set) c.deref-in-loop-period.ensures.value
+    (c.in_ok-letters.ensures.letters.own x there) in
     record {
       digits = (All-contains (IsCourseSet p (unpriced g) (courses_of p g) no_weights) a.shape.now.sets.items x.set
           (shape_sets p g a.shape.now c.requires) set).digits;
@@ -78,17 +80,20 @@ loop-period-preserved c =
     c.in_ok-letters.ensures.letters) in
     let followed : AreFollowed shape.rules shape.scale letters layer next =
     subst (λ (l : List Letter). AreFollowed shape.rules shape.scale l layer next) c.deref-in-loop-period-2.ensures.value
-    (subst (λ (l : List Node). AreFollowed shape.rules shape.scale c.deref-in-loop-period-2.result.now l next) c.deref-in-loop-period-3.ensures.value
+    (subst (λ (l : List Node). AreFollowed shape.rules shape.scale c.deref-in-loop-period-2.result.now l next)
+    c.deref-in-loop-period-3.ensures.value
     c.in_ok-layer-2.ensures.followed) in
     let reached : AreReached shape.rules shape.scale letters layer next =
     subst (λ (l : List Letter). AreReached shape.rules shape.scale l layer next) c.deref-in-loop-period-2.ensures.value
-    (subst (λ (l : List Node). AreReached shape.rules shape.scale c.deref-in-loop-period-2.result.now l next) c.deref-in-loop-period-3.ensures.value
+    (subst (λ (l : List Node). AreReached shape.rules shape.scale c.deref-in-loop-period-2.result.now l next)
+    c.deref-in-loop-period-3.ensures.value
     c.in_ok-layer-2.ensures.reached) in
     let within = c.in_ok-layer-2.ensures.within (s * 2 ^ 31)
     (subst (All (IsNodeWithin (s * 2 ^ 31))) (sym c.deref-in-loop-period-3.ensures.value) c.loop-period.invariant.within) in
     let more : s * 2 ^ 31 + 2 ^ 31 ≡ (s + 1) * 2 ^ 31 = omega arith in
     record {
-      layer = layer-more p shape.scale g no_weights a.day shape.rules s layer next shape.sets.items letters (shape_rules p g shape c.requires)
+      layer = layer-more p shape.scale g no_weights a.day shape.rules s layer next shape.sets.items letters
+          (shape_rules p g shape c.requires)
           c.requires.narrow.group c.requires.narrow.curricula c.requires.narrow.courses inside (shape_sets p g shape c.requires)
           (shape_complete p g shape c.requires) (shape_apart p g shape c.requires) of_period followed reached c.loop-period.invariant.layer;
       within = subst (λ n. All (IsNodeWithin n) next) more within;
@@ -130,9 +135,11 @@ returns-clause-list c =
     (subst (λ n. IsLayer p shape.scale g no_weights a.day shape.rules n layer) whole c.loop-period.invariant.layer)
     (subst (λ (l : List Node). AreEnded shape.rules shape.scale l ends) c.deref-2.ensures.value c.in_ok-ends.ensures.followed)
     (subst (λ (l : List Node). AreEndsOf shape.rules shape.scale l ends) c.deref-2.ensures.value c.in_ok-ends.ensures.reached)
-    (subst (λ (l : List Node). (x : Node) → Contains l x → (y : PricedDay) × Contains entries y × IsEntryOf shape x y) c.deref-3.ensures.value
+    (subst (λ (l : List Node). (x : Node) → Contains l x → (y : PricedDay) × Contains entries y × IsEntryOf shape x y)
+    c.deref-3.ensures.value
     c.in_ok-entries.ensures.all)
-    (subst (λ (l : List Node). (y : PricedDay) → Contains entries y → (x : Node) × Contains l x × IsEntryOf shape x y) c.deref-3.ensures.value
+    (subst (λ (l : List Node). (y : PricedDay) → Contains entries y → (x : Node) × Contains l x × IsEntryOf shape x y)
+    c.deref-3.ensures.value
     c.in_ok-entries.ensures.found)
     (shape_rules p g shape c.requires) (shape_counted p g shape c.requires) (shape_own p g shape c.requires)
 

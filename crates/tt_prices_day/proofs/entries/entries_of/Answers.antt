@@ -34,7 +34,8 @@ loop-node-preserved c =
         | inr e ↦ (node, Contains-get_or layer i no_node there, subst (IsEntryOf c.args.shape.now node) e c.entry_of.ensures.entry)
       ];
       within = λ n all. subst (All (λ (y : PricedDay). IsWithin (n + 2 ^ 31) y.paid)) (sym items)
-          (all_pushed (λ y. IsWithin (n + 2 ^ 31) y.paid) old entry (before.within n all) (c.entry_of.ensures.within n (all i no_node there)));
+          (all_pushed (λ y. IsWithin (n + 2 ^ 31) y.paid) old entry (before.within n all)
+          (c.entry_of.ensures.within n (all i no_node there)));
     }
 
 pub returns-clause-all : goal.returns-clause-all

@@ -10,5 +10,6 @@ returns-clause-within c = λ n node.
     let points : IsWithin (2 ^ 31) c.from.result =
     subst (IsWithin (2 ^ 31)) (sym c.from.ensures) (within-pos (c.args.shape.now.scale * (5 * overrun)) (2 ^ 31)
     (omega (arith, scaled-le c.args.shape.now.scale (5 * overrun) 40800 c.requires.scale (omega (arith, few))))) in
-    subst (IsWithin (n + 2 ^ 31)) (sym (sum-of (2 ^ 60) (2 ^ 31) c.args.node.now.paid c.from.result (omega arith) c.requires.node.paid points))
+    subst (IsWithin (n + 2 ^ 31)) (sym (sum-of (2 ^ 60) (2 ^ 31) c.args.node.now.paid c.from.result (omega arith) c.requires.node.paid
+    points))
     (within-plus n (2 ^ 31) c.args.node.now.paid c.from.result node.paid points)

@@ -14,6 +14,7 @@ returns-clause-within c = λ n node.
     (omega (arith, scaled-le c.args.scale (2 * ones) 128 c.requires.scale (omega (arith, few))))) in
     record {
       counts = λ i. omega (arith, c.raised.ensures i, node.counts i, c.requires.paying i);
-      paid = subst (IsWithin (n + 2 ^ 31)) (sym (sum-of (2 ^ 60) (2 ^ 31) c.args.node.now.paid c.from.result (omega arith) c.requires.node.paid points))
+      paid = subst (IsWithin (n + 2 ^ 31)) (sym (sum-of (2 ^ 60) (2 ^ 31) c.args.node.now.paid c.from.result (omega arith)
+          c.requires.node.paid points))
           (within-plus n (2 ^ 31) c.args.node.now.paid c.from.result node.paid points);
     }

@@ -62,4 +62,5 @@ loop-node-preserved c =
     ]
 
 pub returns-clause-followed : goal.returns-clause-followed
-returns-clause-followed c = λ x m. c.loop-node.invariant.followed x (taken_all c.args.nodes.now c.loop-node.node-index x c.loop-node-test.false m)
+returns-clause-followed c = λ x m. c.loop-node.invariant.followed x
+    (taken_all c.args.nodes.now c.loop-node.node-index x c.loop-node-test.false m)

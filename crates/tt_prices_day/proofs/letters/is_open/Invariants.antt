@@ -5,4 +5,5 @@ use Rattle.tt_groups_day.specs.Sets.{has_course}
 use Rattle.tt_prices_day.proofs.letters.is_open.Given as goal
 
 abbrev pub invariant-loop-i : goal.invariant-loop-i
-invariant-loop-i l = (k : ℕ) → k < l.i → has_course l.set k ≡ true → unavailable l.instance (slice_index l.courses k) l.time.day l.time.period ≡ false
+invariant-loop-i l = (k : ℕ) → k < l.i → has_course l.set k ≡ true → unavailable l.instance (slice_index l.courses k) l.time.day
+    l.time.period ≡ false

@@ -30,7 +30,8 @@ loop-set-preserved c =
     let now = c.if-is_open.letters.items in
     let before = c.loop-set.invariant.letters in
     let earlier : (x : CourseSet) → Contains (take i sets) x → Contains (take (i + 1) sets) x = λ x m.
-    subst (λ (l : List CourseSet). Contains l x) (sym (take_more sets i no_set there)) (Contains-append_left (take i sets) (set ∷ []) x m) in
+    subst (λ (l : List CourseSet). Contains l x) (sym (take_more sets i no_set there)) (Contains-append_left (take i sets) (set ∷ []) x m)
+    in
     let last : Contains (take (i + 1) sets) set =
     subst (λ (l : List CourseSet). Contains l set) (sym (take_more sets i no_set there)) (pushed_last (take i sets) set) in
     elim c.if-is_open.branch [
@@ -91,5 +92,6 @@ loop-set-preserved c =
 pub returns-clause-letters : goal.returns-clause-letters
 returns-clause-letters c =
     let end = take_all c.loop-set.set-index c.args.sets.now c.loop-set-test.false in
-    subst (λ (l : List CourseSet). AreLetters c.args.instance.now (group_of c.args.group.now) c.args.courses.now c.args.time.day c.args.time.period l
+    subst (λ (l : List CourseSet). AreLetters c.args.instance.now (group_of c.args.group.now) c.args.courses.now c.args.time.day
+    c.args.time.period l
     c.loop-set.letters.items) end c.loop-set.invariant.letters

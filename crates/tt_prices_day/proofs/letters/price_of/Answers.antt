@@ -32,8 +32,10 @@ loop-i-preserved c =
           let now : to_z w64 c.if-set-i-eq1.sum-bits ≡ old +ℤ w.from-sum.result = w.sum-is
           ∙ ap (λ z. to_z w64 (of_z w64 (old +ℤ z))) (word-of 1_000_000 w.from-sum.result (omega arith) within)
           ∙ word-of (i * 1_000_000 + 1_000_000) (old +ℤ w.from-sum.result) (omega (arith, few)) both in
-          let more : signed_sum f (filter (has_course set) (range_below (i + 1))) ≡ signed_sum f (filter (has_course set) (range_below i)) +ℤ (f i +ℤ pos 0) =
-          ap (signed_sum f) (filter_more-passing (has_course set) i has) ∙ signed_sum-append f (filter (has_course set) (range_below i)) (i ∷ []) in
+          let more : signed_sum f (filter (has_course set) (range_below (i + 1))) ≡ signed_sum f (filter (has_course set) (range_below i))
+          +ℤ (f i +ℤ pos 0) =
+          ap (signed_sum f) (filter_more-passing (has_course set) i has) ∙ signed_sum-append f (filter (has_course set) (range_below i))
+          (i ∷ []) in
           record {
             value = omega (arith, ints, now, from, before.value, more);
             small = subst (IsWithin ((i + 1) * 1_000_000)) (sym now)

@@ -22,7 +22,8 @@ total : (paid price points : ℤ) → IsWithin (2 ^ 60) paid → IsWithin (2 ^ 3
     ≡ paid +ℤ (price +ℤ points)
 total paid price points wa wb wc =
     let sum = sum-of (2 ^ 30) (2 ^ 30) price points (omega arith) wb wc in
-    let within = within-more (2 ^ 30 + 2 ^ 30) (2 ^ 31) (price +ℤ points) (omega arith) (within-plus (2 ^ 30) (2 ^ 30) price points wb wc) in
+    let within = within-more (2 ^ 30 + 2 ^ 30) (2 ^ 31) (price +ℤ points) (omega arith) (within-plus (2 ^ 30) (2 ^ 30) price points wb wc)
+    in
     ap (λ z. to_z w64 (of_z w64 (to_z w64 (of_z w64 paid) +ℤ z))) sum
     ∙ ap (λ z. to_z w64 (of_z w64 (z +ℤ (price +ℤ points)))) (word-of (2 ^ 60) paid (omega arith) wa)
     ∙ word-of (2 ^ 60 + 2 ^ 31) (paid +ℤ (price +ℤ points)) (omega arith) (within-plus (2 ^ 60) (2 ^ 31) paid (price +ℤ points) wa within)
@@ -31,7 +32,8 @@ total-fits : (paid price points : ℤ) → IsWithin (2 ^ 60) paid → IsWithin (
     → FitsSigned w64 (to_z w64 (of_z w64 paid) +ℤ to_z w64 (of_z w64 (to_z w64 (of_z w64 price) +ℤ to_z w64 (of_z w64 points))))
 total-fits paid price points wa wb wc =
     let sum = sum-of (2 ^ 30) (2 ^ 30) price points (omega arith) wb wc in
-    let within = within-more (2 ^ 30 + 2 ^ 30) (2 ^ 31) (price +ℤ points) (omega arith) (within-plus (2 ^ 30) (2 ^ 30) price points wb wc) in
+    let within = within-more (2 ^ 30 + 2 ^ 30) (2 ^ 31) (price +ℤ points) (omega arith) (within-plus (2 ^ 30) (2 ^ 30) price points wb wc)
+    in
     subst (λ z. FitsSigned w64 (to_z w64 (of_z w64 paid) +ℤ z)) (sym sum)
     (subst (λ z. FitsSigned w64 (z +ℤ (price +ℤ points))) (sym (word-of (2 ^ 60) paid (omega arith) wa))
     (within-fits (2 ^ 60 + 2 ^ 31) (paid +ℤ (price +ℤ points)) (omega arith)
@@ -41,7 +43,8 @@ pub overflow_add-paid-2 : goal.overflow_add-paid-2
 overflow_add-paid-2 c =
     let points = points_within c.from.result c.args.scale
     (count_ones (bit_and c.args.node.now.key.pending (bit_not w64 c.args.letter.now.set.curricula)))
-    c.beyond.result c.from.ensures c.requires.scale (few_ones c.args.node.now.key.pending (bit_not w64 c.args.letter.now.set.curricula) (omega arith))
+    c.beyond.result c.from.ensures c.requires.scale (few_ones c.args.node.now.key.pending (bit_not w64 c.args.letter.now.set.curricula)
+    (omega arith))
     c.beyond.ensures.small in
     total-fits c.args.node.now.paid c.args.letter.now.price c.from.result c.requires.paid c.requires.price points
 
@@ -53,11 +56,13 @@ returns-clause-next c =
     let ones = count_ones (bit_and node.key.pending (bit_not w64 letter.set.curricula)) in
     let points = points_within c.from.result c.args.scale ones c.beyond.result c.from.ensures c.requires.scale
     (few_ones node.key.pending (bit_not w64 letter.set.curricula) (omega arith)) c.beyond.ensures.small in
-    let sums : (i : ℕ) → slice_index c.sums-counts.result i ≡ slice_index node.key.counts i + slice_index letter.set.courses i = c.sums-counts.ensures in
+    let sums : (i : ℕ) → slice_index c.sums-counts.result i ≡ slice_index node.key.counts i + slice_index letter.set.courses i =
+    c.sums-counts.ensures in
     let beyond : c.beyond.result ≡ sum_by (λ i. slice_index rules.paying i
     * ((slice_index node.key.counts i + slice_index letter.set.courses i) - slice_index rules.caps i)) (range_below 16) =
     c.beyond.ensures.value ∙ sum_by-same (λ i. slice_index rules.paying i * (slice_index c.sums-counts.result i - slice_index rules.caps i))
-    (λ i. slice_index rules.paying i * ((slice_index node.key.counts i + slice_index letter.set.courses i) - slice_index rules.caps i)) (range_below 16)
+    (λ i. slice_index rules.paying i * ((slice_index node.key.counts i + slice_index letter.set.courses i) - slice_index rules.caps i))
+    (range_below 16)
     (λ i. ap (λ n. slice_index rules.paying i * (n - slice_index rules.caps i)) (sums i)) in
     record {
       set_word = omega arith;
@@ -76,7 +81,8 @@ returns-clause-within c = λ n within.
     let node = c.args.node.now in
     let letter = c.args.letter.now in
     let points = points_within c.from.result c.args.scale (count_ones (bit_and node.key.pending (bit_not w64 letter.set.curricula)))
-    c.beyond.result c.from.ensures c.requires.scale (few_ones node.key.pending (bit_not w64 letter.set.curricula) (omega arith)) c.beyond.ensures.small in
+    c.beyond.result c.from.ensures c.requires.scale (few_ones node.key.pending (bit_not w64 letter.set.curricula) (omega arith))
+    c.beyond.ensures.small in
     subst (IsWithin (n + 2 ^ 31)) (sym (total node.paid letter.price c.from.result c.requires.paid c.requires.price points))
     (within-plus n (2 ^ 31) node.paid (letter.price +ℤ c.from.result) within
     (within-more (2 ^ 30 + 2 ^ 30) (2 ^ 31) (letter.price +ℤ c.from.result) (omega arith)

@@ -18,8 +18,10 @@ loop-place-preserved c =
     elim c.if-not-is_uncounted.branch [
       | then-not-is_uncounted+in_ok-push w ↦
           let items = ap (λ (v : Vec ℕ Global). v.items) w.places-is ∙ w.in_ok-push.ensures.items in
-          subst holds (sym items) (places-push cs q i there old c.loop-place.invariant (ap not (sym c.is_uncounted.ensures ∙ w.if-not-is_uncounted.true)))
+          subst holds (sym items) (places-push cs q i there old c.loop-place.invariant
+          (ap not (sym c.is_uncounted.ensures ∙ w.if-not-is_uncounted.true)))
       | else-not-is_uncounted w ↦
           let items = ap (λ (v : Vec ℕ Global). v.items) w.places-is in
-          subst holds (sym items) (places-skip cs q i there old c.loop-place.invariant (ap not (sym c.is_uncounted.ensures ∙ w.if-not-is_uncounted.false)))
+          subst holds (sym items) (places-skip cs q i there old c.loop-place.invariant
+          (ap not (sym c.is_uncounted.ensures ∙ w.if-not-is_uncounted.false)))
     ]

@@ -6,4 +6,5 @@ use Rattle.tt_prices_day.specs.Shapes.{ArePlaces}
 use Rattle.tt_prices_day.proofs.shape.counted_places.Given as goal
 
 abbrev pub invariant-loop-place : goal.invariant-loop-place
-invariant-loop-place l = ArePlaces l.courses (filter (λ c. not (has_number (group_of l.group).uncounted c)) (take l.place l.courses)) l.places.items
+invariant-loop-place l = ArePlaces l.courses (filter (λ c. not (has_number (group_of l.group).uncounted c)) (take l.place l.courses))
+    l.places.items

@@ -146,7 +146,8 @@ pub take_item-requires-clause-item : goal.take_item-requires-clause-item
 take_item-requires-clause-item g c =
     let r = c.loop-item.reader in
     let is : c.next_item.result ≡ Ok (Some c.in-Ok-Some.item) = c.in-Ok-Some.is ∙ ap (λ (x : Option Item). Ok x) c.in-Ok-Some.field-0-is in
-    let item = subst (λ (x : Result (Option Item) PricesTextFault). IfOk x (λ o. IfSome o (IsItem r.sizes r.header.has_rooms))) is c.next_item.ensures.item in
+    let item = subst (λ (x : Result (Option Item) PricesTextFault). IfOk x (λ o. IfSome o (IsItem r.sizes r.header.has_rooms))) is
+    c.next_item.ensures.item in
     subst (λ (z : Header). IsItem (sizes_of c.args.instance.now) z.has_rooms c.in-Ok-Some.item) (sym c.loop-item.invariant.header)
     (item_is c.args.instance.now (g.R.Source.remaining c.args.source.now) r (g.R.Source.remaining c.loop-item.source) c.loop-item.account
     c.loop-item.invariant.under c.in-Ok-Some.item item)

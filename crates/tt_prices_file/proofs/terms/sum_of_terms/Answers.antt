@@ -27,7 +27,8 @@ overflow_add-total c =
     let top = c.courses-course-end.ensures.within in
     let small = if_some (IsWithin (2 ^ 62)) c.in_ok-term.field-0 c.in-Some.term c.in-Some.is c.in_ok-term.ensures.within in
     let word = c.from-total.ensures ∙ word-of (2 ^ 62) c.in-Some.term (omega arith) small in
-    sum_fits_wide (c.loop-course.course * 2 ^ 62) (2 ^ 62) (to_z w128 c.loop-course.total-bits) c.from-total.result (omega (arith, inside, top))
+    sum_fits_wide (c.loop-course.course * 2 ^ 62) (2 ^ 62) (to_z w128 c.loop-course.total-bits) c.from-total.result
+    (omega (arith, inside, top))
     c.loop-course.invariant.small (subst (IsWithin (2 ^ 62)) (sym word) small)
 
 pub loop-course-preserved : goal.loop-course-preserved
@@ -64,7 +65,8 @@ returns-clause-terms c = λ groups xs prices rents.
 pub returns-clause-small : goal.returns-clause-small
 returns-clause-small c =
     within-more (c.loop-course.course * 2 ^ 62) (2 ^ 74) (to_z w128 c.loop-course.total-bits)
-    (let top = c.courses-course-end.ensures.within in let stop = c.loop-course.auto.course-end in omega (arith, top, stop)) c.loop-course.invariant.small
+    (let top = c.courses-course-end.ensures.within in let stop = c.loop-course.auto.course-end in omega (arith, top, stop))
+    c.loop-course.invariant.small
 
 -- each course before has a term
 pub returns-in-None-clause-fault : goal.returns-in-None-clause-fault

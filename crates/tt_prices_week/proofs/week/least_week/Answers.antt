@@ -165,7 +165,8 @@ returns-clause-small c =
     let less : least < NOT_REACHED = omega (arith, c.if-least.false, c.least_full-least.type_inv) in
     let found = subst (λ (l : List ℕ). (k : ℕ) × (k < length l) × (is_full d.sizes.items d.weights.items d.courses k ≡ true)
     × (slice_index l k ≡ least)) c.deref-2.ensures.value (c.least_full-least.ensures.found less) in
-    let end : c.loop-moves.moves-index ≡ length c.args.lists.now = omega (arith, c.loop-moves-test.false, c.loop-moves.auto.moves-index-end) in
+    let end : c.loop-moves.moves-index ≡ length c.args.lists.now = omega (arith, c.loop-moves-test.false, c.loop-moves.auto.moves-index-end)
+    in
     let few : least ≤ 562949953421312 * length c.args.lists.now =
     omega (arith, c.loop-moves.invariant.within found.0 (omega (arith, less, found.3)), found.3, end) in
     (omega (arith, ints, few, c.requires.few), omega (arith, ints, few, c.requires.few))

@@ -9,9 +9,9 @@ use Rattle.tt_proof_read.proofs.claims.read_claims.Goals as goal
 
 pub loop-claims-init : goal.loop-claims-init
 loop-claims-init g c = record {
-  read = underway_first _ _ _ _ _ (λ s. claims_left c.args.sizes c.args.version _ s c.new-claims.ensures.items);
+  read = underway_first _ _ _ _ _ (λ s. claims_left c.args.form.sizes c.args.form.version _ s c.new-claims.ensures.items);
   tables = c.requires;
-  within = rw c.new-claims.ensures.items (All-nil (IsClaimAt c.args.sizes c.args.version));
+  within = rw c.new-claims.ensures.items (All-nil (IsClaimAt c.args.form.sizes c.args.form.version));
 }
 
 pub returns-in_err-claim-clause-read : goal.returns-in_err-claim-clause-read
@@ -24,12 +24,12 @@ loop-claims-preserved g c =
     let is_claim = rw c.in-Some.is at c.in_ok-claim.ensures.within in
     record {
       read = rw c.in_ok-push.ensures.items
-          (underway_then _ _ _ (claim_takes c.args.sizes c.args.version) _ _ _ _ c.in_ok-claim.field-0 c.in-Some.claim c.in-Some.is
-          c.loop-claims.invariant.read c.in_ok-claim.ensures.read);
+          (underway_then _ _ _ (claim_takes c.args.form.sizes c.args.form.version) _ _ _ _ c.in_ok-claim.field-0 c.in-Some.claim
+          c.in-Some.is c.loop-claims.invariant.read c.in_ok-claim.ensures.read);
       tables = c.in_ok-claim.ensures.tables;
       within = rw c.in_ok-push.ensures.items
-          (All-push (IsClaimAt c.args.sizes c.args.version) c.loop-claims.claims.items c.in-Some.claim c.loop-claims.invariant.within
-          is_claim);
+          (All-push (IsClaimAt c.args.form.sizes c.args.form.version) c.loop-claims.claims.items c.in-Some.claim
+          c.loop-claims.invariant.within is_claim);
     }
 
 pub returns-clause-read : goal.returns-clause-read

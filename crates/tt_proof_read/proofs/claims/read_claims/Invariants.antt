@@ -10,10 +10,10 @@ use Rattle.tt_proof_read.proofs.claims.read_claims.Given as goal
 
 abbrev pub invariant-loop-claims : goal.invariant-loop-claims
 invariant-loop-claims g l = record {
-  read : IsUnderway push (λ _ rest. claim_at l.sizes l.version rest) (claims_at l.sizes l.version)
+  read : IsUnderway push (λ _ rest. claim_at l.form.sizes l.form.version rest) (claims_at l.form.sizes l.form.version)
       (state_of g.R.Source l.fn.feed l.fn.source) (state_of g.R.Source l.feed l.source) l.claims.items;
-  tables : AreTables l.sizes l.tables;
-  within : All (IsClaimAt l.sizes l.version) l.claims.items;
+  tables : AreTables l.form.sizes l.tables;
+  within : All (IsClaimAt l.form.sizes l.form.version) l.claims.items;
 }
 
 abbrev pub decreases-loop-claims : goal.decreases-loop-claims

@@ -8,7 +8,7 @@ use Rattle.tt_search.proofs.annealing.advance.Goals as goal
 
 pub returns-clause-reached : goal.returns-clause-reached
 returns-clause-reached c =
-    let p = c.args.occupied.now.problem in
+    let p = c.args.standing.now.occupied.problem in
     let first = c.args.first.now in
     let draws = c.args.draws in
     let count = length c.moves-moves.result.now in

@@ -23,15 +23,15 @@ loop-preserved g c =
     let l = c.loop in
     let first = c.args.first.now in
     let draws = c.args.draws in
-    let next = c.advance.new in
+    let next = c.advance.new.standing in
     let same = l.invariant.problem in
     record {
       problem = c.advance.ensures.problem ∙ same;
       courses = c.advance.ensures.courses ∙ l.invariant.courses;
       reached = λ start. subst (λ (p : Problem). LeadsWithin p first draws next.best.entries.items) same
           (c.advance.ensures.reached
-          (subst (λ (p : Problem). LeadsWithin p first draws l.best.entries.items) (sym same) (l.invariant.reached start)));
+          (subst (λ (p : Problem). LeadsWithin p first draws l.standing.best.entries.items) (sym same) (l.invariant.reached start)));
       best = λ t begun good. subst (λ (p : Problem). IsBest p t next.best) same
           (c.advance.ensures.best t (l.invariant.courses ∙ begun)
-          (subst (λ (p : Problem). IsBest p t l.best) (sym same) (l.invariant.best t begun good)));
+          (subst (λ (p : Problem). IsBest p t l.standing.best) (sym same) (l.invariant.best t begun good)));
     }

@@ -5,10 +5,13 @@ use Rattle.tt_walk.specs.Inner.Pairs.{IsBest}
 use Rattle.tt_search.proofs.annealing.walk_by_annealing.Given as goal
 
 abbrev pub invariant-loop : goal.invariant-loop
-invariant-loop g l = record {
-  problem : l.occupied.problem ≡ l.initial.occupied.problem;
-  courses : courses_of l.occupied.entries ≡ courses_of l.initial.occupied.entries;
-  reached : l.initial.best.entries.items ≡ l.first → LeadsWithin l.initial.occupied.problem l.first l.draws l.best.entries.items;
-  best : (t : List Cell) → courses_of l.initial.occupied.entries ≡ courses_of t → IsBest l.initial.occupied.problem t l.initial.best
-      → IsBest l.initial.occupied.problem t l.best;
-}
+invariant-loop g l =
+    let start = l.initial.standing in
+    let now = l.standing in
+    record {
+      problem : now.occupied.problem ≡ start.occupied.problem;
+      courses : courses_of now.occupied.entries ≡ courses_of start.occupied.entries;
+      reached : start.best.entries.items ≡ l.first → LeadsWithin start.occupied.problem l.first l.draws now.best.entries.items;
+      best : (t : List Cell) → courses_of start.occupied.entries ≡ courses_of t → IsBest start.occupied.problem t start.best
+          → IsBest start.occupied.problem t now.best;
+    }

@@ -23,10 +23,11 @@ loop-phase-preserved g c =
       problem = phase.ensures.problem ∙ same;
       some = phase.ensures.positive;
       here = phase.ensures.here;
-      best = λ t best. subst (λ p. IsBest p t phase.new.best) same
-          (phase.ensures.best t (subst (λ p. IsBest p t l.best) (sym same) (l.invariant.best t best)));
+      best = λ t best. subst (λ p. IsBest p t phase.new.standing.best) same
+          (phase.ensures.best t (subst (λ p. IsBest p t l.standing.best) (sym same) (l.invariant.best t best)));
       within = c.draws-next.ensures;
       reached = leads_then l.invariant.reached
-          (subst (λ p. LeadsWithin p l.occupied.entries c.draws-next.result phase.new.occupied.entries) same phase.ensures.reached)
+          (subst (λ p. LeadsWithin p l.standing.occupied.entries c.draws-next.result phase.new.standing.occupied.entries) same
+          phase.ensures.reached)
           (omega arith);
     }

@@ -19,16 +19,18 @@ loop-plan-init g c = record {
 
 pub loop-plan-preserved : goal.loop-plan-preserved
 loop-plan-preserved g c =
-    let p = c.args.occupied.now.problem in
-    let first = c.args.occupied.now.entries in
+    let p = c.args.standing.now.occupied.problem in
+    let first = c.args.standing.now.occupied.entries in
     let l = c.loop-plan in
+    let now = l.standing in
     let planned = c.make_plan-steps.new.occupied in
     let steps = c.make_plan-steps.result in
     let best = c.keep.new.self in
     let same : planned.problem ≡ p = c.make_plan-steps.ensures.problem ∙ l.invariant.problem in
     let courses : courses_of planned.entries ≡ courses_of first = c.make_plan-steps.ensures.courses ∙ l.invariant.courses in
-    let on : LeadsWithin p l.occupied.entries steps planned.entries =
-    subst (λ (q : Problem). LeadsWithin q l.occupied.entries steps planned.entries) l.invariant.problem c.make_plan-steps.ensures.reached in
+    let on : LeadsWithin p now.occupied.entries steps planned.entries =
+    subst (λ (q : Problem). LeadsWithin q now.occupied.entries steps planned.entries) l.invariant.problem
+    c.make_plan-steps.ensures.reached in
     let here : LeadsWithin p first (l.made + steps) planned.entries = leads_then l.invariant.here on (omega arith) in
     record {
       problem = same;
@@ -41,7 +43,8 @@ loop-plan-preserved g c =
         | inr new ↦ subst (λ (t : List Cell). LeadsWithin p first (l.made + steps) t) (sym new) here
       ];
       best = λ t begun good. subst (λ (q : Problem). IsBest q t best) same
-          (c.keep.ensures.best t (courses ∙ begun) (subst (λ (q : Problem). IsBest q t l.best) (sym same) (l.invariant.best t begun good)));
+          (c.keep.ensures.best t (courses ∙ begun)
+          (subst (λ (q : Problem). IsBest q t now.best) (sym same) (l.invariant.best t begun good)));
     }
 
 pub returns-then-is_over-clause-reached : goal.returns-then-is_over-clause-reached

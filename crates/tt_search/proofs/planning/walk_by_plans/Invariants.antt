@@ -2,16 +2,19 @@ use Rattle.std.proofs.Common.{◌≡◌, ◌≤◌, List}
 use Rattle.tt_instance.specs.declared.cell.Cell.{Cell}
 use Rattle.tt_walk.specs.Improved.{courses_of, LeadsWithin}
 use Rattle.tt_walk.specs.Inner.Pairs.{IsBest}
+use Rattle.tt_walk.specs.Inner.Standings.{IsAtBest}
 use Rattle.tt_search.proofs.planning.walk_by_plans.Given as goal
 
 abbrev pub invariant-loop-plan : goal.invariant-loop-plan
-invariant-loop-plan g l = record {
-  problem : l.occupied.problem ≡ l.initial.occupied.problem;
-  courses : courses_of l.occupied.entries ≡ courses_of l.initial.occupied.entries;
-  within : l.made ≤ l.schedule.draws;
-  here : LeadsWithin l.initial.occupied.problem l.initial.occupied.entries l.made l.occupied.entries;
-  reached : l.initial.best.entries.items ≡ l.initial.occupied.entries
-      → LeadsWithin l.initial.occupied.problem l.initial.occupied.entries l.made l.best.entries.items;
-  best : (t : List Cell) → courses_of l.initial.occupied.entries ≡ courses_of t → IsBest l.initial.occupied.problem t l.initial.best
-      → IsBest l.initial.occupied.problem t l.best;
-}
+invariant-loop-plan g l =
+    let start = l.initial.standing in
+    let now = l.standing in
+    record {
+      problem : now.occupied.problem ≡ start.occupied.problem;
+      courses : courses_of now.occupied.entries ≡ courses_of start.occupied.entries;
+      within : l.made ≤ l.schedule.draws;
+      here : LeadsWithin start.occupied.problem start.occupied.entries l.made now.occupied.entries;
+      reached : IsAtBest start → LeadsWithin start.occupied.problem start.occupied.entries l.made now.best.entries.items;
+      best : (t : List Cell) → courses_of start.occupied.entries ≡ courses_of t → IsBest start.occupied.problem t start.best
+          → IsBest start.occupied.problem t now.best;
+    }

@@ -18,16 +18,17 @@ loop-made-init g c = record {
 
 pub loop-made-preserved : goal.loop-made-preserved
 loop-made-preserved g c =
-    let p = c.args.occupied.now.problem in
-    let first = c.args.occupied.now.entries in
+    let p = c.args.standing.now.occupied.problem in
+    let first = c.args.standing.now.occupied.entries in
     let l = c.loop-made in
+    let now = l.standing in
     let drawn = c.try_draw.new.occupied in
     let best = c.keep.new.self in
     let same : drawn.problem ≡ p = c.try_draw.ensures.problem ∙ l.invariant.problem in
     let courses : courses_of drawn.entries ≡ courses_of first = c.try_draw.ensures.courses ∙ l.invariant.courses in
     let here : LeadsWithin p first (l.made + 1) drawn.entries =
     subst (λ (q : Problem). LeadsWithin q first (l.made + 1) drawn.entries) l.invariant.problem
-    (c.try_draw.ensures.reached first l.made (subst (λ (q : Problem). LeadsWithin q first l.made l.occupied.entries)
+    (c.try_draw.ensures.reached first l.made (subst (λ (q : Problem). LeadsWithin q first l.made now.occupied.entries)
     (sym l.invariant.problem) l.invariant.here)) in
     record {
       problem = same;
@@ -39,7 +40,8 @@ loop-made-preserved g c =
         | inr new ↦ subst (λ (t : List Cell). LeadsWithin p first (l.made + 1) t) (sym new) here
       ];
       best = λ t begun good. subst (λ (q : Problem). IsBest q t best) same
-          (c.keep.ensures.best t (courses ∙ begun) (subst (λ (q : Problem). IsBest q t l.best) (sym same) (l.invariant.best t begun good)));
+          (c.keep.ensures.best t (courses ∙ begun)
+          (subst (λ (q : Problem). IsBest q t now.best) (sym same) (l.invariant.best t begun good)));
     }
 
 pub returns-then-is_over-clause-reached : goal.returns-then-is_over-clause-reached

@@ -20,7 +20,8 @@ returns-then-is_held_off c =
     ∙ c.requires.ruling.excluded c.args.course r c.requires.course l in
     let free : unavailable p c.args.course c.args.slot.day c.args.slot.period ≡ false =
     sym c.unavailable.ensures ∙ c.if-not-unavailable.true in
-    let held = ap (λ (b : Bool). b && not (is_held_at ws c.args.course c.args.slot)) (c.requires.ruling.held c.args.course c.requires.course) in
+    let held = ap (λ (b : Bool). b && not (is_held_at ws c.args.course c.args.slot))
+    (c.requires.ruling.held c.args.course c.requires.course) in
     let new : is_new p ws (unavailability c.args.course c.args.slot) ≡ true = elim c.if-is_held_elsewhere.branch [
       | then-is_held_elsewhere w ↦
           new_if_held_elsewhere p ws c.args.course c.args.slot c.index-excluded.result.now c.args.closed.now own c.requires.closed free
@@ -42,7 +43,8 @@ returns-else-is_held_off c =
     ∙ c.requires.ruling.excluded c.args.course r c.requires.course l in
     let free : unavailable p c.args.course c.args.slot.day c.args.slot.period ≡ false =
     sym c.unavailable.ensures ∙ c.if-not-unavailable.true in
-    let held = ap (λ (b : Bool). b && not (is_held_at ws c.args.course c.args.slot)) (c.requires.ruling.held c.args.course c.requires.course) in
+    let held = ap (λ (b : Bool). b && not (is_held_at ws c.args.course c.args.slot))
+    (c.requires.ruling.held c.args.course c.requires.course) in
     elim c.if-is_held_elsewhere.branch [
       | then-is_held_elsewhere w ↦
           let no : true ≡ false =

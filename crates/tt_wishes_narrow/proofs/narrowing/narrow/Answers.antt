@@ -22,7 +22,8 @@ bar-requires-clause-once c =
     let ws = c.args.wishes.now in
     let seen = taken_rows p ws c.in_ok-rows.rows.items c.truncate.new.self.items c.deref.result.now c.unavailabilities-left.result
     c.in_ok-rows.ensures c.unavailabilities-left.ensures.value c.truncate.ensures.items c.deref.ensures.value in
-    ap (λ (us : List Unavailability). each_two differ (p.unavailabilities ++ us)) seen ∙ taken_once p ws (room_left p) c.days.ensures.instance
+    ap (λ (us : List Unavailability). each_two differ (p.unavailabilities ++ us)) seen ∙ taken_once p ws (room_left p)
+    c.days.ensures.instance
 
 pub returns : goal.returns
 returns c =

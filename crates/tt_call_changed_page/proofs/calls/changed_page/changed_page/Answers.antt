@@ -13,8 +13,9 @@ use Rattle.tt_call_changed_page.proofs.calls.changed_page.changed_page.Goals as 
 
 pub returns-in-Err-clause-fault : goal.returns-in-Err-clause-fault
 returns-in-Err-clause-fault g c =
+    let texts = c.args.texts in
     rw c.of_older.ensures
-    (older_tells c.args.instance.now c.args.solution.now c.args.form c.args.style.now _ (Give g.R.Source.remaining c.args.proofs.now) _ _
+    (older_tells texts.instance.now texts.solution.now texts.form texts.style.now _ (Give g.R.Source.remaining c.args.proofs.now) _ _
     c.in_ok-instance.instance c.in_ok-table.table c.in_ok-instance.ensures.found c.in_ok-table.ensures.found c.in-Err.fault
     c.in-Err.ensures.exact)
 
@@ -30,9 +31,10 @@ returns-in-Err-clause-failed_read g c =
 
 pub returns-in_err-labels-clause-fault : goal.returns-in_err-labels-clause-fault
 returns-in_err-labels-clause-fault g c =
+    let texts = c.args.texts in
     let e = err_from_is_err_and c.from_residual-in_err-labels.result c.from_residual-in_err-labels.ensures.1 in
     rw (e.1, e.2)
-    (names_tell c.args.instance.now c.args.solution.now c.args.form c.args.style.now _ (Give g.R.Source.remaining c.args.proofs.now) _ _
+    (names_tell texts.instance.now texts.solution.now texts.form texts.style.now _ (Give g.R.Source.remaining c.args.proofs.now) _ _
     c.in_ok-instance.instance c.in_ok-table.table c.in_ok-instance.ensures.found c.in_ok-table.ensures.found c.in-Ok.before
     c.in-Ok.ensures.found c.in_err-labels.field-0.0
     c.in_err-labels.ensures)
@@ -41,9 +43,10 @@ returns-in_err-labels-clause-fault g c =
 
 pub returns-in_err-proved-clause-fault : goal.returns-in_err-proved-clause-fault
 returns-in_err-proved-clause-fault g c =
+    let texts = c.args.texts in
     let e = err_from_is_err_and c.from_residual-in_err-proved.result c.from_residual-in_err-proved.ensures.1 in
     rw (e.1, e.2)
-    (sum_tells c.args.instance.now c.args.solution.now c.args.form c.args.style.now _ (Give g.R.Source.remaining c.args.proofs.now) _ _
+    (sum_tells texts.instance.now texts.solution.now texts.form texts.style.now _ (Give g.R.Source.remaining c.args.proofs.now) _ _
     c.in_ok-instance.instance c.in_ok-table.table c.in_ok-instance.ensures.found c.in_ok-table.ensures.found c.in-Ok.before
     c.in-Ok.ensures.found c.in_ok-labels.labels
     c.in_err-proved.field-0.0 c.in_ok-labels.ensures c.in_err-proved.ensures.fault)
@@ -101,15 +104,16 @@ page-requires-clause-shown g c = (
 
 pub returns-in_err-page-clause-fault : goal.returns-in_err-page-clause-fault
 returns-in_err-page-clause-fault g c =
+    let texts = c.args.texts in
     let e = err_from_is_err_and c.from_residual-in_err-page.result c.from_residual-in_err-page.ensures.1 in
     let p = c.in_ok-instance.instance in
     let same = c.in_ok-names.ensures.labels p.days p.periods c.in_ok-labels.labels c.in_ok-labels.ensures in
     let right = c.in_ok-changes.ensures p c.in-Ok.ensures.fits c.in_ok-table.ensures.fits in
     rw (e.1, e.2)
-    (page_tells c.args.instance.now c.args.solution.now c.args.form c.args.style.now _ (Give g.R.Source.remaining c.args.proofs.now) _ _ p
+    (page_tells texts.instance.now texts.solution.now texts.form texts.style.now _ (Give g.R.Source.remaining c.args.proofs.now) _ _ p
     c.in_ok-table.table c.in_ok-instance.ensures.found c.in_ok-table.ensures.found c.in-Ok.before c.in-Ok.ensures.found _
     c.in_err-page.field-0.0
-    (the_page c.args.instance.now c.args.solution.now c.args.form c.args.style.now _ (Give g.R.Source.remaining c.args.proofs.now)
+    (the_page texts.instance.now texts.solution.now texts.form texts.style.now _ (Give g.R.Source.remaining c.args.proofs.now)
     (g.W.Sink.contents c.args.sink.now) (g.W.Sink.contents c.page.new.sink) p
     c.in_ok-table.table c.in_ok-instance.ensures.found c.in_ok-table.ensures.found c.in-Ok.before c.in-Ok.ensures.found
     c.in_ok-labels.labels c.in_ok-names.names c.in_ok-proved.proved
@@ -144,13 +148,14 @@ returns-in_err-page-clause-failed_read g c =
 
 pub returns-clause-written : goal.returns-clause-written
 returns-clause-written g c =
+    let texts = c.args.texts in
     let p = c.in_ok-instance.instance in
     let l = c.in_ok-labels.labels in
     let same = c.in_ok-names.ensures.labels p.days p.periods l c.in_ok-labels.ensures in
     let right = c.in_ok-changes.ensures p c.in-Ok.ensures.fits c.in_ok-table.ensures.fits in
     record {
-      text = changed_text p c.in_ok-table.table l c.in_ok-names.names c.in_ok-proved.proved c.in_ok-changes.changes c.args.style.now;
-      page = the_page c.args.instance.now c.args.solution.now c.args.form c.args.style.now _ (Give g.R.Source.remaining c.args.proofs.now)
+      text = changed_text p c.in_ok-table.table l c.in_ok-names.names c.in_ok-proved.proved c.in_ok-changes.changes texts.style.now;
+      page = the_page texts.instance.now texts.solution.now texts.form texts.style.now _ (Give g.R.Source.remaining c.args.proofs.now)
           (g.W.Sink.contents c.args.sink.now) (g.W.Sink.contents c.page.new.sink) p c.in_ok-table.table c.in_ok-instance.ensures.found
           c.in_ok-table.ensures.found
           c.in-Ok.before c.in-Ok.ensures.found l c.in_ok-names.names c.in_ok-proved.proved c.in_ok-changes.changes

@@ -15,18 +15,19 @@ use Rattle.tt_call_answers.proofs.FailedReads.{read_summed, passed, calm, unread
 use Rattle.tt_call_answers.proofs.Sums.{sum_here, silent_refusal}
 use Rattle.tt_call_answers.proofs.Files.{tells_instance, tells_solution, only_memory}
 use Rattle.tt_call_names.proofs.Fitting.{names_memory}
-use Rattle.tt_call_texts.proofs.Paging.{names_tell_proved, sum_tells_page, page_tells, page_same, proved_same, output_tells, page_unwritten}
+use Rattle.tt_call_texts.proofs.Paging.{names_tell_proved, sum_tells_page, page_tells, page_same, proved_same, output_tells, page_after, page_unwritten}
 use Rattle.tt_call_texts.proofs.calls.page.proved_page.Goals as goal
 
 pub returns-in_err-instance-clause-only : goal.returns-in_err-instance-clause-only
 returns-in_err-instance-clause-only g c =
+    let texts = c.args.texts in
     let e = err_from_is_err_and c.from_residual.result c.from_residual.ensures.1 in
     λ p t l files b both named given h within. (
       proved_of b,
       by_bound p b,
       rw (e.1, e.2)
-          (inl (inl (only_memory c.args.instance.now c.args.solution.now p t _ both
-          (tells_instance c.args.instance.now c.args.solution.now c.in_err-instance.field-0.0 c.in_err-instance.ensures.exact)))),
+          (inl (inl (only_memory texts.instance.now texts.solution.now p t _ both
+          (tells_instance texts.instance.now texts.solution.now c.in_err-instance.field-0.0 c.in_err-instance.ensures.exact)))),
     )
 
 pub returns-in_err-instance-clause-lower : goal.returns-in_err-instance-clause-lower
@@ -36,13 +37,14 @@ returns-in_err-instance-clause-lower g c =
 
 pub returns-in_err-table-clause-only : goal.returns-in_err-table-clause-only
 returns-in_err-table-clause-only g c =
+    let texts = c.args.texts in
     let e = err_from_is_err_and c.from_residual-in_err-table.result c.from_residual-in_err-table.ensures.1 in
     λ p t l files b both named given h within. (
       proved_of b,
       by_bound p b,
       rw (e.1, e.2)
-          (inl (inl (only_memory c.args.instance.now c.args.solution.now p t _ both
-          (tells_solution c.args.instance.now c.args.solution.now c.in_ok-instance.instance c.in_err-table.field-0.0
+          (inl (inl (only_memory texts.instance.now texts.solution.now p t _ both
+          (tells_solution texts.instance.now texts.solution.now c.in_ok-instance.instance c.in_err-table.field-0.0
           c.in_ok-instance.ensures.found c.in_err-table.ensures.exact)))),
     )
 
@@ -53,20 +55,22 @@ returns-in_err-table-clause-lower g c =
 
 pub returns-in_err-labels-clause-fault : goal.returns-in_err-labels-clause-fault
 returns-in_err-labels-clause-fault g c =
+    let texts = c.args.texts in
     let e = err_from_is_err_and c.from_residual-in_err-labels.result c.from_residual-in_err-labels.ensures.1 in
     rw (e.1, e.2)
-    (names_tell_proved c.args.instance.now c.args.solution.now c.in_ok-instance.instance c.in_ok-table.table c.args.names
-    c.in_ok-instance.ensures.found c.in_ok-table.ensures.found c.args.style.now
+    (names_tell_proved texts.instance.now texts.solution.now c.in_ok-instance.instance c.in_ok-table.table texts.names
+    c.in_ok-instance.ensures.found c.in_ok-table.ensures.found texts.style.now
     (Give g.R.Source.remaining c.args.proofs.now) _ _ c.in_err-labels.field-0.0 c.in_err-labels.ensures)
 
 pub returns-in_err-labels-clause-only : goal.returns-in_err-labels-clause-only
 returns-in_err-labels-clause-only g c =
+    let texts = c.args.texts in
     let e = err_from_is_err_and c.from_residual-in_err-labels.result c.from_residual-in_err-labels.ensures.1 in
     λ p t l files b both named given h within. (
       proved_of b,
       by_bound p b,
       rw (e.1, e.2)
-          (inl (inl (names_memory c.args.instance.now p c.in_ok-instance.instance c.args.names l c.in_err-labels.field-0.0 both.spelled
+          (inl (inl (names_memory texts.instance.now p c.in_ok-instance.instance texts.names l c.in_err-labels.field-0.0 both.spelled
           c.in_ok-instance.ensures.found named c.in_err-labels.ensures))),
     )
 
@@ -77,18 +81,20 @@ returns-in_err-labels-clause-lower g c =
 
 pub returns-in_err-bound-clause-fault : goal.returns-in_err-bound-clause-fault
 returns-in_err-bound-clause-fault g c =
+    let texts = c.args.texts in
     let e = err_from_is_err_and c.from_residual-in_err-bound.result c.from_residual-in_err-bound.ensures.1 in
     rw (e.1, e.2)
-    (sum_tells_page c.args.instance.now c.args.solution.now c.in_ok-instance.instance c.in_ok-table.table c.args.names
-    c.in_ok-instance.ensures.found c.in_ok-table.ensures.found c.args.style.now _
+    (sum_tells_page texts.instance.now texts.solution.now c.in_ok-instance.instance c.in_ok-table.table texts.names
+    c.in_ok-instance.ensures.found c.in_ok-table.ensures.found texts.style.now _
     (Give g.R.Source.remaining c.args.proofs.now) _ _ c.in_err-bound.field-0.0 c.in_ok-labels.ensures
     c.in_err-bound.ensures.fault)
 
 pub returns-in_err-bound-clause-only : goal.returns-in_err-bound-clause-only
 returns-in_err-bound-clause-only g c =
+    let texts = c.args.texts in
     let e = err_from_is_err_and c.from_residual-in_err-bound.result c.from_residual-in_err-bound.ensures.1 in
     λ p t l files b both named given h within.
-    let here = sum_here c.args.instance.now files p c.in_ok-instance.instance b both.spelled c.in_ok-instance.ensures.found h within in (
+    let here = sum_here texts.instance.now files p c.in_ok-instance.instance b both.spelled c.in_ok-instance.ensures.found h within in (
       proved_of b,
       by_bound p b,
       rw (e.1, e.2) (inl (silent_refusal c.in_err-bound.field-0.0 (c.in_err-bound.ensures.only files b given here.is here.within))),
@@ -127,26 +133,28 @@ returns-in_err-proved-clause-failed_read g c =
 
 pub returns-in_err-page-clause-fault : goal.returns-in_err-page-clause-fault
 returns-in_err-page-clause-fault g c =
+    let texts = c.args.texts in
     let e = err_from_is_err_and c.from_residual-in_err-page.result c.from_residual-in_err-page.ensures.1 in
     rw (e.1, e.2)
-    (page_tells c.args.instance.now c.args.solution.now c.in_ok-instance.instance c.in_ok-table.table c.args.names
-    c.in_ok-instance.ensures.found c.in_ok-table.ensures.found c.args.style.now _ c.in_ok-bound.bound c.in_ok-proved.proved
+    (page_tells texts.instance.now texts.solution.now c.in_ok-instance.instance c.in_ok-table.table texts.names
+    c.in_ok-instance.ensures.found c.in_ok-table.ensures.found texts.style.now _ c.in_ok-bound.bound c.in_ok-proved.proved
     (Give g.R.Source.remaining c.args.proofs.now) _ _ c.in_err-page.field-0.0 c.in_ok-labels.ensures
     c.in_ok-bound.ensures.found c.in_ok-bound.ensures.holds c.in_ok-proved.ensures.by
     (λ is. c.in_err-page.ensures.part (ap (λ f. Err f) is)) c.in_err-page.ensures.size)
 
 pub returns-in_err-page-clause-only : goal.returns-in_err-page-clause-only
 returns-in_err-page-clause-only g c =
+    let texts = c.args.texts in
     let e = err_from_is_err_and c.from_residual-in_err-page.result c.from_residual-in_err-page.ensures.1 in
     let f = c.in_err-page.field-0.0 in
     let proved = c.in_ok-proved.proved in
     λ p t l files b both named given h within.
-    let here = sum_here c.args.instance.now files p c.in_ok-instance.instance b both.spelled c.in_ok-instance.ensures.found h within in
-    let same = page_same c.args.instance.now c.args.solution.now p c.in_ok-instance.instance t c.in_ok-table.table c.args.names l
-    c.in_ok-labels.labels (proved_text proved c.args.style.now) both c.in_ok-instance.ensures.found
+    let here = sum_here texts.instance.now files p c.in_ok-instance.instance b both.spelled c.in_ok-instance.ensures.found h within in
+    let same = page_same texts.instance.now texts.solution.now p c.in_ok-instance.instance t c.in_ok-table.table texts.names l
+    c.in_ok-labels.labels (proved_text proved texts.style.now) both c.in_ok-instance.ensures.found
     c.in_ok-table.ensures.found named c.in_ok-labels.ensures in (
       proved,
-      proved_same c.args.instance.now p c.in_ok-instance.instance b c.in_ok-bound.bound proved both.spelled c.in_ok-instance.ensures.found
+      proved_same texts.instance.now p c.in_ok-instance.instance b c.in_ok-bound.bound proved both.spelled c.in_ok-instance.ensures.found
           (c.in_ok-bound.ensures.only files b given here.is here.within) c.in_ok-proved.ensures.by,
       rw (e.1, e.2) (inr (subst (IsNotPut (fault_from_page f)) same (output_tells f _ c.in_err-page.ensures.size))),
     )
@@ -172,14 +180,15 @@ returns-clause-written g c = record {
 
 pub returns-clause-only : goal.returns-clause-only
 returns-clause-only g c =
+    let texts = c.args.texts in
     let proved = c.in_ok-proved.proved in
     λ p t l files b both named given h within.
-    let here = sum_here c.args.instance.now files p c.in_ok-instance.instance b both.spelled c.in_ok-instance.ensures.found h within in
-    let same = page_same c.args.instance.now c.args.solution.now p c.in_ok-instance.instance t c.in_ok-table.table c.args.names l
-    c.in_ok-labels.labels (proved_text proved c.args.style.now) both c.in_ok-instance.ensures.found
+    let here = sum_here texts.instance.now files p c.in_ok-instance.instance b both.spelled c.in_ok-instance.ensures.found h within in
+    let same = page_same texts.instance.now texts.solution.now p c.in_ok-instance.instance t c.in_ok-table.table texts.names l
+    c.in_ok-labels.labels (proved_text proved texts.style.now) both c.in_ok-instance.ensures.found
     c.in_ok-table.ensures.found named c.in_ok-labels.ensures in (
       proved,
-      proved_same c.args.instance.now p c.in_ok-instance.instance b c.in_ok-bound.bound proved both.spelled c.in_ok-instance.ensures.found
+      proved_same texts.instance.now p c.in_ok-instance.instance b c.in_ok-bound.bound proved both.spelled c.in_ok-instance.ensures.found
           (c.in_ok-bound.ensures.only files b given here.is here.within) c.in_ok-proved.ensures.by,
       (
         subst (λ (x : List ℕ). Appends (g.W.Sink.contents c.args.sink.now) (g.W.Sink.contents c.page.new.sink) x) same
@@ -254,6 +263,11 @@ returns-in_err-page-clause-failed g c =
     let f = c.in_err-page.field-0.0 in
     passed c.from_residual-in_err-page.result (fault_from_page f) is_failed_write _ _ _ c.from_residual-in_err-page.ensures.1
     (page_write f) c.in_err-page.ensures.failed
+
+pub returns-in_err-page-clause-unread : goal.returns-in_err-page-clause-unread
+returns-in_err-page-clause-unread g c =
+    let e = err_from_is_err_and c.from_residual-in_err-page.result c.from_residual-in_err-page.ensures.1 in
+    rw (e.1, e.2) (λ before. absurd (page_after c.in_err-page.field-0.0 before))
 
 pub returns-in_err-page-clause-unwritten : goal.returns-in_err-page-clause-unwritten
 returns-in_err-page-clause-unwritten g c =

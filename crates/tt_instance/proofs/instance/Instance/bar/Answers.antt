@@ -36,5 +36,6 @@ invariant_of-result c =
         unavailabilities = subst (λ n. IsBarred n c.self.inside.parts.days c.add_rows.new.list) indexed.unavailabilities.len
             c.in_ok-add_rows.ensures.barred;
       };
-      excluding = still_excluding p (unavailabilities_seen c.add_rows.new.list.rows.items) c.self.inside.conflicts.items c.self.invariant.excluding;
+      excluding = still_excluding p (unavailabilities_seen c.add_rows.new.list.rows.items) c.self.inside.conflicts.items
+          c.self.invariant.excluding;
     }

@@ -33,9 +33,9 @@ returns c =
     (c.loop-member.invariant k (omega arith)) in (
       λ _. record {
         from = subst (λ (z : Kempe). IsPeriod o.problem z.from) c.self.view_is
-            (subst (λ z. IsPeriod z c.self.inside.from) c.instance-instance.ensures (c.if-not-is_period.ensures.0 refl));
+            (subst (λ z. IsPeriod z c.self.inside.pair.from) c.instance-instance.ensures (c.if-not-is_period.ensures.0 refl));
         to = subst (λ (z : Kempe). IsPeriod o.problem z.to) c.self.view_is
-            (subst (λ z. IsPeriod z c.self.inside.to) c.instance-instance.ensures (c.if-not-is_period-2.ensures.0 refl));
+            (subst (λ z. IsPeriod z c.self.inside.pair.to) c.instance-instance.ensures (c.if-not-is_period-2.ensures.0 refl));
         apart = subst (λ (z : Kempe). same_slot z.from z.to ≡ false) c.self.view_is c.self.invariant.apart;
         inside = inside_from o.problem o.entries x.from x.to x.members each;
         closed = closed_from o.problem o.entries x.from x.to x.members each;

@@ -10,6 +10,6 @@ returns c =
     let s = c.self.inside in
     let x = c.args.cell in
     ap not c.has_cell.ensures
-    ∙ dead-cell s.instance.now s.facts.items s.live.words c.self.invariant.tables.live_cells x
+    ∙ dead-cell s.instance.now s.facts.items s.tables.live.words c.self.invariant.tables.live_cells x
     (subst (λ (v : Facts). InRange v.problem x) (sym c.self.view_is) c.requires)
     ∙ ap (λ (v : Facts). is_dead v.problem v.facts x) c.self.view_is

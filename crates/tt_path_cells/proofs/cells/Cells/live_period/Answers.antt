@@ -14,5 +14,5 @@ returns c =
     let hd : a.day < p.days = omega (arith, ap (λ (v : Facts). v.problem.days) c.self.view_is) in
     let hs : a.period < p.periods = omega (arith, ap (λ (v : Facts). v.problem.periods) c.self.view_is) in
     c.has_period.ensures
-    ∙ live-cells p s.facts.items s.live.words c.self.invariant.tables.live_cells a.course a.day a.period hc hd hs
+    ∙ live-cells p s.facts.items s.tables.live.words c.self.invariant.tables.live_cells a.course a.day a.period hc hd hs
     ∙ ap (λ (v : Facts). live_period v.problem v.facts a.course (slot a.day a.period)) c.self.view_is

@@ -14,5 +14,5 @@ returns c = λ k h.
     let hc : a.course < length p.courses = omega (arith, ap (λ (v : Facts). length v.problem.courses) c.self.view_is) in
     let hd : a.day < p.days = omega (arith, ap (λ (v : Facts). v.problem.days) c.self.view_is) in
     c.periods_of.ensures k h
-    ∙ live-periods p s.facts.items s.live.words c.self.invariant.tables.live_cells a.course a.day k hc hd
+    ∙ live-periods p s.facts.items s.tables.live.words c.self.invariant.tables.live_cells a.course a.day k hc hd
     ∙ ap (λ (v : Facts). nat_lt k v.problem.periods && live_period v.problem v.facts a.course (slot a.day k)) c.self.view_is

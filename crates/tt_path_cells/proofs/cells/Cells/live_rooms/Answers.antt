@@ -16,6 +16,6 @@ returns c = λ k h.
     let hs : a.period < p.periods = omega (arith, ap (λ (v : Facts). v.problem.periods) c.self.view_is) in
     let hb : a.block * 64 < length p.rooms = omega (arith, ap (λ (v : Facts). length v.problem.rooms) c.self.view_is) in
     c.cells_word.ensures k h
-    ∙ live-rooms p s.facts.items s.live.words c.self.invariant.tables.live_cells a.course a.day a.period a.block k hc hd hs hb h
+    ∙ live-rooms p s.facts.items s.tables.live.words c.self.invariant.tables.live_cells a.course a.day a.period a.block k hc hd hs hb h
     ∙ ap (λ (v : Facts). nat_lt (a.block * 64 + k) (length v.problem.rooms) && is_live v.problem v.facts
     (cell a.course (a.block * 64 + k) (slot a.day a.period))) c.self.view_is

@@ -36,15 +36,16 @@ invariant_of-self-in_default c =
     let f = c.args.fact in
     let old = s.facts.items in
     let facts = c.list_fact.new.facts.items in
-    let free = c.add.new.free.words in
-    let live = c.add.new.live.words in
+    let free = c.add.new.tables.free.words in
+    let live = c.add.new.tables.live.words in
     let e : facts ≡ old ++ f ∷ [] = c.in_ok-list_fact.ensures.ok in
     let listing = c.list_fact.ensures.listing in
     let yes = c.list_fact.new.yes.patterns in
     let listed : AreListed (old ++ f ∷ []) yes = subst (λ l. AreListed l yes) e
     (listing-now facts c.list_fact.new.firsts.items yes listing) in
     let before = c.self.invariant.tables in
-    let kept = earlier_pushed p old f s.free.earlier s.live.earlier s.free.words s.live.words before c.self.invariant.earlier in
+    let t = s.tables in
+    let kept = earlier_pushed p old f t.free.earlier t.live.earlier t.free.words t.live.words before c.self.invariant.earlier in
     record {
       links = c.self.invariant.links;
       order = c.self.invariant.order;

@@ -9,7 +9,8 @@ use Rattle.tt_prices_file.proofs.account.Account.add_group.Goals as goal
 
 pub add_group-requires-clause-rows : goal.add_group-requires-clause-rows
 add_group-requires-clause-rows c =
-    rows_are c.args.instance.now c.args.self.now.prices.slots c.args.group.now.rows.items c.requires.account.2.prices.slots c.requires.group.rows
+    rows_are c.args.instance.now c.args.self.now.prices.slots c.args.group.now.rows.items c.requires.account.2.prices.slots
+    c.requires.group.rows
 
 pub overflow_add-self : goal.overflow_add-self
 overflow_add-self c =

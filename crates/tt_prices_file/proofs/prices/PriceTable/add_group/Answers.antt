@@ -11,31 +11,38 @@ loop-row-init c = grown_none c.args.instance.now (group_of c.args.group.now) c.a
 
 pub add_row-requires-clause-fits : goal.add_row-requires-clause-fits
 add_row-requires-clause-fits c =
-    next_fits c.args.instance.now (group_of c.args.group.now) c.deref-row-items.result.now c.loop-row.row-index c.row-item.result c.row-item.is
+    next_fits c.args.instance.now (group_of c.args.group.now) c.deref-row-items.result.now c.loop-row.row-index c.row-item.result
+    c.row-item.is
     c.loop-row-test.true c.args.self.now c.loop-row.self
     (subst (AreRowsOf c.args.instance.now c.args.self.now.slots) (sym c.deref-row-items.ensures.value) c.requires.rows)
     c.loop-row.invariant c.requires.table.1.whole
 
 pub add_row-requires-clause-within : goal.add_row-requires-clause-within
 add_row-requires-clause-within c =
-    next_within c.args.instance.now (group_of c.args.group.now) (take c.loop-row.row-index c.deref-row-items.result.now) c.args.self.now c.loop-row.self
+    next_within c.args.instance.now (group_of c.args.group.now) (take c.loop-row.row-index c.deref-row-items.result.now) c.args.self.now
+    c.loop-row.self
     c.requires.table.0 c.loop-row.invariant c.requires.table.1 c.requires.table.2
 
 pub loop-row-preserved : goal.loop-row-preserved
 loop-row-preserved c =
     let rows = subst (AreRowsOf c.args.instance.now c.args.self.now.slots) (sym c.deref-row-items.ensures.value) c.requires.rows in
     let new = c.if-is_concerned.self in
-    let grown = IsGrownBy c.args.instance.now (group_of c.args.group.now) (take (c.loop-row.row-index + 1) c.deref-row-items.result.now) c.args.self.now in
+    let grown = IsGrownBy c.args.instance.now (group_of c.args.group.now) (take (c.loop-row.row-index + 1) c.deref-row-items.result.now)
+    c.args.self.now in
     elim c.if-is_concerned.branch [
       | then-is_concerned w ↦
           subst grown (sym w.self-is)
-          (next_more c.args.instance.now (group_of c.args.group.now) c.deref-row-items.result.now c.loop-row.row-index c.row-item.result c.row-item.is
-          c.loop-row-test.true c.args.self.now c.loop-row.self rows c.loop-row.invariant c.requires.table.1.whole w.add_row.new.self w.add_row.ensures
+          (next_more c.args.instance.now (group_of c.args.group.now) c.deref-row-items.result.now c.loop-row.row-index c.row-item.result
+          c.row-item.is
+          c.loop-row-test.true c.args.self.now c.loop-row.self rows c.loop-row.invariant c.requires.table.1.whole w.add_row.new.self
+          w.add_row.ensures
           (sym c.is_concerned.ensures ∙ w.if-is_concerned.true))
       | else-is_concerned w ↦
           subst grown (sym w.self-is)
-          (next_other c.args.instance.now (group_of c.args.group.now) c.deref-row-items.result.now c.loop-row.row-index c.row-item.result c.row-item.is
-          c.loop-row-test.true c.args.self.now c.loop-row.self rows c.loop-row.invariant (sym c.is_concerned.ensures ∙ w.if-is_concerned.false))
+          (next_other c.args.instance.now (group_of c.args.group.now) c.deref-row-items.result.now c.loop-row.row-index c.row-item.result
+          c.row-item.is
+          c.loop-row-test.true c.args.self.now c.loop-row.self rows c.loop-row.invariant
+          (sym c.is_concerned.ensures ∙ w.if-is_concerned.false))
     ]
 
 pub returns : goal.returns

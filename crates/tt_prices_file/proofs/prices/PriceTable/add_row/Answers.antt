@@ -13,8 +13,10 @@ pub overflow_add-index_mut : goal.overflow_add-index_mut
 overflow_add-index_mut c =
     let row = c.deref-price-items.ensures.value in
     let i = c.loop-period.period in
-    sum_fits c.args.self.now.sums.items c.args.row.now.prices.items (c.args.row.now.course * c.args.self.now.slots) i c.loop-period.self.sums.items
-    c.loop-period.invariant.first (subst (λ l. i < length l) row c.loop-period-test.true) c.requires.fits c.requires.within c.args.row.now.small
+    sum_fits c.args.self.now.sums.items c.args.row.now.prices.items (c.args.row.now.course * c.args.self.now.slots) i
+    c.loop-period.self.sums.items
+    c.loop-period.invariant.first (subst (λ l. i < length l) row c.loop-period-test.true) c.requires.fits c.requires.within
+    c.args.row.now.small
     c.index_mut.result.now c.from.result c.index_mut.ensures.value (c.from.ensures ∙ ap (λ l. to_z w32 (of_z w32 (number_at l i))) row)
 
 pub loop-period-preserved : goal.loop-period-preserved
@@ -24,7 +26,8 @@ loop-period-preserved c =
     record {
       slots = c.loop-period.invariant.slots;
       first = sum_added c.args.self.now.sums.items c.args.row.now.prices.items (c.args.row.now.course * c.args.self.now.slots) i
-          c.loop-period.self.sums.items c.loop-period.invariant.first (subst (λ l. i < length l) row c.loop-period-test.true) c.requires.fits
+          c.loop-period.self.sums.items c.loop-period.invariant.first (subst (λ l. i < length l) row c.loop-period-test.true)
+          c.requires.fits
           c.requires.within c.args.row.now.small c.index_mut.result.now c.from.result c.index_mut.ensures.value
           (c.from.ensures ∙ ap (λ l. to_z w32 (of_z w32 (number_at l i))) row);
     }

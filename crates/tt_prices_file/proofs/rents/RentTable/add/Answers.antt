@@ -17,10 +17,12 @@ returns-clause-table c = λ xs table.
     let few = subst (λ n. length x.rents ≤ n) (sym table.slots) c.requires.room.1.few in
     let fits = rents_fit p xs x old table c.requires.room.0 few c.requires.room.1.each none in
     let start = x.room * old.slots in
-    let whole = put_mid-paste start (start + c.len.result - start) c.deref_mut.result.now c.copy_from_slice.new.self x.rents (length x.rents)
+    let whole = put_mid-paste start (start + c.len.result - start) c.deref_mut.result.now c.copy_from_slice.new.self x.rents
+    (length x.rents)
     (c.copy_from_slice.ensures.after ∙ c.deref.ensures.value) (omega (arith, c.len.ensures)) refl in
     let rents = c.deref_mut.ensures.value in
     let here = subst (λ l. start + length x.rents ≤ length l) (sym rents) fits in
-    let long = ap length whole ∙ length-paste c.deref_mut.result.now start x.rents (length x.rents) here (omega arith) ∙ c.deref_mut.ensures.len in
+    let long = ap length whole ∙ length-paste c.deref_mut.result.now start x.rents (length x.rents) here (omega arith) ∙
+    c.deref_mut.ensures.len in
     rented_more p xs x old table c.requires.room.0 few c.requires.room.1.each none _ refl
     (with_items_is old.prices.rents _ long ∙ whole ∙ ap (λ l. paste l start x.rents (length x.rents)) rents) c.in_ok-push.ensures.items

@@ -1,9 +1,0 @@
-use Rattle.std.proofs.Common.{◌≡◌, ℕ, take}
-use Rattle.std.specs.List.{list_all}
-use Rattle.tt_path_cells.specs.Inner.Rooms.{has_room}
-use Rattle.tt_path_cells.specs.Inner.Struck.{is_lost_to}
-use Rattle.tt_path_cells.proofs.killing.lost_rooms.Given as goal
-
-abbrev pub invariant-loop-other : goal.invariant-loop-other
-invariant-loop-other l = (r : ℕ) → has_room l.lost r ≡ list_all (is_lost_to l.instance l.free.words l.pattern l.day l.period l.course r)
-    (take l.other-index l.courses)

@@ -1,5 +1,0 @@
-use Rattle.tt_path_cells.specs.Inner.Slots.{is_left_in, IsNone}
-use Rattle.tt_path_cells.proofs.periods.first_left.Given as goal
-
-abbrev pub invariant-loop-slot : goal.invariant-loop-slot
-invariant-loop-slot l = IsNone (is_left_in l.instance l.free.words l.pattern l.courses) l.fn.from l.slot

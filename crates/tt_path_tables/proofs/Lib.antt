@@ -1,0 +1,7 @@
+pub mod Grid
+pub mod Dropping
+pub mod Reading
+pub mod FirstTable
+pub mod Losing
+pub mod Barred
+pub mod Linked
