@@ -91,7 +91,7 @@ module _ (p : Problem) (best : Option (List Cell)) (links : List Link) (tree_nod
   proved_by : (b : Bound) → length tree_nodes ≤ 131073 → AllByRecursion (λ x. IsRightOn p b x.path x.node) xs → IsShallow grown.tree
       × Derives p b [] grown.tree
   proved_by b h right =
-      passed_tree p b grown.tree
+      passed_tree p [] b grown.tree
       (All-from_recursion (Passes p b) xs (each_both (λ x. length x.path ≤ 65536) (λ x. IsRightOn p b x.path x.node) xs
       (shallow h) right))
 

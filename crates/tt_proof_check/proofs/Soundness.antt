@@ -30,5 +30,5 @@ pub root_sound : (p : Problem) (b : Bound) (tree : Tree) → Derives p b [] tree
 root_sound p b tree d t ok = tree_sound p t ok b [] tree d (All-nil (Holds p t))
 
 -- a bound that the nodes prove holds for every feasible timetable
-pub proof_sound : (p : Problem) (b : Bound) (nodes : List Node) → Proves p b nodes → HoldsOfAll p b
+pub proof_sound : (p : Problem) (b : Bound) (nodes : List Node) → Proves p [] b nodes → HoldsOfAll p b
 proof_sound p b nodes h t ok = root_sound p b h.0 h.3 t ok

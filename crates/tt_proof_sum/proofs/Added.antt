@@ -168,7 +168,8 @@ tree_faultless : (p : Problem) → IsInstance p → (parts : List Part) (bytes :
     → AreApart (parts ++ TreeProof k ∷ []) → IsSmall (sum_of (parts ++ TreeProof k ∷ [])) → (f : FileFault)
     → ExplainsAdded p parts bytes f → ⊥
 tree_faultless p is parts bytes k spelled apart within (Proof f) reported =
-    proved_faultless p is bytes k.bound (k.version, k.tree, spelled.spelled, spelled.derives) f reported.fault
+    proved_faultless p [] is bytes k.bound (k.version, k.tree, spelled.spelled, spelled.derives, spelled.spelled.within.depth) f
+    reported.fault
 tree_faultless p is parts bytes k spelled apart within (Groups f) reported =
     let no : kind.Tree ≡ kind.Groups = sym (part_kind p bytes (TreeProof k) spelled) ∙ reported.kind in cc
 tree_faultless p is parts bytes k spelled apart within (Prices f) reported =

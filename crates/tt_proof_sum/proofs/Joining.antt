@@ -321,11 +321,11 @@ abbrev pub TableVisited : State → State → List Node → Type 0
 TableVisited a b = Visited (λ s j n u. 0 < s.proof → Claims s (at_node j (places_in n)) u) 0 a b
 
 pub newest : (p : Problem) (remaining : Option (List ℕ)) (t b : State) → 0 < t.proof → (x : Bound)
-    → IsVisitedProof p remaining (TableVisited t b) x → b.proof ≡ t.proof
+    → IsVisitedProof p [] remaining (TableVisited t b) x → b.proof ≡ t.proof
 newest p remaining t b some x h = (visited_claims 0 t b (preorder h.tree) some h.visited).proof
 
 module _ (p : Problem) (remaining : Option (List ℕ)) (t b : State) (parts : List Part) (of : IsTableOf t parts) (x : Bound)
-    (h : IsVisitedProof p remaining (TableVisited (begun t) b) x) where
+    (h : IsVisitedProof p [] remaining (TableVisited (begun t) b) x) where
   abbrev part : TreePart
   part = record { version = h.version; bound = x; tree = h.tree }
 

@@ -79,7 +79,7 @@ pub record IsTooLarge (p : Problem) (parts : List Part) (bytes : List ℕ) : Typ
 -- The text is a tree proof, and has this fault.
 pub record IsTreeFault (p : Problem) (bytes : List ℕ) (f : CheckFault) : Type 0 where
   pub kind : kind_of bytes ≡ kind.Tree
-  pub fault : IsProofFault p (stream_of bytes) f
+  pub fault : IsProofFault p [] (stream_of bytes) f
 
 -- The text is a file of groups, and has this fault.
 pub record IsGroupsFault (p : Problem) (parts : List Part) (bytes : List ℕ) (f : GroupsFault) : Type 0 where

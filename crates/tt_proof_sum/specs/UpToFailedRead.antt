@@ -19,5 +19,5 @@ AreGroupsCutOff p s = (header_at s ≡ Err (Text read_failed)) ⊎ AfterClaims p
 -- Everything in the bytes that the source gave has been read and checked, as a tree proof, as a file of groups or as one of groups with prices.
 abbrev pub IsFileCheckedUpToFailedRead : Problem → List ℕ → Option (List ℕ) → Type 0
 IsFileCheckedUpToFailedRead p bytes left =
-    IsCheckedUpToFailedRead p bytes left ⊎ (((kind_of bytes ≡ kind.Groups) × HoldsOfGiven bytes left (AreGroupsCutOff p))
+    IsCheckedUpToFailedRead p [] bytes left ⊎ (((kind_of bytes ≡ kind.Groups) × HoldsOfGiven bytes left (AreGroupsCutOff p))
     ⊎ ((kind_of bytes ≡ kind.Prices) × HoldsOfGiven bytes left (ArePricesCutOff p)))

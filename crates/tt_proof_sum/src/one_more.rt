@@ -1,6 +1,6 @@
 //! Adding a file, whose claims are added to the table of owners.
 
-ghost use Rattle.std.specs.Prelude.{◌≡◌, ◌+◌, ◌<◌, ℕ, List, Some, Err, true, false, if◌then◌else◌, IfOk, OnOk};
+ghost use Rattle.std.specs.Prelude.{◌≡◌, ◌+◌, ◌<◌, ℕ, List, [], Some, Err, true, false, if◌then◌else◌, IfOk, OnOk};
 ghost use Rattle.tt_text_peek.specs.Fronts.{kind_of};
 ghost use Rattle.tt_text_peek.specs.declared.kind.FileKind.TheVariants as kind;
 ghost use Rattle.tt_stop.specs.Stops.{IfFault, is_read_failed};
@@ -39,7 +39,7 @@ fn take_proof<R: Source>(
     ensures lower { IfFault result HoldsNoStop }
     ensures failed { R.has_failed source.new ≡ (if is_read_failed result then true else R.has_failed source.old) }
     ensures up_to_failed_read { result ≡ Err Stop.ReadFailed → (bytes : List ℕ) → R.remaining source.old ≡ Some bytes →
-        IsCheckedUpToFailedRead instance.now bytes (R.remaining source.new) }
+        IsCheckedUpToFailedRead instance.now [] bytes (R.remaining source.new) }
 {
     // Brings the instance's limits into the proof.
     prove!(instance.days() > 0);

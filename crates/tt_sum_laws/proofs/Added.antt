@@ -27,7 +27,7 @@ module _ (p : Problem) (is : IsInstance p) (parts : List Part) (bytes : List ℕ
   -- ---- a part that is right, and a fault of its text
 
   part_proof : (f : CheckFault) (k : Part) → IsPart p bytes k → IsTreeFault p bytes f → ⊥
-  part_proof f (TreeProof k) h t = proved_faultless p is bytes k.bound (k.version, k.tree, h.spelled, h.derives) f t.fault
+  part_proof f (TreeProof k) h t = proved_faultless p [] is bytes k.bound (k.version, k.tree, h.spelled, h.derives, h.spelled.within.depth) f t.fault
   part_proof f (GroupsFile k) h t = let no : kind.Groups ≡ kind.Tree = sym h.kind ∙ t.kind in cc
   part_proof f (PricesFile k) h t = let no : kind.Prices ≡ kind.Tree = sym h.kind ∙ t.kind in cc
 
@@ -68,7 +68,7 @@ module _ (p : Problem) (is : IsInstance p) (parts : List Part) (bytes : List ℕ
   pub one_added : (f g : FileFault) → ExplainsAdded p parts bytes f → ExplainsAdded p parts bytes g → (IsUnfinished f → ⊥)
       → (IsUnfinished g → ⊥) → f ≡ g
   one_added (Proof f) (Proof g) h k closed shut =
-      ap (λ x. Proof x) (one_fault p (stream_of bytes) f g h.fault k.fault)
+      ap (λ x. Proof x) (one_fault p [] (stream_of bytes) f g h.fault k.fault)
   one_added (Proof f) (Groups g) h k closed shut =
       let no : kind.Tree ≡ kind.Groups = sym (h.kind) ∙ k.kind in absurd cc
   one_added (Proof f) (Prices g) h k closed shut =

@@ -1,4 +1,4 @@
-use Rattle.std.proofs.Common.{Err, sym, ap, subst, ◌∙◌}
+use Rattle.std.proofs.Common.{[], Err, sym, ap, subst, ◌∙◌}
 use Rattle.tt_stop.proofs.Stops.{OnFault-weaker, at_mapped, mapped_reads, mapped_read}
 use Rattle.tt_proof_sum.specs.declared.fault.FileFault.TheVariants.{Proof}
 use Rattle.tt_proof_check.specs.Visited.{IsVisitedProof}
@@ -12,7 +12,7 @@ returns-in-Some-clause-fault g c =
     let p = c.args.instance.now in
     let remaining = g.R.Source.remaining c.args.source.now in
     let b = c.check_proof_with.new.visitor in
-    let visited = subst (λ (a : State). IsVisitedProof p remaining (TableVisited a b) c.in-Ok.bound) begins c.in-Ok.ensures.visited in
+    let visited = subst (λ (a : State). IsVisitedProof p [] remaining (TableVisited a b) c.in-Ok.bound) begins c.in-Ok.ensures.visited in
     claimed_elsewhere p remaining before b parts of c.in-Ok.bound visited c.days.ensures.instance bytes known c.in-Some.clash
     (sym c.clash.ensures ∙ c.in-Some.is)
 
@@ -22,7 +22,7 @@ returns-clause-joins g c =
     let p = c.args.instance.now in
     let remaining = g.R.Source.remaining c.args.source.now in
     let b = c.check_proof_with.new.visitor in
-    let visited = subst (λ (a : State). IsVisitedProof p remaining (TableVisited a b) c.in-Ok.bound) begins c.in-Ok.ensures.visited in
+    let visited = subst (λ (a : State). IsVisitedProof p [] remaining (TableVisited a b) c.in-Ok.bound) begins c.in-Ok.ensures.visited in
     joins p remaining before b parts of c.in-Ok.bound visited (sym c.clash.ensures ∙ c.in_default.is)
 
 pub returns-clause-proof : goal.returns-clause-proof
