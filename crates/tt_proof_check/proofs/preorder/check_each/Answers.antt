@@ -1,9 +1,12 @@
 use Rattle.std.proofs.Common.{◌<◌, ◌≤◌, length, refl, ◌∙◌, subst, arith}
 use Rattle.tt_proof_check.specs.Inner.Steps.{Stops}
 use Rattle.tt_proof_check.specs.declared.walk.NodeStop.TheVariants.{Rule, TooDeep}
-use Rattle.tt_proof_check.proofs.InOrder.{midway_next, midway_fails, midway_deep, midway_end}
+use Rattle.tt_proof_check.proofs.InOrder.{midway_root, midway_next, midway_fails, midway_deep, midway_end}
 use Rattle.tt_proof_check.proofs.Walking.{steps_as}
 use Rattle.tt_proof_check.proofs.preorder.check_each.Goals as goal
+
+pub check_node-requires : goal.check_node-requires
+check_node-requires g c = ?
 
 pub returns-in-Err-Rule-clause-fault : goal.returns-in-Err-Rule-clause-fault
 returns-in-Err-Rule-clause-fault g c =
@@ -45,8 +48,7 @@ loop-i-preserved g c =
     record {
       walked = midway_next p root c.args.bound nodes c.requires.tree i n inside c.index-nodes-i.is path c.loop-i.invariant.walked next
           (steps_as _ p c.depth-root.result (length root) c.args.bound c.args.bound path n next c.loop-i.invariant.same_problem
-          c.loop-i.invariant.root refl c.in-Ok.ensures.steps) c.in-Ok.ensures.within;
-      root = c.loop-i.invariant.root;
+          c.depth-root.ensures.value refl c.in-Ok.ensures.steps) c.in-Ok.ensures.within;
       same_problem = c.in-Ok.ensures.unchanged ∙ c.loop-i.invariant.same_problem;
     }
 
