@@ -3,6 +3,7 @@ use Rattle.std.specs.Prelude.{◌≡◌, List, Option, IfSome, option_map}
 use Rattle.tt_instance.specs.Problem.{Problem}
 use Rattle.tt_instance.specs.declared.cell.Cell.{Cell}
 use Rattle.tt_rules.specs.Score.{IsFeasible, cost}
+use Rattle.tt_path.specs.declared.facts.Fact.{Fact}
 use Rattle.tt_branch.specs.declared.best.Best.{Best}
 use Rattle.tt_branch.specs.declared.tree_node.TreeNode.{TreeNode}
 use Rattle.tt_branch.specs.declared.links.Link.{Link}
@@ -25,5 +26,6 @@ table_of best = option_map (λ b. b.table) best
 -- Everything that was known about the nodes for the old best timetable is true for the new one, and the new one is at most as expensive.
 pub record Advances (p : Problem) (old new : Option Best) : Type 0 where
   pub kept : IsBestSoFar p new
-  pub grown : (links : List Link) (tree_nodes : List TreeNode) → IsGrown p (table_of old) links tree_nodes → IsGrown p (table_of new) links tree_nodes
+  pub grown : (root : List Fact) (links : List Link) (tree_nodes : List TreeNode) → IsGrown p root (table_of old) links tree_nodes
+      → IsGrown p root (table_of new) links tree_nodes
   pub no_dearer : (t : List Cell) → IsNoDearer p (table_of old) t → IsNoDearer p (table_of new) t
