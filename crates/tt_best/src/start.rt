@@ -161,7 +161,7 @@ fn search_tree<W: Watch>(
         bound,
         proof,
         ..
-    } = solve(alloc, instance, TREE_NODES, seed, watch)?;
+    } = solve(alloc, instance, &[], TREE_NODES, seed, watch)?;
     Ok(Week {
         parts: parts_of_tree(alloc, instance, bound, &proof)?,
         table: table_after(alloc, instance, given, best, seed)?,

@@ -1,6 +1,6 @@
 //! The search for a best timetable and a proof of a lower bound.
 
-ghost use Rattle.std.specs.Prelude.{◌≡◌, ◌≤◌, ◌+◌, ◌++◌, [], length, IfOk, OnOk};
+ghost use Rattle.std.specs.Prelude.{◌≡◌, ◌≤◌, ◌+◌, length, IfOk};
 ghost use Rattle.tt_instance.specs.Problem.{Problem};
 ghost use Rattle.tt_path.specs.declared.path.TheConstants.{MAX_FACTS};
 ghost use Rattle.tt_leaf_find.specs.Found.{ArePatterns};
@@ -13,7 +13,7 @@ ghost use Rattle.tt_branch.specs.declared.limit.TheConstants.{MAX_OPENED};
 
 use crate::best::{Best, Turns, bound_of, first_best};
 use crate::improvement::Improvement;
-use crate::moves::push_all;
+use crate::moves::push_root;
 use crate::nodes::{Written, write_nodes};
 use crate::rounds::{Ending, grow};
 use crate::search::Search;
@@ -21,7 +21,7 @@ use crate::visit::{best_worth, open_at};
 use std::alloc::{AllocError, Global};
 use tt_instance::Instance;
 use tt_leaf::Bound;
-use tt_path::{Fact, Path, PathFault};
+use tt_path::{Fact, Path};
 use tt_path_trail::TrailPath;
 use tt_proof_read::Node;
 use tt_reason::find_reason;
@@ -121,20 +121,6 @@ fn solve_over<'i, P: Path<'i>, W: Watch>(
     open_at(alloc, path, root, &mut search, 0)?;
     let ending = grow(alloc, path, root, &mut search, limit, watch)?;
     conclude(alloc, path, root, search, ending)
-}
-
-/// Adds the facts of a root to a path that has none.
-fn push_root<'i, P: Path<'i>>(path: &mut P, root: &[Fact]) -> Result<(), AllocError>
-    requires none { P.facts path.old ≡ [] }
-    requires depth { length root.now ≤ MAX_FACTS }
-    ensures facts { OnOk result (P.facts path.new ≡ root.now) }
-    ensures unchanged { P.problem path.new ≡ P.problem path.old }
-{
-    match push_all(path, root) {
-        Ok(()) => Ok(()),
-        Err(PathFault::OutOfMemory) => Err(AllocError),
-        Err(PathFault::TooDeep) => unreachable!(),
-    }
 }
 
 /// Returns the turns of the improvement: none if there is a plain reason why no feasible timetable exists.
