@@ -11,6 +11,7 @@ use Rattle.tt_instance.specs.Problem.{Problem}
 use Rattle.tt_instance.specs.Limits.{IsInstance}
 use Rattle.tt_instance.specs.declared.cell.Cell.{Cell}
 use Rattle.tt_rules.specs.Score.{IsFeasible}
+use Rattle.tt_path.specs.Facts.{Fits}
 use Rattle.tt_path.specs.Live.{least, least_with}
 use Rattle.tt_path.specs.declared.facts.Fact.{Fact}
 use Rattle.tt_path.proofs.Least.{least_with-le}
@@ -43,7 +44,7 @@ use Rattle.tt_branch.specs.declared.tree_node.TreeNode.{TreeNode}
 use Rattle.tt_branch.specs.declared.links.Link.{Link}
 use Rattle.tt_branch.specs.declared.search.Search.{Search}
 use Rattle.tt_branch.specs.Inner.Growing.{node_of, IsKnown, IsSameNode, IsGrown, is_open, node_at, worth_at, nodes_of, worths_of}
-use Rattle.tt_branch.specs.Inner.BestSoFar.{IsBestSoFar, table_of, Advances}
+use Rattle.tt_branch.specs.Inner.BestSoFar.{IsBestSoFar, FitsRoot, table_of, Advances}
 use Rattle.tt_branch.specs.Inner.Links.{path_at}
 use Rattle.tt_branch.specs.Outcomes.{BeginsWell, final_bound, IsOutcome}
 use Rattle.tt_branch.specs.Proofs.{node_worth, worths, IsShortNode, IsSearched, shown_bound}
@@ -119,7 +120,8 @@ module _ (p : Problem) (ok : IsInstance p) where
     pub nodes_are : preorder grown.tree ≡ nodes_of p root links tree_nodes
     nodes_are = sym (preorder-on_paths root grown.tree) ∙ sym (same_nodes xs tree_nodes grown.together)
 
-    same_worths : (ys : List OnPath) (es : List TreeNode) → AllZip (IsSameNode p root best links) ys es → worths_of p root links es ≡ worths p ys
+    same_worths : (ys : List OnPath) (es : List TreeNode) → AllZip (IsSameNode p root best links) ys es
+        → worths_of p root links es ≡ worths p ys
     same_worths [] [] h = refl
     same_worths [] (e ∷ es) h = absurd h
     same_worths (y ∷ ys) [] h = absurd h
@@ -189,6 +191,10 @@ module _ (p : Problem) (ok : IsInstance p) where
   best_feasible None k = tt
   best_feasible (Some b) k = k.feasible
 
+  best_fits : (root : List Fact) (best : Option Best) → FitsRoot p root best → IfSome (table_of best) (λ t. Fits p t root)
+  best_fits root None k = tt
+  best_fits root (Some b) k = k
+
   module _ (root : List Fact) (s : Search) (u : IsUnderWay p root s) (limit : ℕ) (small : length root + limit ≤ 65536) (nodes : List Node)
       (is : nodes ≡ nodes_of p root s.links.items s.tree_nodes.items) where
     abbrev links : List Link
@@ -233,13 +239,14 @@ module _ (p : Problem) (ok : IsInstance p) where
     }
 
     -- the end of a search
-    pub concluded : (finished : Bool) (lowest : Option ℕ) → BeginsWell p best → EndsAt limit tree_nodes finished
+    pub concluded : (finished : Bool) (lowest : Option ℕ) → BeginsWell p root best → EndsAt limit tree_nodes finished
         → (finished ≡ false → lowest ≡ least (worths_of p root links tree_nodes))
         → IsOutcome p root limit best (shown_bound (final_bound p best) lowest finished) nodes finished
     concluded true lowest begun ends same =
         let proved = finished_proves p root best links tree_nodes u.grown (omega (arith, ends.1)) ends.0 in
         record {
           feasible = best_feasible s.best u.kept;
+          fits = best_fits root s.best u.fits;
           begun = begun;
           tree = u.grown.tree;
           searched = searched (final_bound p best) (omega (arith, ends.1)) (bound_final s.best u.kept) proved.1;
@@ -259,6 +266,7 @@ module _ (p : Problem) (ok : IsInstance p) where
         let derives = subst (λ (b : Bound). Derives p b root u.grown.tree) (sym shown) proved.1 in
         record {
           feasible = best_feasible s.best u.kept;
+          fits = best_fits root s.best u.fits;
           begun = begun;
           tree = u.grown.tree;
           searched = searched (shown_bound (final_bound p best) lowest false) (omega (arith, ends.2)) bound derives;
@@ -281,12 +289,13 @@ few_ended root limit tree_nodes true small ends = omega (arith, ends.1)
 few_ended root limit tree_nodes false small ends = omega (arith, ends.2)
 
 -- if a search began well, a better timetable preserves this
-pub begun_still : (p : Problem) (old new : Option Best) → BeginsWell p (table_of old) → Advances p old new → BeginsWell p (table_of new)
-begun_still p old new b a = record {
+pub begun_still : (p : Problem) (root : List Fact) (old new : Option Best) → BeginsWell p root (table_of old) → Advances p root old new
+    → BeginsWell p root (table_of new)
+begun_still p root old new b a = record {
   start = b.start;
   constructed = b.constructed;
   end = b.end;
   settled = b.settled;
   descent = b.descent;
-  kept = λ f. a.no_dearer b.end (b.kept f);
+  kept = λ f fits. a.no_dearer b.end (b.kept f fits);
 }

@@ -78,16 +78,18 @@ leaves_shallow : (tree : Tree) (path : List Fact) → AllByRecursion (λ x. leng
     → IsShallowOn path tree
 leaves_shallow (Tip leaf) path a = a.0
 leaves_shallow (Fork g x y) path a =
-    let h = each_of_append (λ (z : OnPath). length z.path ≤ 65536) (on_paths (with_fact path g true) x) (on_paths (with_fact path g false) y)
-    a.1 in
+    let yes = on_paths (with_fact path g true) x in
+    let no = on_paths (with_fact path g false) y in
+    let h = each_of_append (λ (z : OnPath). length z.path ≤ 65536) yes no a.1 in
     (leaves_shallow x (with_fact path g true) h.0, leaves_shallow y (with_fact path g false) h.1)
 
 derives_on : (p : Problem) (b : Bound) (tree : Tree) (path : List Fact)
     → AllByRecursion (λ x. IsRightOn p b x.path x.node) (on_paths path tree) → Derives p b path tree
 derives_on p b (Tip leaf) path a = a.0
 derives_on p b (Fork g x y) path a =
-    let h = each_of_append (λ (z : OnPath). IsRightOn p b z.path z.node) (on_paths (with_fact path g true) x)
-    (on_paths (with_fact path g false) y) a.1 in
+    let yes = on_paths (with_fact path g true) x in
+    let no = on_paths (with_fact path g false) y in
+    let h = each_of_append (λ (z : OnPath). IsRightOn p b z.path z.node) yes no a.1 in
     (derives_on p b x (with_fact path g true) h.0, derives_on p b y (with_fact path g false) h.1)
 
 -- ---- the end

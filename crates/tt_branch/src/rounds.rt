@@ -46,7 +46,7 @@ fn open_next<'i, P: Path<'i>>(
     requires at_most { 2 * length root.now + length search.old.tree_nodes.items ≤ MAX_TREE }
     ensures rooted { OnOk result (IsRooted root.now (P.facts path.new)) }
     ensures under_way { OnOk result (IsUnderWay (P.problem path.old) root.now search.new) }
-    ensures better { OnOk result (Advances (P.problem path.old) search.old.best search.new.best) }
+    ensures better { OnOk result (Advances (P.problem path.old) root.now search.old.best search.new.best) }
     ensures opened { OnOk result (opened_in search.new.tree_nodes.items ≡ opened_in search.old.tree_nodes.items + 1) }
     ensures many { OnOk result (length search.new.tree_nodes.items ≤ length search.old.tree_nodes.items + 2) }
     ensures unchanged { P.problem path.new ≡ P.problem path.old }
@@ -81,7 +81,7 @@ pub fn grow<'i, P: Path<'i>, W: Watch>(
     requires at_most { length root.now + limit ≤ MAX_FACTS }
     ensures rooted { OnOk result (IsRooted root.now (P.facts path.new)) }
     ensures under_way { OnOk result (IsUnderWay (P.problem path.old) root.now search.new) }
-    ensures better { OnOk result (Advances (P.problem path.old) search.old.best search.new.best) }
+    ensures better { OnOk result (Advances (P.problem path.old) root.now search.old.best search.new.best) }
     ensures ends { IfOk result (λ e. EndsAt e.opened search.new.tree_nodes.items e.finished) }
     ensures within { IfOk result (λ e. e.opened ≤ limit) }
     ensures all { IfOk result (λ e. (e.opened ≡ limit) ⊎ W.has_ended watch.new) }

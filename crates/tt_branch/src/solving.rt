@@ -4,9 +4,9 @@ ghost use Rattle.std.specs.Prelude.{◌≡◌, ◌≤◌, ◌+◌, length, IfOk}
 ghost use Rattle.tt_instance.specs.Problem.{Problem};
 ghost use Rattle.tt_path.specs.declared.path.TheConstants.{MAX_FACTS};
 ghost use Rattle.tt_leaf_find.specs.Found.{ArePatterns};
-ghost use Rattle.tt_branch.specs.Inner.BestSoFar.{IsBestSoFar, table_of};
+ghost use Rattle.tt_branch.specs.Inner.BestSoFar.{IsBestSoFar, FitsRoot, table_of};
 ghost use Rattle.tt_branch.specs.Inner.Links.{IsRooted};
-ghost use Rattle.tt_branch.specs.Outcomes.{IsOutcome, IsOutcomeUntil, BeginsWell, final_bound};
+ghost use Rattle.tt_branch.specs.Outcomes.{IsOutcome, IsOutcomeUntil, BeginsWell, final_bound, root_limit};
 ghost use Rattle.tt_branch.specs.Proofs.{shown_bound};
 ghost use Rattle.tt_branch.specs.Inner.State.{IsUnderWay, EndsAt};
 ghost use Rattle.tt_branch.specs.declared.limit.TheConstants.{MAX_OPENED};
@@ -31,13 +31,13 @@ use tt_watch::Watch;
 /// The result of a search.
 #[derive(Drop)]
 pub struct Outcome {
-    /// The best timetable that breaks no hard rule.
+    /// The best timetable that breaks no hard rule and fits the root.
     pub best: Option<Timetable>,
     /// The bound that the proof shows for every timetable that breaks no hard rule and fits the root.
     pub bound: Bound,
     /// The nodes of the proof, in preorder.
     pub proof: Vec<Node>,
-    /// Whether each node is closed, so that no timetable that fits the root is better than the best one.
+    /// Whether each node is closed, so that the best timetable is optimal among those that fit the root.
     pub finished: bool,
 }
 
@@ -62,7 +62,7 @@ fn conclude<'i, P: Path<'i>>(
 ) -> Result<Outcome, AllocError>
     requires rooted { IsRooted root.now (P.facts path.old) }
     requires under_way { IsUnderWay (P.problem path.old) root.now search }
-    requires begun { BeginsWell (P.problem path.old) (table_of search.best) }
+    requires begun { BeginsWell (P.problem path.old) root.now (table_of search.best) }
     requires ends { EndsAt ending.opened search.tree_nodes.items ending.finished }
     requires at_most { length root.now + ending.opened ≤ MAX_FACTS }
     ensures { IfOk result (λ o. IsOutcome (P.problem path.old) root.now ending.opened o.best o.bound o.proof.items o.finished) }
@@ -112,7 +112,8 @@ fn solve_over<'i, P: Path<'i>, W: Watch>(
     requires rooted { IsRooted root.now (P.facts path.old) }
     requires patterns { ArePatterns (P.problem path.old) root.now }
     requires best { IsBestSoFar (P.problem path.old) best }
-    requires begun { BeginsWell (P.problem path.old) (table_of best) }
+    requires fits { FitsRoot (P.problem path.old) root.now best }
+    requires begun { BeginsWell (P.problem path.old) root.now (table_of best) }
     requires positive { 1 ≤ limit }
     requires at_most { length root.now + limit ≤ MAX_FACTS }
     ensures { IfOk result (λ o. IsOutcomeUntil (P.problem path.old) root.now limit (W.has_ended watch.new) o.best o.bound o.proof.items o.finished) }
@@ -136,8 +137,7 @@ fn turns_in(alloc: Global, instance: &Instance<'_>, nodes: u32) -> Result<Turns,
 /// Searches for a best timetable by a tree below a root of facts. Returns the best timetable that it found and a proof of a lower bound for those that
 /// fit the root, of at most `nodes` nodes if each is closed, and of fewer than twice as many otherwise; if each is closed, the cost and the bound are
 /// equal, or no timetable exists that fits and breaks no hard rule. If the watch ends the search, the result is that of a search of fewer nodes. It
-/// makes no promise about which nodes are opened. Each node that is opened can make a path longer by a fact, so the facts of the root and the nodes
-/// are together at most as many as a path has facts.
+/// makes no promise about which nodes are opened.
 pub fn solve<W: Watch>(
     alloc: Global,
     instance: &Instance<'_>,
@@ -149,7 +149,7 @@ pub fn solve<W: Watch>(
     requires patterns { ArePatterns instance.now root.now }
     requires positive { 1 ≤ nodes }
     requires at_most { nodes ≤ MAX_OPENED }
-    requires depth { length root.now + nodes ≤ MAX_FACTS }
+    requires few { length root.now ≤ root_limit nodes }
     ensures { IfOk result (λ o. IsOutcomeUntil instance.now root.now nodes (W.has_ended watch.new) o.best o.bound o.proof.items o.finished) }
 {
     let mut path = TrailPath::new(alloc, instance)?;
@@ -159,6 +159,6 @@ pub fn solve<W: Watch>(
         goal: best_worth(alloc, &path)?,
         turns: turns_in(alloc, instance, nodes)?,
     };
-    let best = first_best(alloc, instance, improvement, watch)?;
+    let best = first_best(alloc, instance, root, improvement, watch)?;
     solve_over(alloc, &mut path, root, best, nodes, watch)
 }

@@ -66,7 +66,7 @@ fn take_live<'i, P: Path<'i>>(
     requires pinned { IsPinnedDown (P.problem path.now) (P.facts path.now) }
     requires unclosed { IsOpen (P.problem path.now) (P.facts path.now) (final_bound (P.problem path.now) (table_of best.old)) }
     ensures known { IfOk result (λ leaf. IsKnown (P.problem path.now) (table_of best.new) (P.facts path.now) (NodeState.Closed leaf)) }
-    ensures better { OnOk result (Advances (P.problem path.now) best.old best.new) }
+    ensures better { OnOk result (Advances (P.problem path.now) (P.facts path.now) best.old best.new) }
 {
     // Brings the instance's limits into the proof.
     prove!(path.instance().days() <= 64);
@@ -105,7 +105,7 @@ fn open<'i, P: Path<'i>>(
     ensures known { IfOk result (λ o. IsKnown (P.problem path.now) (table_of best.new) (P.facts path.now) o.mark) }
     ensures opened { IfOk result (λ o. was_opened o.mark ≡ true) }
     ensures single { IfOk result (λ o. IsSingle o.mark) }
-    ensures better { OnOk result (Advances (P.problem path.now) best.old best.new) }
+    ensures better { OnOk result (Advances (P.problem path.now) (P.facts path.now) best.old best.new) }
 {
     let bound = bound_of(best);
     if let Some(leaf) = find_leaf(alloc, path, bound)? {
@@ -182,7 +182,7 @@ pub fn open_at<'i, P: Path<'i>>(
     requires at_most { 2 * length root.now + length search.old.tree_nodes.items ≤ MAX_TREE + 2 }
     ensures rooted { OnOk result (IsRooted root.now (P.facts path.new)) }
     ensures under_way { OnOk result (IsUnderWay (P.problem path.old) root.now search.new) }
-    ensures better { OnOk result (Advances (P.problem path.old) search.old.best search.new.best) }
+    ensures better { OnOk result (Advances (P.problem path.old) root.now search.old.best search.new.best) }
     ensures opened { OnOk result (opened_in search.new.tree_nodes.items ≡ opened_in search.old.tree_nodes.items + 1) }
     ensures many { OnOk result (length search.new.tree_nodes.items ≡ length search.old.tree_nodes.items) }
     ensures unchanged { P.problem path.new ≡ P.problem path.old }

@@ -8,13 +8,15 @@ use Rattle.tt_branch.specs.declared.tree_node.NodeState.TheVariants.{Opened, Uno
 use Rattle.tt_branch.specs.declared.tree_node.TreeNode.{TreeNode}
 use Rattle.tt_branch.specs.declared.search.Search.{Search}
 use Rattle.tt_branch.specs.Inner.Growing.{IsGrown, HasMark, is_open, opened_in}
-use Rattle.tt_branch.specs.Inner.BestSoFar.{IsBestSoFar, table_of}
+use Rattle.tt_branch.specs.Inner.BestSoFar.{IsBestSoFar, FitsRoot, table_of}
 use Rattle.tt_branch.specs.Inner.Links.{AreLinks, divided_links}
 use Rattle.tt_branch.specs.Inner.Steps.{IsSplitInto}
 
--- The best timetable breaks no hard rule and has the cost stored, the links lead to parents, and the nodes are those of a tree below the root.
+-- The best timetable breaks no hard rule, fits the root and has the cost stored, the links lead to parents, and the nodes are those of a tree below
+-- the root.
 pub record IsUnderWay (p : Problem) (root : List Fact) (s : Search) : Type 0 where
   pub kept : IsBestSoFar p s.best
+  pub fits : FitsRoot p root s.best
   pub links : AreLinks s.links.items
   pub grown : IsGrown p root (table_of s.best) s.links.items s.tree_nodes.items
 

@@ -46,8 +46,8 @@ loop-opened-preserved g c =
       same = e.unchanged ∙ same;
       rooted = e.rooted;
       under_way = subst (λ (q : Problem). IsUnderWay q c.args.root.now new) same e.under_way;
-      better = advance_twice p c.args.search.now.best c.loop-opened.search.best new.best i.better
-          (subst (λ (q : Problem). Advances q c.loop-opened.search.best new.best) same e.better);
+      better = advance_twice p c.args.root.now c.args.search.now.best c.loop-opened.search.best new.best i.better
+          (subst (λ (q : Problem). Advances q c.args.root.now c.loop-opened.search.best new.best) same e.better);
       opened = omega (arith, e.opened, i.opened);
       at_most = omega (arith, e.many, i.at_most);
     }

@@ -12,7 +12,7 @@ invariant-loop-opened g l =
       same : g.P.Path.problem l.path ≡ p;
       rooted : IsRooted l.root (g.P.Path.facts l.path);
       under_way : IsUnderWay p l.root l.search;
-      better : Advances p l.fn.search.best l.search.best;
+      better : Advances p l.root l.fn.search.best l.search.best;
       opened : opened_in l.search.tree_nodes.items ≡ l.opened;
       at_most : length l.search.tree_nodes.items + 1 ≤ 2 * l.opened;
     }

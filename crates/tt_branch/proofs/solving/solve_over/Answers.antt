@@ -16,18 +16,18 @@ conclude-requires g c = λ κs.
     let e = c.in_ok-ending.ensures in
     let same = sym (e.unchanged ∙ c.in_ok-open_at.ensures.unchanged) in
     let first = c.in_ok-open_at.ensures.better in
-    let second = subst (λ (q : Problem). Advances q c.open_at.new.search.best c.grow.new.search.best) c.in_ok-open_at.ensures.unchanged
+    let second = subst (λ (q : Problem). Advances q root c.open_at.new.search.best c.grow.new.search.best) c.in_ok-open_at.ensures.unchanged
     e.better in
-    let all = subst (λ (b : Option Best). Advances p b c.grow.new.search.best) c.in_ok-search.ensures.best
-    (advance_twice p c.in_ok-search.search.best c.open_at.new.search.best c.grow.new.search.best first second) in (
+    let all = subst (λ (b : Option Best). Advances p root b c.grow.new.search.best) c.in_ok-search.ensures.best
+    (advance_twice p root c.in_ok-search.search.best c.open_at.new.search.best c.grow.new.search.best first second) in (
       (refl, tt),
       (
         e.rooted,
         (
           subst (λ (q : Problem). IsUnderWay q root c.grow.new.search) (sym e.unchanged) e.under_way,
           (
-            subst (λ (q : Problem). BeginsWell q (table_of c.grow.new.search.best)) same
-                (begun_still p c.args.best c.grow.new.search.best c.requires.begun all),
+            subst (λ (q : Problem). BeginsWell q root (table_of c.grow.new.search.best)) same
+                (begun_still p root c.args.best c.grow.new.search.best c.requires.begun all),
             (e.ends, omega (arith, e.within, c.requires.at_most)),
           ),
         ),

@@ -6,9 +6,9 @@ use Rattle.tt_path.specs.declared.facts.Fact.{Fact}
 use Rattle.tt_leaf_find.specs.Found.{ArePatterns}
 use Rattle.tt_branch.specs.declared.tree_node.TreeNode.{TreeNode}
 use Rattle.tt_branch.specs.declared.links.Link.{Link}
-use Rattle.tt_branch.specs.Inner.BestSoFar.{IsBestSoFar, table_of}
+use Rattle.tt_branch.specs.Inner.BestSoFar.{IsBestSoFar, FitsRoot, table_of, Advances}
 use Rattle.tt_branch.specs.Inner.Links.{path_at, AreLinks}
-use Rattle.tt_branch.proofs.Advancing.{IsThere, each_there, opening_there}
+use Rattle.tt_branch.proofs.Advancing.{IsThere, each_there, advance_above, opening_there}
 use Rattle.tt_branch.proofs.visit.open_at.Goals as goal
 
 pub go_to-requires : goal.go_to-requires
@@ -85,11 +85,23 @@ returns-clause-under_way g c =
     s.links.items s.tree_nodes.items c.put.new.tree_nodes.items c.args.place read put
     c.in_ok-go_to.ensures.unchanged there c.index.ensures c.requires.waiting c.requires.under_way.grown c.in_ok-mark.ensures.better
     c.in_ok-mark.ensures.known c.in_ok-mark.ensures.opened c.in_ok-mark.ensures.single refl c.put.ensures in
+    let fits = c.in_ok-mark.ensures.better.fits root c.in_ok-go_to.ensures.rooted
+    (subst (λ (q : Problem). FitsRoot q root s.best) (sym c.in_ok-go_to.ensures.unchanged) c.requires.under_way.fits) in
     record {
       kept = subst (λ (q : Problem). IsBestSoFar q c.open.new.best) c.in_ok-go_to.ensures.unchanged c.in_ok-mark.ensures.better.kept;
+      fits = subst (λ (q : Problem). FitsRoot q root c.open.new.best) c.in_ok-go_to.ensures.unchanged fits;
       links = c.requires.under_way.links;
       grown = made.grown;
     }
+
+pub returns-clause-better : goal.returns-clause-better
+returns-clause-better g c =
+    let root = c.args.root.now in
+    let old = c.args.search.now.best in
+    let new = c.open.new.best in
+    subst (λ (q : Problem). Advances q root old new) c.in_ok-go_to.ensures.unchanged
+    (advance_above (g.P.Path.problem c.go_to.new.path) root (g.P.Path.facts c.go_to.new.path) old new c.in_ok-go_to.ensures.rooted
+    c.in_ok-mark.ensures.better)
 
 pub returns-clause-opened : goal.returns-clause-opened
 returns-clause-opened g c =

@@ -13,11 +13,12 @@ abbrev first : TreeNode
 first = record { mark = Unopened; link = 0; key = 0; rises = record { yes = 0; no = 0 } }
 
 pub returns-clause-under_way : goal.returns-clause-under_way
-returns-clause-under_way c = λ p root patterns k.
+returns-clause-under_way c = λ p root patterns k f.
     let items = c.in_ok-push.ensures.items ∙ ap (λ l. l ++ first ∷ []) c.new-tree_nodes.ensures.items in
     let links = c.new.ensures.items in
     record {
       kept = k;
+      fits = f;
       links = subst AreLinks (sym links) no_links;
       grown = subst (λ l. IsGrown p root (table_of c.args.best) l c.push.new.self.items) (sym links)
           (subst (λ es. IsGrown p root (table_of c.args.best) [] es) (sym items)
