@@ -1,10 +1,11 @@
 -- Elements read in turn.
 use Rattle.std.proofs.Common.{◌≡◌, ℕ, suc, ◌-◌, ◌+◌, ◌≤◌, ◌<◌, List, Result, Ok, refl, sym, ap, ◌∙◌, arith}
+use Rattle.tt_stop.proofs.Stops.{fails_also}
+use Rattle.tt_stop.specs.Stops.{Fails}
+use Rattle.tt_stop.specs.declared.stop.Stop.{Stop}
 use Rattle.tt_text.specs.Tokens.{Placed}
 use Rattle.tt_text.specs.Reading.{◌>>=◌}
-use Rattle.tt_text.proofs.Steps.{fails_then, fails_as}
 use Rattle.tt_instance_read.specs.declared.fault.InstanceFault.{InstanceFault}
-use Rattle.tt_instance_read.specs.Reading.{is_environmental, Fails}
 use Rattle.tt_instance_read.proofs.SeriesLaws.{IsSeries}
 
 abbrev pub Read : Type 0 → Type 0
@@ -27,11 +28,11 @@ module _ {A : Type 0} (one : A → List Placed → Read A) (all : ℕ → A → 
       sym step ∙ sym (next count i x ts lt) ∙ so_far
 
   -- a fault of one element is the fault of all
-  pub reads_fail : (e : InstanceFault) (count i : ℕ) (x : A) (ts : List Placed) (total : Read A) → i < count → Fails e (one x ts)
-      → all (count - i) x ts ≡ total → Fails e total
-  reads_fail e count i x ts total lt fails so_far =
-      fails_as is_environmental e _ _ (sym (next count i x ts lt) ∙ so_far)
-      (fails_then is_environmental e (one x ts) (λ y. all (count - (i + 1)) y.0 y.1) fails)
+  pub reads_fail : (s : Stop InstanceFault) (count i : ℕ) (x : A) (ts : List Placed) (total : Read A) → i < count → Fails s (one x ts)
+      → all (count - i) x ts ≡ total → Fails s total
+  reads_fail s count i x ts total lt fails so_far =
+      fails_also s (one x ts) total (λ f failed. sym so_far ∙ next count i x ts lt
+      ∙ ap (λ (r : Read A). r >>= λ y. all (count - (i + 1)) y.0 y.1) failed) fails
 
   -- all elements were read
   pub reads_end : (count i : ℕ) (x : A) (ts : List Placed) (total : Read A) → count ≤ i → all (count - i) x ts ≡ total → total ≡ Ok (x, ts)

@@ -1,10 +1,10 @@
 -- The result of reading an instance: its parts, or the first fault from the left. All checks of one token come before the next token.
-use Rattle.std.specs.Prelude.{ℕ, zero, suc, ◌*◌, ◌-◌, ◌==◌, nat_lt, Bool, true, false, if◌then◌else◌, List, [], ◌∷◌, ◌++◌, length, Option, Some, None, Result, Ok, Err}
+use Rattle.std.specs.Prelude.{ℕ, zero, suc, ◌*◌, ◌-◌, ◌==◌, nat_lt, if◌then◌else◌, List, [], ◌∷◌, ◌++◌, length, Option, Some, None, Result, Ok, Err}
 use Rattle.tt_list_laws.specs.Words.{with_new}
 use Rattle.tt_text.specs.Tokens.{Placed, tokens_of}
 use Rattle.tt_text.specs.Texts.{is_text, has_name, index_of_name}
 use Rattle.tt_text.specs.Numbers.{number_of}
-use Rattle.tt_text.specs.Reading.{◌>>=◌, FailsUnless, AgreesUnless, token_or}
+use Rattle.tt_text.specs.Reading.{◌>>=◌, token_or}
 use Rattle.tt_text.specs.declared.numbers.NumberFault.{NumberFault}
 use Rattle.tt_text.specs.declared.numbers.NumberFault.TheVariants as number
 use Rattle.tt_instance_read.specs.declared.fault.Word.{Word}
@@ -16,19 +16,6 @@ use Rattle.tt_instance_read.specs.Words.{word_text}
 use Rattle.tt_instance.specs.Problem.{Course, Room, Curriculum, Unavailability, Problem}
 use Rattle.tt_instance.specs.Columns.{ids_of, room_ids_of, curriculum_ids_of, lectures_of}
 use Rattle.tt_instance.specs.Limits.{same_unavailability}
-
--- Being out of memory says nothing about the bytes.
-abbrev pub is_environmental : InstanceFault → Bool
-is_environmental fault.OutOfMemory = true
-is_environmental _ = false
-
--- The text has exactly this fault. Being out of memory says nothing about the text.
-abbrev pub Fails : {Y : Type 0} → InstanceFault → Result Y InstanceFault → Type 0
-Fails e read = FailsUnless is_environmental e read
-
--- The result, seen by `view`, is the one that the text gives. A result of being out of memory says nothing about the text.
-abbrev pub Gives : {X Y : Type 0} → (X → Y) → Result X InstanceFault → Result Y InstanceFault → Type 0
-Gives view result read = AgreesUnless is_environmental view result read
 
 -- The next token of a text of `end` bytes.
 abbrev pub token_at : ℕ → List Placed → Result (Placed × List Placed) InstanceFault

@@ -1,7 +1,8 @@
 //! The courses of an instance.
 
-ghost use Rattle.std.specs.Prelude.{◌≡◌, ◌+◌, ◌^◌, ◌<◌, ◌≤◌, [], length, OnOk, IfOk};
-ghost use Rattle.tt_instance_read.specs.Reading.{Gives, course_at, courses_at};
+ghost use Rattle.std.specs.Prelude.{◌≡◌, ◌+◌, ◌^◌, ◌<◌, ◌≤◌, [], false, length, OnOk, IfOk};
+ghost use Rattle.tt_stop.specs.Stops.{Gives, is_read_failed};
+ghost use Rattle.tt_instance_read.specs.Reading.{course_at, courses_at};
 ghost use Rattle.tt_instance.specs.Inner.Indexed.{IsIndexed};
 ghost use Rattle.tt_instance.specs.Seen.{courses_seen};
 
@@ -11,6 +12,7 @@ use std::alloc::Global;
 use tt_instance::{
     CourseList, CourseRow, MAX_LECTURES, MAX_MIN_DAYS, MAX_SEATS, NameHasher, Names,
 };
+use tt_stop::Stop;
 use tt_text::Tokens;
 
 /// Reads another course after those of the list.
@@ -19,17 +21,18 @@ fn read_course<'a>(
     tokens: &mut Tokens<'a>,
     end: usize,
     list: &mut CourseList<'a>,
-) -> Result<(), InstanceFault>
+) -> Result<(), Stop<InstanceFault>>
     requires indexed { IsIndexed list.old }
     requires at_most { length list.old.rows.items < 2 ^ 31 }
     ensures read { Gives (λ _. (courses_seen list.new.rows.items, tokens.new)) result
         (course_at end (courses_seen list.old.rows.items) tokens.old) }
+    ensures unread { is_read_failed result ≡ false }
     ensures indexed { OnOk result (IsIndexed list.new) }
     ensures one_more { OnOk result (length list.new.rows.items ≡ length list.old.rows.items + 1) }
 {
     let id = read_token(tokens, end)?;
     if !list.ids.put(id.bytes)? {
-        return Err(InstanceFault::Repeated(id.at));
+        return Err(Stop::Fault(InstanceFault::Repeated(id.at)));
     }
     let teacher = read_token(tokens, end)?;
     let lectures = read_limited(tokens, end, MAX_LECTURES - list.lectures)?;
@@ -55,10 +58,11 @@ pub fn read_courses<'a>(
     end: usize,
     hasher: NameHasher,
     count: u32,
-) -> Result<CourseList<'a>, InstanceFault>
+) -> Result<CourseList<'a>, Stop<InstanceFault>>
     requires { count < 2 ^ 31 }
     ensures read { Gives (λ l. (courses_seen l.rows.items, tokens.new)) result
         (courses_at end count [] tokens.old) }
+    ensures unread { is_read_failed result ≡ false }
     ensures indexed { IfOk result IsIndexed }
     ensures len { IfOk result (λ l. length l.ids ≤ count) }
 {

@@ -1,7 +1,8 @@
 //! The curricula of an instance.
 
-ghost use Rattle.std.specs.Prelude.{◌<◌, ◌^◌, [], length, OnOk, IfOk};
-ghost use Rattle.tt_instance_read.specs.Reading.{Gives, member_at, members_at, curriculum_at, curricula_at};
+ghost use Rattle.std.specs.Prelude.{◌≡◌, ◌<◌, ◌^◌, [], false, length, OnOk, IfOk};
+ghost use Rattle.tt_stop.specs.Stops.{Gives, is_read_failed};
+ghost use Rattle.tt_instance_read.specs.Reading.{member_at, members_at, curriculum_at, curricula_at};
 ghost use Rattle.tt_instance.specs.Inner.Indexed.{IsMarked, IsCurriculaIndexed};
 ghost use Rattle.tt_instance.specs.Seen.{curricula_seen};
 
@@ -11,6 +12,7 @@ use std::alloc::Global;
 use tt_instance::{
     CurriculumList, CurriculumRow, MAX_MEMBERS, Marks, MemberList, NameHasher, Names,
 };
+use tt_stop::Stop;
 use tt_text::Tokens;
 
 /// Reads another member and adds it if it is new.
@@ -20,11 +22,12 @@ fn read_member(
     end: usize,
     ids: &Names<'_>,
     list: &mut MemberList,
-) -> Result<(), InstanceFault>
+) -> Result<(), Stop<InstanceFault>>
     requires marked { IsMarked (length ids.now) list.old }
     requires at_most { length ids.now < 2 ^ 32 }
     ensures read { Gives (λ _. (list.new.courses.items, tokens.new)) result
         (member_at end ids.now list.old.courses.items tokens.old) }
+    ensures unread { is_read_failed result ≡ false }
     ensures marked { OnOk result (IsMarked (length ids.now) list.new) }
 {
     let course = read_course_name(tokens, end, ids)?;
@@ -42,10 +45,11 @@ fn read_members(
     end: usize,
     ids: &Names<'_>,
     count: u32,
-) -> Result<MemberList, InstanceFault>
+) -> Result<MemberList, Stop<InstanceFault>>
     requires { length ids.now < 2 ^ 32 }
     ensures read { Gives (λ l. (l.courses.items, tokens.new)) result
         (members_at end ids.now count [] tokens.old) }
+    ensures unread { is_read_failed result ≡ false }
     ensures marked { IfOk result (IsMarked (length ids.now)) }
 {
     let mut list = MemberList {
@@ -66,16 +70,17 @@ fn read_curriculum<'a>(
     end: usize,
     ids: &Names<'_>,
     list: &mut CurriculumList<'a>,
-) -> Result<(), InstanceFault>
+) -> Result<(), Stop<InstanceFault>>
     requires indexed { IsCurriculaIndexed (length ids.now) list.old }
     requires at_most { length ids.now < 2 ^ 32 }
     ensures read { Gives (λ _. (curricula_seen list.new.rows.items, tokens.new)) result
         (curriculum_at end ids.now (curricula_seen list.old.rows.items) tokens.old) }
+    ensures unread { is_read_failed result ≡ false }
     ensures indexed { OnOk result (IsCurriculaIndexed (length ids.now) list.new) }
 {
     let id = read_token(tokens, end)?;
     if !list.ids.put(id.bytes)? {
-        return Err(InstanceFault::Repeated(id.at));
+        return Err(Stop::Fault(InstanceFault::Repeated(id.at)));
     }
     let count = read_limited(tokens, end, MAX_MEMBERS)?;
     let members = read_members(alloc, tokens, end, ids, count)?;
@@ -94,10 +99,11 @@ pub fn read_curricula<'a>(
     ids: &Names<'_>,
     hasher: NameHasher,
     count: u32,
-) -> Result<CurriculumList<'a>, InstanceFault>
+) -> Result<CurriculumList<'a>, Stop<InstanceFault>>
     requires { length ids.now < 2 ^ 32 }
     ensures read { Gives (λ l. (curricula_seen l.rows.items, tokens.new)) result
         (curricula_at end ids.now count [] tokens.old) }
+    ensures unread { is_read_failed result ≡ false }
     ensures indexed { IfOk result (IsCurriculaIndexed (length ids.now)) }
 {
     let mut list = CurriculumList {

@@ -1,12 +1,11 @@
 //! Why bytes spell no instance.
 
 ghost use Rattle.std.specs.Prelude.{◌≡◌};
-ghost use Rattle.tt_instance_read.specs.declared.fault.InstanceFault.TheVariants.{OutOfMemory};
 ghost use Rattle.tt_instance_read.specs.Words.{word_text};
 
-use std::alloc::{AllocError, AllocFailed};
 use std::fmt;
 use thiserror::Error;
+use tt_stop::Stop;
 
 /// A fixed word of the format.
 #[derive(Clone, Copy, Debug, PartialEq, Eq)]
@@ -60,7 +59,7 @@ impl fmt::Display for Word {
     }
 }
 
-/// The first fault from the left, with the offset of its token, or being out of memory.
+/// The first fault from the left, with the offset of its token (of the end, if the bytes end too early).
 #[derive(Clone, Copy, Debug, PartialEq, Eq, Error)]
 pub enum InstanceFault {
     #[error("Ended at byte {0}")]
@@ -77,22 +76,14 @@ pub enum InstanceFault {
     UnknownCourse(usize),
     #[error("OutOfRange at byte {0}")]
     OutOfRange(usize),
-    #[error("out of memory")]
-    OutOfMemory,
 }
 
-impl From<AllocError> for InstanceFault {
-    ghost from_gives = { λ _ e. e ≡ OutOfMemory };
+impl From<InstanceFault> for Stop<InstanceFault> {
+    ghost use Rattle.tt_stop.specs.declared.stop.Stop.TheVariants.{Fault};
 
-    fn from(_e: AllocError) -> InstanceFault {
-        InstanceFault::OutOfMemory
-    }
-}
+    ghost from_gives = { λ f s. s ≡ Fault f };
 
-impl<T: Drop> From<AllocFailed<T>> for InstanceFault {
-    ghost from_gives = { λ _ e. e ≡ OutOfMemory };
-
-    fn from(_e: AllocFailed<T>) -> InstanceFault {
-        InstanceFault::OutOfMemory
+    fn from(fault: InstanceFault) -> Stop<InstanceFault> {
+        Stop::Fault(fault)
     }
 }

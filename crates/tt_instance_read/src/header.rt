@@ -1,7 +1,8 @@
 //! The name and the header of an instance.
 
-ghost use Rattle.std.specs.Prelude.{◌≤◌, ◌<◌, ◌*◌, [], IfOk};
-ghost use Rattle.tt_instance_read.specs.Reading.{Gives, name_at, days_at, periods_at, header_at};
+ghost use Rattle.std.specs.Prelude.{◌≡◌, ◌≤◌, ◌<◌, ◌*◌, [], false, IfOk};
+ghost use Rattle.tt_stop.specs.Stops.{Gives, seen, is_read_failed};
+ghost use Rattle.tt_instance_read.specs.Reading.{name_at, days_at, periods_at, header_at};
 ghost use Rattle.tt_instance.specs.Seen.{name_seen};
 ghost use Rattle.tt_instance_read.specs.Counted.{counts_seen};
 
@@ -12,6 +13,7 @@ use tt_instance::{
     MAX_CELLS, MAX_COURSES, MAX_CURRICULA, MAX_DAYS, MAX_PERIODS, MAX_ROOMS, MAX_SLOTS,
     MAX_UNAVAILABILITIES,
 };
+use tt_stop::Stop;
 use tt_text::Tokens;
 
 /// The numbers of a header.
@@ -30,8 +32,9 @@ pub fn read_name<'a>(
     alloc: Global,
     tokens: &mut Tokens<'a>,
     end: usize,
-) -> Result<Vec<&'a [u8]>, InstanceFault>
-    ensures { Gives (λ v. (name_seen v.items, tokens.new)) result (name_at end [] tokens.old) }
+) -> Result<Vec<&'a [u8]>, Stop<InstanceFault>>
+    ensures read { Gives (λ v. (name_seen v.items, tokens.new)) result (name_at end [] tokens.old) }
+    ensures unread { is_read_failed result ≡ false }
 {
     let mut name = Vec::new(alloc);
     while let Some(token) = tokens.next() {
@@ -40,12 +43,12 @@ pub fn read_name<'a>(
         }
         name.push(token.bytes)?;
     }
-    Err(InstanceFault::Ended(end))
+    Err(Stop::Fault(InstanceFault::Ended(end)))
 }
 
 #[tactic(auto, unfolding(crate::specs::Reading::days_at))]
 fn read_days(tokens: &mut Tokens<'_>, end: usize) -> Result<u32, InstanceFault>
-    ensures read { Gives (λ n. (n, tokens.new)) result (days_at end tokens.old) }
+    ensures read { days_at end tokens.old ≡ seen (λ n. (n, tokens.new)) result }
     ensures positive { IfOk result (λ n. 0 < n) }
     ensures within { IfOk result (λ n. n ≤ MAX_DAYS) }
 {
@@ -67,7 +70,7 @@ fn read_periods(
 ) -> Result<u32, InstanceFault>
     requires pairs { pairs ≤ MAX_COURSES * MAX_ROOMS }
     requires days { days ≤ MAX_DAYS }
-    ensures read { Gives (λ n. (n, tokens.new)) result (periods_at end pairs days tokens.old) }
+    ensures read { periods_at end pairs days tokens.old ≡ seen (λ n. (n, tokens.new)) result }
     ensures positive { IfOk result (λ n. 0 < n) }
     ensures within { IfOk result (λ n. n ≤ MAX_PERIODS) }
 {
@@ -87,7 +90,7 @@ fn read_periods(
 /// Reads the header after the word that ends the name.
 #[tactic(auto, unfolding(crate::specs::Reading::header_at))]
 pub fn read_header(tokens: &mut Tokens<'_>, end: usize) -> Result<Header, InstanceFault>
-    ensures read { Gives (λ h. (counts_seen h, tokens.new)) result (header_at end tokens.old) }
+    ensures read { header_at end tokens.old ≡ seen (λ h. (counts_seen h, tokens.new)) result }
     ensures courses { IfOk result (λ h. h.courses ≤ MAX_COURSES) }
     ensures days { IfOk result (λ h. (0 < h.days) × (h.days ≤ MAX_DAYS)) }
     ensures periods { IfOk result (λ h. (0 < h.periods) × (h.periods ≤ MAX_PERIODS)) }

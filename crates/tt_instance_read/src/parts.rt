@@ -1,7 +1,8 @@
 //! The parts of an instance, from the bytes that spell them.
 
-ghost use Rattle.std.specs.Prelude.{◌<◌, ◌≤◌, ◌^◌, length, IfOk};
-ghost use Rattle.tt_instance_read.specs.Reading.{Gives, places_at, groups_at, instance_of};
+ghost use Rattle.std.specs.Prelude.{◌≡◌, ◌<◌, ◌≤◌, ◌^◌, false, length, IfOk};
+ghost use Rattle.tt_stop.specs.Stops.{Gives, is_read_failed};
+ghost use Rattle.tt_instance_read.specs.Reading.{places_at, groups_at, instance_of};
 ghost use Rattle.tt_instance.specs.Inner.Indexed.{IsIndexed, IsRoomsIndexed, IsCurriculaIndexed, IsBarred, IsIndexedParts};
 ghost use Rattle.tt_instance.specs.Seen.{courses_seen, rooms_seen, curricula_seen, unavailabilities_seen, problem_seen};
 ghost use Rattle.tt_instance_read.specs.Counted.{counts_seen};
@@ -18,6 +19,7 @@ use tt_instance::{
     CourseList, CurriculumList, MAX_COURSES, MAX_PERIODS, NameHasher, Names, Parts, RoomList,
     UnavailabilityList,
 };
+use tt_stop::Stop;
 use tt_text::Tokens;
 
 /// Reads the courses and rooms after a header.
@@ -28,11 +30,12 @@ fn read_places<'a>(
     end: usize,
     hasher: NameHasher,
     header: Header,
-) -> Result<(CourseList<'a>, RoomList<'a>), InstanceFault>
+) -> Result<(CourseList<'a>, RoomList<'a>), Stop<InstanceFault>>
     requires { header.courses ≤ MAX_COURSES }
     ensures read { Gives
         (λ s. ((courses_seen s.0.rows.items, rooms_seen s.1.rows.items), tokens.new))
         result (places_at end (counts_seen header) tokens.old) }
+    ensures unread { is_read_failed result ≡ false }
     ensures courses { IfOk result (λ s. IsIndexed s.0) }
     ensures rooms { IfOk result (λ s. IsRoomsIndexed s.1) }
     ensures at_most { IfOk result (λ s. length s.0.ids ≤ MAX_COURSES) }
@@ -53,7 +56,7 @@ fn read_groups<'a>(
     ids: &Names<'_>,
     hasher: NameHasher,
     header: Header,
-) -> Result<(CurriculumList<'a>, UnavailabilityList), InstanceFault>
+) -> Result<(CurriculumList<'a>, UnavailabilityList), Stop<InstanceFault>>
     requires at_most { length ids.now < 2 ^ 32 }
     requires days { 0 < header.days }
     requires positive { 0 < header.periods }
@@ -61,6 +64,7 @@ fn read_groups<'a>(
     ensures read { Gives
         (λ s. ((curricula_seen s.0.rows.items, unavailabilities_seen s.1.rows.items), tokens.new))
         result (groups_at end (counts_seen header) ids.now tokens.old) }
+    ensures unread { is_read_failed result ≡ false }
     ensures curricula { IfOk result (λ s. IsCurriculaIndexed (length ids.now) s.0) }
     ensures unavailabilities { IfOk result (λ s. IsBarred (length ids.now) header.days s.1) }
 {
@@ -74,8 +78,9 @@ fn read_groups<'a>(
 
 /// Reads the parts of the instance that bytes spell.
 #[tactic(auto, unfolding(crate::specs::Reading::instance_of, crate::specs::Reading::sections_at))]
-pub fn read_parts<'a>(alloc: Global, bytes: &'a [u8]) -> Result<Parts<'a>, InstanceFault>
+pub fn read_parts<'a>(alloc: Global, bytes: &'a [u8]) -> Result<Parts<'a>, Stop<InstanceFault>>
     ensures read { Gives problem_seen result (instance_of bytes.now) }
+    ensures unread { is_read_failed result ≡ false }
     ensures indexed { IfOk result IsIndexedParts }
 {
     let end = bytes.len();

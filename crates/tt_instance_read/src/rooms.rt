@@ -1,7 +1,8 @@
 //! The rooms of an instance.
 
-ghost use Rattle.std.specs.Prelude.{[], OnOk, IfOk};
-ghost use Rattle.tt_instance_read.specs.Reading.{Gives, room_at, rooms_at};
+ghost use Rattle.std.specs.Prelude.{◌≡◌, [], false, OnOk, IfOk};
+ghost use Rattle.tt_stop.specs.Stops.{Gives, is_read_failed};
+ghost use Rattle.tt_instance_read.specs.Reading.{room_at, rooms_at};
 ghost use Rattle.tt_instance.specs.Inner.Indexed.{IsRoomsIndexed};
 ghost use Rattle.tt_instance.specs.Seen.{rooms_seen};
 
@@ -9,6 +10,7 @@ use crate::fault::InstanceFault;
 use crate::fields::{read_limited, read_token};
 use std::alloc::Global;
 use tt_instance::{MAX_SEATS, NameHasher, Names, RoomList, RoomRow};
+use tt_stop::Stop;
 use tt_text::Tokens;
 
 /// Reads another room after those of the list.
@@ -17,15 +19,16 @@ fn read_room<'a>(
     tokens: &mut Tokens<'a>,
     end: usize,
     list: &mut RoomList<'a>,
-) -> Result<(), InstanceFault>
+) -> Result<(), Stop<InstanceFault>>
     requires { IsRoomsIndexed list.old }
     ensures read { Gives (λ _. (rooms_seen list.new.rows.items, tokens.new)) result
         (room_at end (rooms_seen list.old.rows.items) tokens.old) }
+    ensures unread { is_read_failed result ≡ false }
     ensures indexed { OnOk result (IsRoomsIndexed list.new) }
 {
     let id = read_token(tokens, end)?;
     if !list.ids.put(id.bytes)? {
-        return Err(InstanceFault::Repeated(id.at));
+        return Err(Stop::Fault(InstanceFault::Repeated(id.at)));
     }
     let capacity = read_limited(tokens, end, MAX_SEATS)?;
     list.rows.push(RoomRow {
@@ -42,9 +45,10 @@ pub fn read_rooms<'a>(
     end: usize,
     hasher: NameHasher,
     count: u32,
-) -> Result<RoomList<'a>, InstanceFault>
+) -> Result<RoomList<'a>, Stop<InstanceFault>>
     ensures read { Gives (λ l. (rooms_seen l.rows.items, tokens.new)) result
         (rooms_at end count [] tokens.old) }
+    ensures unread { is_read_failed result ≡ false }
     ensures indexed { IfOk result IsRoomsIndexed }
 {
     let mut list = RoomList {

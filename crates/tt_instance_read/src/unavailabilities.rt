@@ -1,7 +1,8 @@
 //! The unavailabilities of an instance.
 
 ghost use Rattle.std.specs.Prelude.{◌≡◌, ◌<◌, ◌≤◌, ◌^◌, ◌*◌, [], false, length, replicate, OnOk, IfOk};
-ghost use Rattle.tt_instance_read.specs.Reading.{Gives, unavailability_at, unavailabilities_at};
+ghost use Rattle.tt_stop.specs.Stops.{Gives, is_read_failed};
+ghost use Rattle.tt_instance_read.specs.Reading.{unavailability_at, unavailabilities_at};
 ghost use Rattle.tt_instance.specs.Inner.Indexed.{IsBarred};
 ghost use Rattle.tt_instance.specs.Seen.{unavailabilities_seen};
 
@@ -12,6 +13,7 @@ use std::alloc::{AllocError, Global};
 use tt_instance::{
     MAX_PERIODS, Marks, Names, UnavailabilityList, UnavailabilityRow, is_barred, mark_place,
 };
+use tt_stop::Stop;
 use tt_text::Tokens;
 
 /// Creates empty marks for each course and day.
@@ -33,7 +35,7 @@ fn read_unavailability(
     ids: &Names<'_>,
     header: Header,
     list: &mut UnavailabilityList,
-) -> Result<(), InstanceFault>
+) -> Result<(), Stop<InstanceFault>>
     requires barred { IsBarred (length ids.now) header.days list.old }
     requires at_most { length ids.now < 2 ^ 32 }
     requires days { 0 < header.days }
@@ -41,6 +43,7 @@ fn read_unavailability(
     requires periods { header.periods ≤ MAX_PERIODS }
     ensures read { Gives (λ _. (unavailabilities_seen list.new.rows.items, tokens.new)) result
         (unavailability_at end ids.now header.days header.periods (unavailabilities_seen list.old.rows.items) tokens.old) }
+    ensures unread { is_read_failed result ≡ false }
     ensures barred { OnOk result (IsBarred (length ids.now) header.days list.new) }
 {
     let course = read_course_name(tokens, end, ids)?;
@@ -65,13 +68,14 @@ pub fn read_unavailabilities(
     end: usize,
     ids: &Names<'_>,
     header: Header,
-) -> Result<UnavailabilityList, InstanceFault>
+) -> Result<UnavailabilityList, Stop<InstanceFault>>
     requires at_most { length ids.now < 2 ^ 32 }
     requires days { 0 < header.days }
     requires positive { 0 < header.periods }
     requires periods { header.periods ≤ MAX_PERIODS }
     ensures read { Gives (λ l. (unavailabilities_seen l.rows.items, tokens.new)) result
         (unavailabilities_at end ids.now header.days header.periods header.unavailabilities [] tokens.old) }
+    ensures unread { is_read_failed result ≡ false }
     ensures barred { IfOk result (IsBarred (length ids.now) header.days) }
 {
     let mut list = UnavailabilityList {

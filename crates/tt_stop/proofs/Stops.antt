@@ -3,7 +3,7 @@ use Rattle.std.proofs.Common.{◌≡◌, Bool, true, false, if◌then◌else◌,
 use Rattle.std.specs.Prelude.{IsErrAnd}
 use Rattle.tt_stop.specs.declared.stop.Stop.{Stop}
 use Rattle.tt_stop.specs.declared.stop.Stop.TheVariants.{Fault, ReadFailed, OutOfMemory}
-use Rattle.tt_stop.specs.Stops.{OnFault, is_failed_read, is_read_failed, mapped}
+use Rattle.tt_stop.specs.Stops.{OnFault, Fails, is_failed_read, is_read_failed, mapped}
 
 -- ---- faults
 
@@ -18,6 +18,10 @@ pub OnFault-each : {F : Type 0} (s : Stop F) (P : F → Type 0) → ((f : F) →
 OnFault-each (Fault f) P h = h f
 OnFault-each ReadFailed P h = tt
 OnFault-each OutOfMemory P h = tt
+
+-- what was read has the same fault, seen from another reading that has each fault of the first
+pub fails_also : {X Y F : Type 0} (s : Stop F) (r : Result X F) (q : Result Y F) → ((f : F) → r ≡ Err f → q ≡ Err f) → Fails s r → Fails s q
+fails_also s r q also h = OnFault-weaker s (λ f. r ≡ Err f) (λ f. q ≡ Err f) also h
 
 -- ---- faults in another type
 

@@ -1,5 +1,5 @@
 -- What the result of a call says, if the call wasn't stopped by memory or a read.
-use Rattle.std.specs.Prelude.{Bool, true, false, Result, Ok, Err, IfErr, ⊤}
+use Rattle.std.specs.Prelude.{◌≡◌, Bool, true, false, Result, Ok, Err, IfErr, ⊤}
 use Rattle.tt_stop.specs.declared.stop.Stop.{Stop}
 use Rattle.tt_stop.specs.declared.stop.Stop.TheVariants.{Fault, ReadFailed, OutOfMemory}
 
@@ -17,6 +17,25 @@ IfFault r P = IfErr r (λ s. OnFault s P)
 abbrev pub UnlessStopped : {X F : Type 0} → Result X (Stop F) → (Result X F → Type 0) → Type 0
 UnlessStopped (Ok x) P = P (Ok x)
 UnlessStopped (Err s) P = OnFault s (λ f. P (Err f))
+
+-- The result, with its value seen by `view`.
+abbrev pub seen : {X Y F : Type 0} → (X → Y) → Result X F → Result Y F
+seen view (Ok x) = Ok (view x)
+seen view (Err f) = Err f
+
+-- What is to be read has exactly this fault, if the stop is one.
+abbrev pub Fails : {Y F : Type 0} → Stop F → Result Y F → Type 0
+Fails s read = OnFault s (λ f. read ≡ Err f)
+
+-- The result, seen by `view`, is the one that is to be read, unless memory ran out or a read failed.
+abbrev pub Gives : {X Y F : Type 0} → (X → Y) → Result X (Stop F) → Result Y F → Type 0
+Gives view result read = UnlessStopped result (λ r. read ≡ seen view r)
+
+-- The error reports the stop: a fault by `wrap`, and that memory ran out by this error. None reports a failed read.
+abbrev pub Reports : {F E : Type 0} → (F → E) → E → Stop F → E → Type 0
+Reports wrap memory (Fault f) e = e ≡ wrap f
+Reports wrap memory ReadFailed e = ⊥
+Reports wrap memory OutOfMemory e = e ≡ memory
 
 -- Whether the stop is a failed read.
 abbrev pub is_failed_read : {F : Type 0} → Stop F → Bool

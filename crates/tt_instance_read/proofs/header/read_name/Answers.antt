@@ -6,8 +6,8 @@ use Rattle.tt_instance_read.specs.Reading.{name_at}
 use Rattle.tt_instance_read.proofs.NameSteps.{name_done, name_on, name_ended}
 use Rattle.tt_instance_read.proofs.header.read_name.Goals as goal
 
-pub returns-then-eq : goal.returns-then-eq
-returns-then-eq c = name_done c.args.end _ _ _ _ _ c.in-Some.ensures.gives
+pub returns-then-eq-clause-read : goal.returns-then-eq-clause-read
+returns-then-eq-clause-read c = name_done c.args.end _ _ _ _ _ c.in-Some.ensures.gives
     (ap (λ (w : List ℕ). is_text w c.in-Some.token.bytes.now) (sym c.text.ensures) ∙ sym c.eq.ensures ∙ c.if-eq.true) c.loop-token.invariant
 
 pub loop-token-preserved : goal.loop-token-preserved
@@ -19,5 +19,5 @@ loop-token-preserved c =
     (ap (λ (w : List ℕ). is_text w c.in-Some.token.bytes.now) (sym c.text.ensures) ∙ sym c.eq.ensures
     ∙ c.if-eq.false) c.loop-token.invariant
 
-pub returns : goal.returns
-returns c = name_ended c.args.end _ _ _ c.in_default.ensures.gives.0 c.loop-token.invariant
+pub returns-clause-read : goal.returns-clause-read
+returns-clause-read c = name_ended c.args.end _ _ _ c.in_default.ensures.gives.0 c.loop-token.invariant
