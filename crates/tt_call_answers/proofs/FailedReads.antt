@@ -6,7 +6,6 @@ use Rattle.tt_stop.specs.Stops as stops
 use Rattle.tt_stop.specs.declared.stop.Stop.{Stop}
 use Rattle.tt_stop.specs.declared.stop.Stop.TheVariants.{Fault, ReadFailed, OutOfMemory}
 use Rattle.tt_instance_read.specs.declared.fault.InstanceFault.{InstanceFault}
-use Rattle.tt_instance_read.specs.declared.fault.InstanceFault.TheVariants as instance
 use Rattle.tt_table.specs.declared.fault.SolutionFault.{SolutionFault}
 use Rattle.tt_table.specs.declared.fault.SolutionFault.TheVariants as solution
 use Rattle.tt_text.specs.Failures.{is_err_and}
@@ -100,13 +99,15 @@ sum_read n s = on s.file s.stop
     on m ReadFailed = and_true (m == n)
     on m OutOfMemory = and_false (m == n)
 
-pub instance_read : (f : InstanceFault) → is_failed_read (fault_from_instance f) ≡ false
-instance_read instance.OutOfMemory = refl
-instance_read f = refl
+pub instance_read : (s : Stop InstanceFault) → stops.is_failed_read s ≡ false → is_failed_read (fault_from_instance s) ≡ false
+instance_read (Fault f) unread = refl
+instance_read ReadFailed unread = absurd cc
+instance_read OutOfMemory unread = refl
 
-pub instance_read_at : (n : ℕ) (f : InstanceFault) → is_failed_read_at n (fault_from_instance f) ≡ false
-instance_read_at n instance.OutOfMemory = refl
-instance_read_at n f = refl
+pub instance_read_at : (n : ℕ) (s : Stop InstanceFault) → is_failed_read_at n (fault_from_instance s) ≡ false
+instance_read_at n (Fault f) = refl
+instance_read_at n ReadFailed = refl
+instance_read_at n OutOfMemory = refl
 
 pub solution_read_at : (n : ℕ) (f : SolutionFault) → is_failed_read_at n (fault_from_solution f) ≡ false
 solution_read_at n solution.OutOfMemory = refl
@@ -122,9 +123,10 @@ page_read_at n page.Write = refl
 page_read_at n page.TooLarge = refl
 page_read_at n page.OutOfMemory = refl
 
-pub instance_write : (f : InstanceFault) → is_failed_write (fault_from_instance f) ≡ false
-instance_write instance.OutOfMemory = refl
-instance_write f = refl
+pub instance_write : (s : Stop InstanceFault) → is_failed_write (fault_from_instance s) ≡ false
+instance_write (Fault f) = refl
+instance_write ReadFailed = refl
+instance_write OutOfMemory = refl
 
 pub solution_write : (f : SolutionFault) → is_failed_write (fault_from_solution f) ≡ false
 solution_write solution.OutOfMemory = refl

@@ -1,11 +1,13 @@
 -- The bytes of an instance and of a solution, and the results of reading them.
-use Rattle.std.proofs.Common.{◌≡◌, ℕ, List, Err, refl, subst}
+use Rattle.std.proofs.Common.{◌≡◌, ℕ, false, List, Err, refl, subst}
+use Rattle.tt_stop.specs.Stops.{Fails, is_failed_read}
+use Rattle.tt_stop.specs.declared.stop.Stop.{Stop}
+use Rattle.tt_stop.specs.declared.stop.Stop.TheVariants.{Fault, ReadFailed, OutOfMemory}
 use Rattle.tt_instance.specs.Problem.{Problem}
-use Rattle.tt_instance_read.specs.Reading.{instance_of, Fails}
+use Rattle.tt_instance_read.specs.Reading.{instance_of}
 use Rattle.tt_instance.specs.Spelling.{Spells}
 use Rattle.tt_instance.specs.declared.cell.Cell.{Cell}
 use Rattle.tt_instance_read.specs.declared.fault.InstanceFault.{InstanceFault}
-use Rattle.tt_instance_read.specs.declared.fault.InstanceFault.TheVariants as instance
 use Rattle.tt_instance_read.proofs.Laws.{is_read, spelled_instance, spelled_once}
 use Rattle.tt_table.specs.Reading.{solution_of, Fails as FailsTable}
 use Rattle.tt_table.specs.Spelling.{SpellsBoth}
@@ -18,9 +20,18 @@ use Rattle.tt_call_answers.specs.declared.fault.AppFault.{AppFault}
 use Rattle.tt_call_answers.specs.declared.fault.AppFault.TheVariants as fault
 
 -- an error of the instance is reported
-pub tells_instance : (i s : List ℕ) (f : InstanceFault) → Fails f (instance_of i) → IsFileRefusal i s (fault_from_instance f)
-tells_instance i s instance.OutOfMemory h = tt
-tells_instance i s f h = h
+pub tells_instance : (i s : List ℕ) (stop : Stop InstanceFault) → Fails stop (instance_of i) → is_failed_read stop ≡ false
+    → IsFileRefusal i s (fault_from_instance stop)
+tells_instance i s (Fault f) h unread = h
+tells_instance i s ReadFailed h unread = absurd cc
+tells_instance i s OutOfMemory h unread = tt
+
+-- if the bytes spell an instance, reading it is refused only for being out of memory
+pub spelled_memory : (i : List ℕ) (p : Problem) (stop : Stop InstanceFault) → Spells i p → Fails stop (instance_of i)
+    → is_failed_read stop ≡ false → fault_from_instance stop ≡ fault.OutOfMemory
+spelled_memory i p (Fault f) spells h unread = let e = is_read i p spells in absurd cc
+spelled_memory i p ReadFailed spells h unread = absurd cc
+spelled_memory i p OutOfMemory spells h unread = refl
 
 -- an error of the solution is reported
 pub tells_solution : (i s : List ℕ) (p : Problem) (f : SolutionFault) → Spells i p → FailsTable f (solution_of p s)

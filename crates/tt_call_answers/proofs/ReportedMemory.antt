@@ -4,7 +4,6 @@ use Rattle.tt_stop.specs.Stops.{OnFault}
 use Rattle.tt_stop.specs.declared.stop.Stop.{Stop}
 use Rattle.tt_stop.specs.declared.stop.Stop.TheVariants.{Fault, ReadFailed, OutOfMemory}
 use Rattle.tt_instance_read.specs.declared.fault.InstanceFault.{InstanceFault}
-use Rattle.tt_instance_read.specs.declared.fault.InstanceFault.TheVariants as instance
 use Rattle.tt_page_text.specs.declared.fault.LabelsFault.{LabelsFault}
 use Rattle.tt_page_text.specs.declared.fault.LabelsFault.TheVariants as labels
 use Rattle.tt_table.specs.declared.fault.SolutionFault.{SolutionFault}
@@ -22,9 +21,10 @@ use Rattle.tt_proof_sum.specs.declared.fault.FileFault.{FileFault}
 use Rattle.tt_proof_sum.specs.declared.fault.SumStop.{SumStop}
 use Rattle.tt_call_answers.specs.FaultMaps.{fault_from_instance, fault_from_solution, fault_from_check, fault_from_certify, fault_from_upgrade, fault_from_labels, HoldsNoStop, fault_at_file, fault_from_sum}
 
-pub lower_instance : (f : InstanceFault) → HoldsNoStop (fault_from_instance f)
-lower_instance instance.OutOfMemory = tt
-lower_instance f = refl
+pub lower_instance : (s : Stop InstanceFault) → HoldsNoStop (fault_from_instance s)
+lower_instance (Fault f) = tt
+lower_instance ReadFailed = tt
+lower_instance OutOfMemory = tt
 
 pub lower_solution : (f : SolutionFault) → HoldsNoStop (fault_from_solution f)
 lower_solution solution.OutOfMemory = tt
@@ -36,7 +36,7 @@ lower_check ReadFailed h = tt
 lower_check OutOfMemory h = tt
 
 pub lower_certify : (s : Stop CertifyFault) → OnFault s verdicts.HoldsNoStop → HoldsNoStop (fault_from_certify s)
-lower_certify (Fault (certify.Instance f)) h = h
+lower_certify (Fault (certify.Instance f)) h = tt
 lower_certify (Fault (certify.Solution f)) h = h
 lower_certify (Fault (certify.Proof f)) h = h
 lower_certify ReadFailed h = tt

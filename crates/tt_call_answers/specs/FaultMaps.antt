@@ -3,7 +3,6 @@ use Rattle.std.specs.Prelude.{ℕ, ⊤}
 use Rattle.tt_stop.specs.declared.stop.Stop.{Stop}
 use Rattle.tt_stop.specs.declared.stop.Stop.TheVariants.{Fault, ReadFailed, OutOfMemory}
 use Rattle.tt_instance_read.specs.declared.fault.InstanceFault.{InstanceFault}
-use Rattle.tt_instance_read.specs.declared.fault.InstanceFault.TheVariants as instance
 use Rattle.tt_table.specs.declared.fault.SolutionFault.{SolutionFault}
 use Rattle.tt_table.specs.declared.fault.SolutionFault.TheVariants as solution
 use Rattle.tt_proof_check.specs.Verdicts as checks
@@ -26,10 +25,11 @@ use Rattle.tt_call_answers.specs.declared.fault.AppFault.{AppFault}
 use Rattle.tt_call_answers.specs.declared.fault.AppFault.TheVariants as fault
 use Rattle.tt_proof_sum.specs.declared.fault.SumStop.{SumStop}
 
--- The fault of a call for a fault of the reader of instances.
-abbrev pub fault_from_instance : InstanceFault → AppFault
-fault_from_instance instance.OutOfMemory = fault.OutOfMemory
-fault_from_instance f = fault.Instance f
+-- The fault of a call after the reader of instances was stopped.
+abbrev pub fault_from_instance : Stop InstanceFault → AppFault
+fault_from_instance (Fault f) = fault.Instance f
+fault_from_instance ReadFailed = fault.ReadFailed
+fault_from_instance OutOfMemory = fault.OutOfMemory
 
 -- The fault of a call for a fault of the reader of solutions.
 abbrev pub fault_from_solution : SolutionFault → AppFault
@@ -76,7 +76,6 @@ fault_from_labels labels.OutOfMemory = fault.OutOfMemory
 
 -- The fault holds no fault of memory or of a failed read.
 abbrev pub HoldsNoStop : AppFault → Type 0
-HoldsNoStop (fault.Instance f) = checks.HoldsNoStop (certify.Instance f)
 HoldsNoStop (fault.Solution f) = checks.HoldsNoStop (certify.Solution f)
 HoldsNoStop (fault.Proof f) = checks.HoldsNoStop (certify.Proof f)
 HoldsNoStop (fault.Sum n f) = sums.HoldsNoStop f

@@ -110,16 +110,17 @@ impl From<LabelsFault> for AppFault {
     }
 }
 
-impl From<InstanceFault> for AppFault {
+impl From<Stop<InstanceFault>> for AppFault {
     ghost use Rattle.std.specs.Prelude.{◌≡◌};
     ghost use Rattle.tt_call_answers.specs.FaultMaps.{fault_from_instance};
 
-    ghost from_gives = { λ f e. e ≡ fault_from_instance f };
+    ghost from_gives = { λ s e. e ≡ fault_from_instance s };
 
-    fn from(fault: InstanceFault) -> AppFault {
-        match fault {
-            InstanceFault::OutOfMemory => AppFault::OutOfMemory,
-            fault => AppFault::Instance(fault),
+    fn from(stop: Stop<InstanceFault>) -> AppFault {
+        match stop {
+            Stop::Fault(fault) => AppFault::Instance(fault),
+            Stop::ReadFailed => AppFault::ReadFailed,
+            Stop::OutOfMemory => AppFault::OutOfMemory,
         }
     }
 }

@@ -3,9 +3,6 @@ use Rattle.std.proofs.Common.{ℕ, List, Option, Some, None}
 use Rattle.tt_text.specs.Reading.{FailsUnless}
 use Rattle.tt_instance.specs.Problem.{Problem}
 use Rattle.tt_instance.specs.Spelling.{Spells}
-use Rattle.tt_instance_read.specs.Reading.{Fails as FailsInstance, instance_of}
-use Rattle.tt_instance_read.specs.declared.fault.InstanceFault.{InstanceFault}
-use Rattle.tt_instance_read.specs.declared.fault.InstanceFault.TheVariants as instance
 use Rattle.tt_instance.specs.declared.cell.Cell.{Cell}
 use Rattle.tt_table.specs.declared.fault.SolutionFault.{SolutionFault}
 use Rattle.tt_table.specs.declared.fault.SolutionFault.TheVariants as solution
@@ -16,7 +13,7 @@ use Rattle.tt_wishes.specs.declared.wish.Wish.{Wish}
 use Rattle.tt_page_text.specs.Labels.{is_environmental}
 use Rattle.tt_page_text.specs.declared.fault.LabelsFault.{LabelsFault}
 use Rattle.tt_page_text.specs.declared.fault.LabelsFault.TheVariants as labels
-use Rattle.tt_call_answers.specs.FaultMaps.{fault_from_instance, fault_from_labels, fault_from_solution}
+use Rattle.tt_call_answers.specs.FaultMaps.{fault_from_labels, fault_from_solution}
 use Rattle.tt_call_answers.specs.declared.fault.AppFault.TheVariants as app
 use Rattle.tt_call_names.specs.Names.{labels_for}
 use Rattle.tt_call_names.specs.declared.names.PageNames.{PageNames}
@@ -27,12 +24,6 @@ use Rattle.tt_call_kept.specs.declared.fault.KeptFault.TheVariants as fault
 use Rattle.tt_call_kept.specs.declared.files.KeptFiles.{KeptFiles}
 use Rattle.tt_call_best_kept.specs.BestKept.{IsBestKeptRefusal}
 use Rattle.tt_call_best_kept.specs.Inner.Steps.{IsNamesFault, IsStartFault}
-
--- an error of the instance
-pub tells_instance : (f : KeptFiles) (e : InstanceFault) → FailsInstance e (instance_of f.instance.now)
-    → IsFileRefusal f (fault.Call (fault_from_instance e))
-tells_instance f instance.OutOfMemory h = tt
-tells_instance f e h = h
 
 -- an error of the wishes
 pub tells_wishes : (f : KeptFiles) (p : Problem) (e : WishesFault) → Spells f.instance.now p → FailsWishesText e (wishes_of p f.wishes.now)

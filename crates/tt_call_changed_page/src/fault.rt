@@ -9,6 +9,7 @@ use tt_call_answers::AppFault;
 use tt_instance_read::InstanceFault;
 use tt_page::PageFault;
 use tt_page_text::LabelsFault;
+use tt_stop::Stop;
 use tt_table::SolutionFault;
 
 /// The reason why a page with what changed isn't written.
@@ -57,15 +58,15 @@ impl From<AllocError> for ChangedPageFault {
     }
 }
 
-impl From<InstanceFault> for ChangedPageFault {
+impl From<Stop<InstanceFault>> for ChangedPageFault {
     ghost use Rattle.std.specs.Prelude.{◌≡◌};
     ghost use Rattle.tt_call_answers.specs.FaultMaps.{fault_from_instance};
     ghost use Rattle.tt_call_changed_page.specs.declared.fault.ChangedPageFault.TheVariants as fault;
 
-    ghost from_gives = { λ f e. e ≡ fault.Call (fault_from_instance f) };
+    ghost from_gives = { λ s e. e ≡ fault.Call (fault_from_instance s) };
 
-    fn from(fault: InstanceFault) -> ChangedPageFault {
-        ChangedPageFault::Call(AppFault::from(fault))
+    fn from(stop: Stop<InstanceFault>) -> ChangedPageFault {
+        ChangedPageFault::Call(AppFault::from(stop))
     }
 }
 

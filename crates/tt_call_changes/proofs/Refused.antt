@@ -1,25 +1,29 @@
 -- What a refusal says about the files.
-use Rattle.std.proofs.Common.{◌≡◌, ℕ, List, Err, refl, subst}
+use Rattle.std.proofs.Common.{◌≡◌, ℕ, List, Err, refl, sym, subst}
+use Rattle.tt_stop.specs.Stops.{Fails, Reports}
+use Rattle.tt_stop.specs.declared.stop.Stop.{Stop}
+use Rattle.tt_stop.specs.declared.stop.Stop.TheVariants.{Fault, ReadFailed, OutOfMemory}
 use Rattle.tt_instance.specs.Problem.{Problem}
 use Rattle.tt_instance.specs.Spelling.{Spells}
 use Rattle.tt_instance.specs.declared.cell.Cell.{Cell}
-use Rattle.tt_instance_read.specs.Reading.{instance_of, Fails}
+use Rattle.tt_instance_read.specs.Reading.{instance_of}
 use Rattle.tt_instance_read.specs.declared.fault.InstanceFault.{InstanceFault}
-use Rattle.tt_instance_read.specs.declared.fault.InstanceFault.TheVariants as instance
 use Rattle.tt_instance_read.proofs.Laws.{is_read, spelled_instance, spelled_once}
 use Rattle.tt_table.specs.Reading.{solution_of, Fails as FailsTable}
 use Rattle.tt_table.specs.Spelling.{SpellsBoth}
 use Rattle.tt_table.specs.declared.fault.SolutionFault.{SolutionFault}
 use Rattle.tt_table.specs.declared.fault.SolutionFault.TheVariants as solution
 use Rattle.tt_table.proofs.EntryLaws.{solution_read}
-use Rattle.tt_call_changes.specs.Changed.{IsChangesRefusal, fault_from_instance, fault_from_solution, fault_from_older}
+use Rattle.tt_call_changes.specs.Changed.{IsChangesRefusal, fault_from_solution, fault_from_older}
 use Rattle.tt_call_changes.specs.declared.fault.ChangesFault.{ChangesFault}
 use Rattle.tt_call_changes.specs.declared.fault.ChangesFault.TheVariants as fault
 
 -- an error of the instance is reported
-pub tells_instance : (i s o : List ℕ) (f : InstanceFault) → Fails f (instance_of i) → IsChangesRefusal i s o (fault_from_instance f)
-tells_instance i s o instance.OutOfMemory h = tt
-tells_instance i s o f h = h
+pub tells_instance : (i s o : List ℕ) (stop : Stop InstanceFault) (e : ChangesFault) → Reports fault.Instance fault.OutOfMemory stop e
+    → Fails stop (instance_of i) → IsChangesRefusal i s o e
+tells_instance i s o (Fault f) e is h = subst (IsChangesRefusal i s o) (sym is) h
+tells_instance i s o ReadFailed e is h = absurd is
+tells_instance i s o OutOfMemory e is h = subst (IsChangesRefusal i s o) (sym is) tt
 
 -- an error of the solution is reported
 pub tells_solution : (i s o : List ℕ) (p : Problem) (f : SolutionFault) → Spells i p → FailsTable f (solution_of p s)

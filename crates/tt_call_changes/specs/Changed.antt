@@ -4,8 +4,6 @@ use Rattle.tt_instance.specs.Problem.{Problem}
 use Rattle.tt_instance.specs.Spelling.{Spells}
 use Rattle.tt_instance.specs.declared.cell.Cell.{Cell}
 use Rattle.tt_instance_read.specs.Reading.{instance_of}
-use Rattle.tt_instance_read.specs.declared.fault.InstanceFault.{InstanceFault}
-use Rattle.tt_instance_read.specs.declared.fault.InstanceFault.TheVariants as instance
 use Rattle.tt_table.specs.Reading.{solution_of}
 use Rattle.tt_table.specs.Spelling.{SpellsTable, SpellsBoth}
 use Rattle.tt_table.specs.declared.fault.SolutionFault.{SolutionFault}
@@ -16,11 +14,6 @@ use Rattle.tt_changes.specs.Lines.{changes_text}
 use Rattle.tt_changes.specs.declared.change.Changes.{Changes}
 use Rattle.tt_call_changes.specs.declared.fault.ChangesFault.{ChangesFault}
 use Rattle.tt_call_changes.specs.declared.fault.ChangesFault.TheVariants as fault
-
--- The fault of a call for a fault of the reader of instances.
-abbrev pub fault_from_instance : InstanceFault → ChangesFault
-fault_from_instance instance.OutOfMemory = fault.OutOfMemory
-fault_from_instance f = fault.Instance f
 
 -- The fault of a call for a fault of the solution.
 abbrev pub fault_from_solution : SolutionFault → ChangesFault

@@ -1,11 +1,13 @@
 //! The reasons why the changes of a timetable aren't found.
 
-ghost use Rattle.std.specs.Prelude.{◌≡◌};
+ghost use Rattle.std.specs.Prelude.{◌≡◌, false};
+ghost use Rattle.tt_stop.specs.Stops.{Reports, is_failed_read};
 ghost use Rattle.tt_call_changes.specs.Changed.{fault_from_older};
 
 use std::alloc::AllocError;
 use thiserror::Error;
 use tt_instance_read::InstanceFault;
+use tt_stop::Stop;
 use tt_table::SolutionFault;
 
 /// The reason why the changes aren't found.
@@ -23,6 +25,18 @@ pub enum ChangesFault {
 }
 
 impl ChangesFault {
+    /// Returns the fault of a call after the reader of instances was stopped.
+    pub fn of_instance(stop: Stop<InstanceFault>) -> ChangesFault
+        requires { is_failed_read stop ≡ false }
+        ensures { Reports ChangesFault.Instance ChangesFault.OutOfMemory stop result }
+    {
+        match stop {
+            Stop::Fault(fault) => ChangesFault::Instance(fault),
+            Stop::ReadFailed => unreachable!(),
+            Stop::OutOfMemory => ChangesFault::OutOfMemory,
+        }
+    }
+
     /// Returns the fault of a call for a fault of the older solution.
     pub fn of_older(fault: SolutionFault) -> ChangesFault
         ensures { result ≡ fault_from_older fault }
@@ -42,20 +56,6 @@ impl From<AllocError> for ChangesFault {
 
     fn from(_e: AllocError) -> ChangesFault {
         ChangesFault::OutOfMemory
-    }
-}
-
-impl From<InstanceFault> for ChangesFault {
-    ghost use Rattle.std.specs.Prelude.{◌≡◌};
-    ghost use Rattle.tt_call_changes.specs.Changed.{fault_from_instance};
-
-    ghost from_gives = { λ f e. e ≡ fault_from_instance f };
-
-    fn from(fault: InstanceFault) -> ChangesFault {
-        match fault {
-            InstanceFault::OutOfMemory => ChangesFault::OutOfMemory,
-            fault => ChangesFault::Instance(fault),
-        }
     }
 }
 

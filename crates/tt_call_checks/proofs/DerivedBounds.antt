@@ -2,11 +2,8 @@
 use Rattle.std.proofs.Common.{◌≡◌, ℕ, List, Option, Some, None, Result, Ok, Err, refl, subst, inl, inr}
 use Rattle.std.specs.Prelude.{IfSome}
 use Rattle.tt_instance.specs.Problem.{Problem}
-use Rattle.tt_instance_read.specs.Reading.{instance_of, Fails}
 use Rattle.tt_instance.specs.Spelling.{Spells}
-use Rattle.tt_instance_read.specs.declared.fault.InstanceFault.{InstanceFault}
-use Rattle.tt_instance_read.specs.declared.fault.InstanceFault.TheVariants as instance
-use Rattle.tt_instance_read.proofs.Laws.{is_read, spelled_once}
+use Rattle.tt_instance_read.proofs.Laws.{spelled_once}
 use Rattle.tt_leaf.specs.declared.leaf.Bound.{Bound}
 use Rattle.tt_proof_check.specs.Derives.{HoldsOfAll}
 use Rattle.tt_proof_check.specs.Streams.{IsProved, stream_of, IsProofFault}
@@ -15,20 +12,8 @@ use Rattle.tt_stop.specs.Stops.{OnFault}
 use Rattle.tt_stop.specs.declared.stop.Stop.{Stop}
 use Rattle.tt_stop.specs.declared.stop.Stop.TheVariants.{Fault, ReadFailed, OutOfMemory}
 use Rattle.tt_call_checks.specs.Bounded.{IsBoundAnswer, IsBounded, IsBoundRefusal, AnswersBound}
-use Rattle.tt_call_answers.specs.FaultMaps.{fault_from_instance, fault_from_check}
+use Rattle.tt_call_answers.specs.FaultMaps.{fault_from_check}
 use Rattle.tt_call_answers.specs.declared.answer.Answer.{Answer}
-
--- if the bytes spell an instance, reading it is refused only for being out of memory
-pub spelled_memory : (i : List ℕ) (p : Problem) (f : InstanceFault) (b : Bound) → Spells i p → Fails f (instance_of i)
-    → AnswersBound (Err (fault_from_instance f)) b
-spelled_memory i p instance.OutOfMemory b spells h = inl refl
-spelled_memory i p (instance.Ended n) b spells h = let e = is_read i p spells in absurd cc
-spelled_memory i p (instance.Expected w n) b spells h = let e = is_read i p spells in absurd cc
-spelled_memory i p (instance.NotANumber n) b spells h = let e = is_read i p spells in absurd cc
-spelled_memory i p (instance.OverLimit n) b spells h = let e = is_read i p spells in absurd cc
-spelled_memory i p (instance.Repeated n) b spells h = let e = is_read i p spells in absurd cc
-spelled_memory i p (instance.UnknownCourse n) b spells h = let e = is_read i p spells in absurd cc
-spelled_memory i p (instance.OutOfRange n) b spells h = let e = is_read i p spells in absurd cc
 
 -- a property of the bytes, if they are known
 pub reported : (q : Option (List ℕ)) (P : List ℕ → Type 0) → ((bytes : List ℕ) → q ≡ Some bytes → P bytes) → IfSome q P

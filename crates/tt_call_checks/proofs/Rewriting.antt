@@ -11,17 +11,10 @@ use Rattle.tt_stop.specs.declared.stop.Stop.TheVariants.{Fault, ReadFailed, OutO
 use Rattle.tt_proof_upgrade.specs.Upgrades.{IsUpgraded, IsUpgradeFault}
 use Rattle.tt_proof_upgrade.specs.declared.fault.UpgradeFault.{UpgradeFault}
 use Rattle.tt_proof_upgrade.specs.declared.fault.UpgradeFault.TheVariants as upgrade
-use Rattle.tt_call_checks.specs.Bounded.{AnswersBound}
 use Rattle.tt_call_checks.specs.Rewritten.{IsUpgradeAnswer, IsRewritten, FailsWhole, IsUpgradeRefusal, AnswersUpgrade}
 use Rattle.tt_call_answers.specs.FaultMaps.{fault_from_upgrade}
 use Rattle.tt_call_answers.specs.declared.answer.Answer.{Answer}
-use Rattle.tt_call_answers.specs.declared.fault.AppFault.{AppFault}
 use Rattle.tt_call_checks.proofs.DerivedBounds.{reported}
-
--- an error that `bound` may return instead of a bound may be returned by `upgrade`
-pub as_bound : (f : AppFault) (b : Bound) → AnswersBound (Err f) b → AnswersUpgrade (Err f) b
-as_bound f b (inl e) = inl e
-as_bound f b (inr e) = inr (inl e)
 
 module _ (i : List ℕ) (p : Problem) (q : Option (List ℕ)) (spells : Spells i p) where
   whole : (f : UpgradeFault) → ((bytes : List ℕ) → q ≡ Some bytes → IsUpgradeFault p (stream_of bytes) f) → FailsWhole i q f

@@ -24,7 +24,10 @@ pub fn find_clashing_lines(
     // A refusal reports the first error: the instance's, then that of the wishes.
     ensures fault { IfErr result (IsClashRefusal instance.now wishes.now) }
 {
-    let instance = read_instance(alloc, instance)?;
+    let instance = match read_instance(alloc, instance) {
+        Ok(instance) => instance,
+        Err(stop) => return Err(ValidateFault::of_instance(stop)),
+    };
     let listed = read_wishes(alloc, &instance, wishes)?;
     let Some(clash) = find_clash(&instance, &listed) else {
         return Ok(None);

@@ -1,8 +1,13 @@
 -- What a refusal says about the files.
-use Rattle.std.proofs.Common.{◌≡◌, ℕ, List, Option, Some, None}
+use Rattle.std.proofs.Common.{ℕ, List, Option, Some, None, sym, subst}
+use Rattle.tt_stop.specs.Stops.{Fails, Reports}
+use Rattle.tt_stop.specs.declared.stop.Stop.{Stop}
+use Rattle.tt_stop.specs.declared.stop.Stop.TheVariants.{Fault, ReadFailed, OutOfMemory}
 use Rattle.tt_instance.specs.Problem.{Problem}
 use Rattle.tt_instance.specs.Spelling.{Spells}
 use Rattle.tt_instance.specs.declared.cell.Cell.{Cell}
+use Rattle.tt_instance_read.specs.Reading.{instance_of}
+use Rattle.tt_instance_read.specs.declared.fault.InstanceFault.{InstanceFault}
 use Rattle.tt_table.specs.Reading.{solution_of, Fails as FailsSolutionText}
 use Rattle.tt_table.specs.Spelling.{SpellsBoth}
 use Rattle.tt_table.specs.declared.fault.SolutionFault.{SolutionFault}
@@ -10,7 +15,16 @@ use Rattle.tt_table.specs.declared.fault.SolutionFault.TheVariants as solution
 use Rattle.tt_wishes.specs.declared.fault.WishesFault.{WishesFault}
 use Rattle.tt_wishes.specs.declared.fault.WishesFault.TheVariants as wishes
 use Rattle.tt_call_wishes.specs.Wished.{fault_from_solution, fault_from_wishes}
+use Rattle.tt_call_wishes.specs.declared.fault.ValidateFault.{ValidateFault}
+use Rattle.tt_call_wishes.specs.declared.fault.ValidateFault.TheVariants as fault
 use Rattle.tt_call_json.specs.Counts.{FailsGiven, IsCountsRefusal}
+
+-- an error of the instance is reported
+pub tells_instance : (i s : List ℕ) (w : Option (List ℕ)) (stop : Stop InstanceFault) (e : ValidateFault)
+    → Reports fault.Instance fault.OutOfMemory stop e → Fails stop (instance_of i) → IsCountsRefusal i s w e
+tells_instance i s w (Fault f) e is h = subst (IsCountsRefusal i s w) (sym is) h
+tells_instance i s w ReadFailed e is h = absurd is
+tells_instance i s w OutOfMemory e is h = subst (IsCountsRefusal i s w) (sym is) tt
 
 -- an error of the solution is reported
 pub tells_solution : (i s : List ℕ) (w : Option (List ℕ)) (p : Problem) (f : SolutionFault) → Spells i p → FailsSolutionText f (solution_of p s)

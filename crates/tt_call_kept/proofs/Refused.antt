@@ -1,14 +1,14 @@
 -- What a refusal says about the files.
-use Rattle.std.proofs.Common.{◌≡◌, ℕ, List, Err, refl, ap, subst, inl}
+use Rattle.std.proofs.Common.{◌≡◌, ℕ, false, List, Err, refl, ap, subst, inl}
 use Rattle.tt_instance.specs.Problem.{Problem}
 use Rattle.tt_instance.specs.Spelling.{Spells}
-use Rattle.tt_instance_read.specs.Reading.{instance_of, Fails}
+use Rattle.tt_instance_read.specs.Reading.{instance_of}
 use Rattle.tt_instance_read.specs.declared.fault.InstanceFault.{InstanceFault}
-use Rattle.tt_instance_read.specs.declared.fault.InstanceFault.TheVariants as instance
 use Rattle.tt_instance_read.proofs.Laws.{is_read, spelled_instance, spelled_once}
 use Rattle.tt_instance.specs.declared.cell.Cell.{Cell}
 use Rattle.tt_table.specs.Reading.{solution_of, Fails as FailsTable}
 use Rattle.tt_table.specs.declared.fault.SolutionFault.{SolutionFault}
+use Rattle.tt_stop.specs.Stops.{Fails, is_failed_read}
 use Rattle.tt_stop.specs.declared.stop.Stop.{Stop}
 use Rattle.tt_stop.specs.declared.stop.Stop.TheVariants.{Fault, ReadFailed, OutOfMemory}
 use Rattle.tt_wishes.specs.Reading.{wishes_of, Fails as FailsWishesText}
@@ -29,10 +29,11 @@ use Rattle.tt_call_kept.specs.declared.fault.KeptFault.TheVariants as fault
 use Rattle.tt_call_kept.specs.declared.files.KeptFiles.{KeptFiles}
 
 -- an error of the instance is reported
-pub tells_instance : (f : KeptFiles) (e : InstanceFault) → Fails e (instance_of f.instance.now)
-    → IsFileRefusal f (fault.Call (fault_from_instance e))
-tells_instance f instance.OutOfMemory h = tt
-tells_instance f e h = h
+pub tells_instance : (f : KeptFiles) (stop : Stop InstanceFault) → Fails stop (instance_of f.instance.now)
+    → is_failed_read stop ≡ false → IsFileRefusal f (fault.Call (fault_from_instance stop))
+tells_instance f (Fault e) h unread = h
+tells_instance f ReadFailed h unread = absurd cc
+tells_instance f OutOfMemory h unread = tt
 
 -- an error of the wishes is reported
 pub tells_wishes : (f : KeptFiles) (p : Problem) (e : WishesFault) → Spells f.instance.now p → FailsWishesText e (wishes_of p f.wishes.now)
@@ -81,9 +82,10 @@ memory_silent e c b n is = rw is (inl refl)
 
 module _ (f : KeptFiles) (s : List ℕ) (p : Problem) (t : List Cell) (ws : List Wish) (spelled : SpellsAll f s p t ws) (c b n : ℕ) where
   -- if all files are spelled, an error of one of them is being out of memory
-  pub instance_silent : (e : InstanceFault) → Fails e (instance_of f.instance.now) → AnswersYes (Err (fault.Call (fault_from_instance e))) c b n
-  instance_silent e h = memory_silent (fault.Call (fault_from_instance e)) c b n
-      (only_memory f p ws (fault.Call (fault_from_instance e)) spelled.kept (tells_instance f e h))
+  pub instance_silent : (stop : Stop InstanceFault) → Fails stop (instance_of f.instance.now) → is_failed_read stop ≡ false
+      → AnswersYes (Err (fault.Call (fault_from_instance stop))) c b n
+  instance_silent stop h unread = memory_silent (fault.Call (fault_from_instance stop)) c b n
+      (only_memory f p ws (fault.Call (fault_from_instance stop)) spelled.kept (tells_instance f stop h unread))
 
   pub wishes_silent : (q : Problem) (e : WishesFault) → Spells f.instance.now q → FailsWishesText e (wishes_of q f.wishes.now)
       → AnswersYes (Err (fault_from_wishes e)) c b n

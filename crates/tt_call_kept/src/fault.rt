@@ -7,6 +7,7 @@ use tt_instance_read::InstanceFault;
 use tt_page::PageFault;
 use tt_page_text::LabelsFault;
 use tt_proof_sum::SumStop;
+use tt_stop::Stop;
 use tt_table::SolutionFault;
 use tt_wishes::WishesFault;
 
@@ -31,15 +32,15 @@ impl From<AllocError> for KeptFault {
     }
 }
 
-impl From<InstanceFault> for KeptFault {
+impl From<Stop<InstanceFault>> for KeptFault {
     ghost use Rattle.std.specs.Prelude.{◌≡◌};
     ghost use Rattle.tt_call_answers.specs.FaultMaps.{fault_from_instance};
     ghost use Rattle.tt_call_kept.specs.declared.fault.KeptFault.TheVariants as fault;
 
-    ghost from_gives = { λ f e. e ≡ fault.Call (fault_from_instance f) };
+    ghost from_gives = { λ s e. e ≡ fault.Call (fault_from_instance s) };
 
-    fn from(fault: InstanceFault) -> KeptFault {
-        KeptFault::Call(AppFault::from(fault))
+    fn from(stop: Stop<InstanceFault>) -> KeptFault {
+        KeptFault::Call(AppFault::from(stop))
     }
 }
 

@@ -1,14 +1,13 @@
 -- What a refusal of `kept_page` says, from the results of its steps.
-use Rattle.std.proofs.Common.{◌≡◌, ◌∙◌, ℕ, List, Option, Ok, ap, refl}
+use Rattle.std.proofs.Common.{◌≡◌, ◌∙◌, ℕ, false, List, Option, Ok, ap, refl}
 use Rattle.tt_text.specs.Reading.{FailsUnless}
 use Rattle.tt_text.specs.Sinks.{TakesPart}
 use Rattle.tt_instance.specs.Problem.{Problem}
 use Rattle.tt_instance.specs.Spelling.{Spells}
 use Rattle.tt_instance.specs.declared.cell.Cell.{Cell}
-use Rattle.tt_instance_read.specs.Reading.{instance_of, Fails}
+use Rattle.tt_instance_read.specs.Reading.{instance_of}
 use Rattle.tt_instance_read.proofs.Laws.{spelled_once}
 use Rattle.tt_instance_read.specs.declared.fault.InstanceFault.{InstanceFault}
-use Rattle.tt_instance_read.specs.declared.fault.InstanceFault.TheVariants as instance
 use Rattle.tt_table.specs.Reading.{solution_of, Fails as FailsTable}
 use Rattle.tt_table.specs.Spelling.{SpellsBoth}
 use Rattle.tt_table.specs.declared.fault.SolutionFault.{SolutionFault}
@@ -24,6 +23,7 @@ use Rattle.tt_page_text.specs.Labels.{is_environmental}
 use Rattle.tt_page_text.specs.declared.fault.LabelsFault.{LabelsFault}
 use Rattle.tt_page_text.specs.declared.fault.LabelsFault.TheVariants as labels
 use Rattle.tt_proof_sum.specs.Sums.{IsSum}
+use Rattle.tt_stop.specs.Stops.{Fails, is_failed_read}
 use Rattle.tt_stop.specs.declared.stop.Stop.{Stop}
 use Rattle.tt_stop.specs.declared.stop.Stop.TheVariants.{Fault, ReadFailed, OutOfMemory}
 use Rattle.tt_proof_sum.specs.Faults.{IsSumStop}
@@ -48,10 +48,11 @@ narrowed_there i p q n ws one other is = is ∙ ap (λ r. narrowed r ws) (spelle
 
 module _ (a : PageTexts) (gives : List (List ℕ) → Type 0) (before after : Option (List ℕ)) where
   -- an error of the instance is reported
-  pub tells_instance : (e : InstanceFault) → Fails e (instance_of a.files.instance.now)
-      → IsKeptPageRefusal a gives before after (fault.Call (fault_from_instance e))
-  tells_instance instance.OutOfMemory h = tt
-  tells_instance e h = h
+  pub tells_instance : (stop : Stop InstanceFault) → Fails stop (instance_of a.files.instance.now) → is_failed_read stop ≡ false
+      → IsKeptPageRefusal a gives before after (fault.Call (fault_from_instance stop))
+  tells_instance (Fault e) h unread = h
+  tells_instance ReadFailed h unread = absurd cc
+  tells_instance OutOfMemory h unread = tt
 
   module _ (p : Problem) (spelled : Spells a.files.instance.now p) where
     -- an error of the solution is reported

@@ -1,12 +1,14 @@
 -- Solutions that may be given, and the results of reading them.
-use Rattle.std.proofs.Common.{◌≡◌, ℕ, List, Option, Some, None}
+use Rattle.std.proofs.Common.{◌≡◌, ℕ, false, List, Option, Some, None}
 use Rattle.std.specs.Prelude.{IfSome}
+use Rattle.tt_stop.specs.Stops.{Fails, is_failed_read}
+use Rattle.tt_stop.specs.declared.stop.Stop.{Stop}
+use Rattle.tt_stop.specs.declared.stop.Stop.TheVariants.{Fault, ReadFailed, OutOfMemory}
 use Rattle.tt_instance.specs.Problem.{Problem}
-use Rattle.tt_instance_read.specs.Reading.{instance_of, Fails}
+use Rattle.tt_instance_read.specs.Reading.{instance_of}
 use Rattle.tt_instance.specs.Spelling.{Spells}
 use Rattle.tt_instance.specs.declared.cell.Cell.{Cell}
 use Rattle.tt_instance_read.specs.declared.fault.InstanceFault.{InstanceFault}
-use Rattle.tt_instance_read.specs.declared.fault.InstanceFault.TheVariants as instance
 use Rattle.tt_table.specs.Table.{IsTimetable}
 use Rattle.tt_table.specs.declared.fault.SolutionFault.{SolutionFault}
 use Rattle.tt_call_answers.specs.FaultMaps.{fault_from_instance, fault_from_solution}
@@ -15,15 +17,17 @@ use Rattle.tt_call_answers.proofs.Files.{tells_instance, tells_solution, only_me
 use Rattle.tt_call_searches.specs.Given.{IsGiven, FailsGiven, SpellsGiven, IsInstanceRefusal, IsGivenRefusal}
 
 -- an error of the instance is reported
-tells_alone : (i : List ℕ) (f : InstanceFault) → Fails f (instance_of i) → IsInstanceRefusal i (fault_from_instance f)
-tells_alone i instance.OutOfMemory h = tt
-tells_alone i f h = h
+tells_alone : (i : List ℕ) (stop : Stop InstanceFault) → Fails stop (instance_of i) → is_failed_read stop ≡ false
+    → IsInstanceRefusal i (fault_from_instance stop)
+tells_alone i (Fault f) h unread = h
+tells_alone i ReadFailed h unread = absurd cc
+tells_alone i OutOfMemory h unread = tt
 
 -- an error of the instance is reported, whether a solution is given or not
-pub tells_first : (i : List ℕ) (given : Option (List ℕ)) (f : InstanceFault) → Fails f (instance_of i)
-    → IsGivenRefusal i given (fault_from_instance f)
-tells_first i None f h = tells_alone i f h
-tells_first i (Some s) f h = tells_instance i s f h
+pub tells_first : (i : List ℕ) (given : Option (List ℕ)) (stop : Stop InstanceFault) → Fails stop (instance_of i)
+    → is_failed_read stop ≡ false → IsGivenRefusal i given (fault_from_instance stop)
+tells_first i None stop h unread = tells_alone i stop h unread
+tells_first i (Some s) stop h unread = tells_instance i s stop h unread
 
 -- an error of a given solution is reported
 pub tells_given : (i : List ℕ) (given : Option (List ℕ)) (p : Problem) (f : SolutionFault) → Spells i p → FailsGiven f p given

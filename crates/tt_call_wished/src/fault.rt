@@ -3,7 +3,6 @@
 use std::alloc::AllocError;
 use thiserror::Error;
 use tt_call_wishes::ValidateFault;
-use tt_instance_read::InstanceFault;
 use tt_search_complete::CompleteFault;
 use tt_table::SolutionFault;
 use tt_wishes::WishesFault;
@@ -37,18 +36,6 @@ impl From<AllocError> for WishedFault {
 
     fn from(_e: AllocError) -> WishedFault {
         WishedFault::Files(ValidateFault::OutOfMemory)
-    }
-}
-
-impl From<InstanceFault> for WishedFault {
-    ghost use Rattle.std.specs.Prelude.{◌≡◌};
-    ghost use Rattle.tt_call_wishes.specs.Wished.{fault_from_instance};
-    ghost use Rattle.tt_call_wished.specs.declared.fault.WishedFault.TheVariants as fault;
-
-    ghost from_gives = { λ f e. e ≡ fault.Files (fault_from_instance f) };
-
-    fn from(fault: InstanceFault) -> WishedFault {
-        WishedFault::Files(ValidateFault::from(fault))
     }
 }
 

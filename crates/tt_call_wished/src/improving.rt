@@ -8,6 +8,7 @@ use crate::answer::wished_answer;
 use crate::fault::WishedFault;
 use std::alloc::Global;
 use tt_call_answers::Answer;
+use tt_call_wishes::ValidateFault;
 use tt_instance::Instance;
 use tt_instance_read::read_instance;
 use tt_search_complete::complete;
@@ -56,7 +57,10 @@ pub fn improve_under_wishes<W: Watch>(
     // A refusal reports the first error: the instance's, then the solution's, then that of the wishes, and then why the solution can't be completed.
     ensures fault { IfErr result (IsWishedRefusal files.entry) }
 {
-    let instance = read_instance(alloc, files.instance)?;
+    let instance = match read_instance(alloc, files.instance) {
+        Ok(instance) => instance,
+        Err(stop) => return Err(WishedFault::Files(ValidateFault::of_instance(stop))),
+    };
     let older = read_solution(alloc, &instance, files.solution)?;
     let wishes = read_wishes(alloc, &instance, files.wishes)?;
     let start = start_of(alloc, &instance, &older, completes)?;

@@ -1,11 +1,13 @@
 -- What a refusal says about the files.
-use Rattle.std.proofs.Common.{◌≡◌, ℕ, List, Err, refl, subst}
+use Rattle.std.proofs.Common.{◌≡◌, ℕ, List, Err, refl, sym, subst}
+use Rattle.tt_stop.specs.Stops.{Fails, Reports}
+use Rattle.tt_stop.specs.declared.stop.Stop.{Stop}
+use Rattle.tt_stop.specs.declared.stop.Stop.TheVariants.{Fault, ReadFailed, OutOfMemory}
 use Rattle.tt_instance.specs.Problem.{Problem}
 use Rattle.tt_instance.specs.Spelling.{Spells}
 use Rattle.tt_instance.specs.declared.cell.Cell.{Cell}
-use Rattle.tt_instance_read.specs.Reading.{instance_of, Fails}
+use Rattle.tt_instance_read.specs.Reading.{instance_of}
 use Rattle.tt_instance_read.specs.declared.fault.InstanceFault.{InstanceFault}
-use Rattle.tt_instance_read.specs.declared.fault.InstanceFault.TheVariants as instance
 use Rattle.tt_instance_read.proofs.Laws.{is_read, spelled_instance, spelled_once}
 use Rattle.tt_table.specs.Reading.{solution_of, Fails as FailsSolutionText}
 use Rattle.tt_table.specs.Spelling.{SpellsBoth}
@@ -18,14 +20,16 @@ use Rattle.tt_wishes.specs.declared.fault.WishesFault.{WishesFault}
 use Rattle.tt_wishes.specs.declared.fault.WishesFault.TheVariants as wishes
 use Rattle.tt_wishes.specs.declared.wish.Wish.{Wish}
 use Rattle.tt_wishes.proofs.RowLaws.{wishes_read}
-use Rattle.tt_call_wishes.specs.Wished.{IsWishesRefusal, fault_from_instance, fault_from_solution, fault_from_wishes}
+use Rattle.tt_call_wishes.specs.Wished.{IsWishesRefusal, fault_from_solution, fault_from_wishes}
 use Rattle.tt_call_wishes.specs.declared.fault.ValidateFault.{ValidateFault}
 use Rattle.tt_call_wishes.specs.declared.fault.ValidateFault.TheVariants as fault
 
 -- an error of the instance is reported
-pub tells_instance : (i s w : List ℕ) (f : InstanceFault) → Fails f (instance_of i) → IsWishesRefusal i s w (fault_from_instance f)
-tells_instance i s w instance.OutOfMemory h = tt
-tells_instance i s w f h = h
+pub tells_instance : (i s w : List ℕ) (stop : Stop InstanceFault) (e : ValidateFault) → Reports fault.Instance fault.OutOfMemory stop e
+    → Fails stop (instance_of i) → IsWishesRefusal i s w e
+tells_instance i s w (Fault f) e is h = subst (IsWishesRefusal i s w) (sym is) h
+tells_instance i s w ReadFailed e is h = absurd is
+tells_instance i s w OutOfMemory e is h = subst (IsWishesRefusal i s w) (sym is) tt
 
 -- an error of the solution is reported
 pub tells_solution : (i s w : List ℕ) (p : Problem) (f : SolutionFault) → Spells i p → FailsSolutionText f (solution_of p s)

@@ -4,8 +4,6 @@ use Rattle.tt_instance.specs.Problem.{Problem}
 use Rattle.tt_instance.specs.Spelling.{Spells}
 use Rattle.tt_instance.specs.declared.cell.Cell.{Cell}
 use Rattle.tt_instance_read.specs.Reading.{instance_of}
-use Rattle.tt_instance_read.specs.declared.fault.InstanceFault.{InstanceFault}
-use Rattle.tt_instance_read.specs.declared.fault.InstanceFault.TheVariants as instance
 use Rattle.tt_table.specs.Reading.{solution_of}
 use Rattle.tt_table.specs.Spelling.{SpellsBoth}
 use Rattle.tt_table.specs.declared.fault.SolutionFault.{SolutionFault}
@@ -23,11 +21,6 @@ use Rattle.tt_call_answers.specs.declared.answer.Answer.{Answer}
 use Rattle.tt_call_checks.specs.Validated.{score_lines}
 use Rattle.tt_call_wishes.specs.declared.fault.ValidateFault.{ValidateFault}
 use Rattle.tt_call_wishes.specs.declared.fault.ValidateFault.TheVariants as fault
-
--- The fault of a call for a fault of the reader of instances.
-abbrev pub fault_from_instance : InstanceFault → ValidateFault
-fault_from_instance instance.OutOfMemory = fault.OutOfMemory
-fault_from_instance f = fault.Instance f
 
 -- The fault of a call for a fault of the reader of solutions.
 abbrev pub fault_from_solution : SolutionFault → ValidateFault

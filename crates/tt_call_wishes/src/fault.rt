@@ -3,6 +3,7 @@
 use std::alloc::AllocError;
 use thiserror::Error;
 use tt_instance_read::InstanceFault;
+use tt_stop::Stop;
 use tt_table::SolutionFault;
 use tt_wishes::WishesFault;
 
@@ -30,16 +31,19 @@ impl From<AllocError> for ValidateFault {
     }
 }
 
-impl From<InstanceFault> for ValidateFault {
-    ghost use Rattle.std.specs.Prelude.{◌≡◌};
-    ghost use Rattle.tt_call_wishes.specs.Wished.{fault_from_instance};
+impl ValidateFault {
+    ghost use Rattle.std.specs.Prelude.{◌≡◌, false};
+    ghost use Rattle.tt_stop.specs.Stops.{Reports, is_failed_read};
 
-    ghost from_gives = { λ f e. e ≡ fault_from_instance f };
-
-    fn from(fault: InstanceFault) -> ValidateFault {
-        match fault {
-            InstanceFault::OutOfMemory => ValidateFault::OutOfMemory,
-            fault => ValidateFault::Instance(fault),
+    /// Returns the fault of a call after the reader of instances was stopped.
+    pub fn of_instance(stop: Stop<InstanceFault>) -> ValidateFault
+        requires { is_failed_read stop ≡ false }
+        ensures { Reports ValidateFault.Instance ValidateFault.OutOfMemory stop result }
+    {
+        match stop {
+            Stop::Fault(fault) => ValidateFault::Instance(fault),
+            Stop::ReadFailed => unreachable!(),
+            Stop::OutOfMemory => ValidateFault::OutOfMemory,
         }
     }
 }

@@ -5,8 +5,9 @@ use std::io::Write;
 use tt_cli_saving::show_clash;
 use tt_inspect_reasons::explain_shortages;
 use tt_instance::Instance;
-use tt_instance_read::{InstanceFault, read_instance};
+use tt_instance_read::read_instance;
 use tt_rules::score;
+use tt_stop::Stop;
 use tt_table::{SolutionFault, read_solution};
 use tt_wishes::{WishesFault, broken_wishes, read_wishes};
 
@@ -49,7 +50,7 @@ impl<'a> FailedKept<'a> {
     fn explain(&self, alloc: Global) -> Result<String, AllocError> {
         let instance = match read_instance(alloc, self.instance) {
             Ok(instance) => instance,
-            Err(InstanceFault::OutOfMemory) => return Err(AllocError),
+            Err(Stop::OutOfMemory) => return Err(AllocError),
             Err(_) => return String::from_str(alloc, UNKNOWN),
         };
         if let Some(text) = explain_shortages(alloc, &instance)? {

@@ -3,7 +3,8 @@
 use std::alloc::{AllocError, Global};
 use std::io::Write;
 use tt_inspect_reasons::{explain_shortages, explain_tree};
-use tt_instance_read::{InstanceFault, read_instance};
+use tt_instance_read::read_instance;
+use tt_stop::Stop;
 
 /// The line of a search that found neither a timetable nor a reason why there is none.
 const UNKNOWN: &str =
@@ -23,7 +24,7 @@ impl<'a> Failed<'a> {
     fn explain(&self, alloc: Global) -> Result<String, AllocError> {
         let instance = match read_instance(alloc, self.instance) {
             Ok(instance) => instance,
-            Err(InstanceFault::OutOfMemory) => return Err(AllocError),
+            Err(Stop::OutOfMemory) => return Err(AllocError),
             Err(_) => return String::from_str(alloc, UNKNOWN),
         };
         if let Some(text) = explain_shortages(alloc, &instance)? {

@@ -8,8 +8,8 @@ use crate::survey::{Survey, look_at, missing_word, other_format};
 use std::alloc::{AllocError, Global};
 use tt_instance_read::InstanceFault;
 
-/// Returns the offset of a fault; `None` for being out of memory.
-fn offset_of(fault: InstanceFault) -> Option<usize> {
+/// Returns the offset of a fault.
+fn offset_of(fault: InstanceFault) -> usize {
     match fault {
         InstanceFault::Ended(at)
         | InstanceFault::Expected(_, at)
@@ -17,8 +17,7 @@ fn offset_of(fault: InstanceFault) -> Option<usize> {
         | InstanceFault::OverLimit(at)
         | InstanceFault::Repeated(at)
         | InstanceFault::UnknownCourse(at)
-        | InstanceFault::OutOfRange(at) => Some(at),
-        InstanceFault::OutOfMemory => None,
+        | InstanceFault::OutOfRange(at) => at,
     }
 }
 
@@ -33,7 +32,6 @@ fn expected(fault: InstanceFault, section: Section) -> &'static str {
         InstanceFault::UnknownCourse(_) => "the name of a course",
         InstanceFault::OutOfRange(_) if section == Section::Head => "a greater number",
         InstanceFault::OutOfRange(_) => "a smaller number",
-        InstanceFault::OutOfMemory => "nothing",
     }
 }
 
@@ -56,7 +54,6 @@ fn usual_reason(fault: InstanceFault, section: Section) -> &'static str {
         InstanceFault::OutOfRange(_) => {
             "days and periods count from 0, so the last is one less than the header says"
         }
-        InstanceFault::OutOfMemory => "",
     }
 }
 
@@ -120,11 +117,10 @@ pub fn explain_instance(
 ) -> Result<String, AllocError> {
     let mut text = String::new(alloc);
     writeln!(text, "instance: {fault}")?;
-    if let Some(offset) = offset_of(fault) {
-        let before = look_before(bytes, offset);
-        let expected = expected(fault, before.section);
-        let reason = reason(bytes, fault, before, offset);
-        put_place(&mut text, bytes, offset, expected, reason)?;
-    }
+    let offset = offset_of(fault);
+    let before = look_before(bytes, offset);
+    let expected = expected(fault, before.section);
+    let reason = reason(bytes, fault, before, offset);
+    put_place(&mut text, bytes, offset, expected, reason)?;
     Ok(text)
 }

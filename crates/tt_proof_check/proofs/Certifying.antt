@@ -1,17 +1,16 @@
 -- The result of `certify`, from the results of its steps.
 use Rattle.std.proofs.Common.{◌≡◌, ℕ, zero, suc, ◌+◌, ◌<◌, ◌≤◌, Bool, true, false, List, Option, Some, None, Result, Ok, Err, IfOk, refl, sym, ap, subst, ◌∙◌, arith}
 use Rattle.std.specs.Prelude.{IfSome, ◌↔◌, IsTrue}
-use Rattle.tt_stop.proofs.Stops.{OnFault-weaker, OnFault-each, at_mapped}
-use Rattle.tt_stop.specs.Stops.{OnFault, is_failed_read}
+use Rattle.tt_stop.proofs.Stops.{OnFault-weaker, OnFault-each, at_mapped, is_failed_read-mapped}
+use Rattle.tt_stop.specs.Stops.{OnFault, Fails, is_failed_read}
 use Rattle.tt_stop.specs.declared.stop.Stop.{Stop}
 use Rattle.tt_stop.specs.declared.stop.Stop.TheVariants.{Fault, ReadFailed, OutOfMemory}
 use Rattle.tt_instance.specs.Problem.{Problem}
 use Rattle.tt_instance.specs.Spelling.{Spells}
-use Rattle.tt_instance_read.specs.Reading.{instance_of, Fails as FailsInstance}
+use Rattle.tt_instance_read.specs.Reading.{instance_of}
 use Rattle.tt_table.specs.Reading.{solution_of, Fails as FailsSolutionText}
 use Rattle.tt_instance.specs.declared.cell.Cell.{Cell}
 use Rattle.tt_instance_read.specs.declared.fault.InstanceFault.{InstanceFault}
-use Rattle.tt_instance_read.specs.declared.fault.InstanceFault.TheVariants as instance
 use Rattle.tt_table.specs.Spelling.{SpellsBoth, SpellsTable}
 use Rattle.tt_table.specs.declared.fault.SolutionFault.{SolutionFault}
 use Rattle.tt_table.specs.declared.fault.SolutionFault.TheVariants as solution
@@ -76,9 +75,9 @@ only_bound OutOfMemory b h = tt
 
 -- ---- before the score is known: the instance or the solution was refused
 
-pub instance_told : (i s : List ℕ) (f : InstanceFault) (x : Stop CertifyFault) → x ≡ stop_from_instance f → FailsInstance f (instance_of i)
-    → OnFault x (FailsFiles i s)
-instance_told i s f x e h = subst (λ (y : Stop CertifyFault). OnFault y (FailsFiles i s)) (sym e) (tells_instance i s f h)
+pub instance_told : (i s : List ℕ) (stop : Stop InstanceFault) (x : Stop CertifyFault) → x ≡ stop_from_instance stop
+    → Fails stop (instance_of i) → OnFault x (FailsFiles i s)
+instance_told i s stop x e h = subst (λ (y : Stop CertifyFault). OnFault y (FailsFiles i s)) (sym e) (tells_instance i s stop h)
 
 pub solution_told : (i s : List ℕ) (p : Problem) (f : SolutionFault) (x : Stop CertifyFault) → x ≡ stop_from_solution f → Spells i p
     → FailsSolutionText f (solution_of p s) → OnFault x (FailsFiles i s)
@@ -102,10 +101,11 @@ files_exactly i s bytes c b ReadFailed h = tt
 files_exactly i s bytes c b OutOfMemory h = tt
 
 -- files of a timetable that breaks a hard rule are refused only if memory runs out
-pub instance_broken : (i s : List ℕ) (f : InstanceFault) (x : Stop CertifyFault) → x ≡ stop_from_instance f
-    → FailsInstance f (instance_of i) → BreaksARule i s → x ≡ OutOfMemory
-instance_broken i s instance.OutOfMemory x e h k = e
-instance_broken i s f x e h k = absurd (files_faultless i s k.problem k.table (fault.Instance f) k.both h)
+pub instance_broken : (i s : List ℕ) (stop : Stop InstanceFault) (x : Stop CertifyFault) → x ≡ stop_from_instance stop
+    → Fails stop (instance_of i) → is_failed_read stop ≡ false → BreaksARule i s → x ≡ OutOfMemory
+instance_broken i s (Fault f) x e h unread k = absurd (files_faultless i s k.problem k.table (fault.Instance f) k.both h)
+instance_broken i s ReadFailed x e h unread k = absurd cc
+instance_broken i s OutOfMemory x e h unread k = e
 
 pub solution_broken : (i s : List ℕ) (p : Problem) (f : SolutionFault) (x : Stop CertifyFault) → x ≡ stop_from_solution f → Spells i p
     → FailsSolutionText f (solution_of p s) → BreaksARule i s → x ≡ OutOfMemory
@@ -114,31 +114,24 @@ solution_broken i s p f x e spelled h k =
     absurd (files_faultless i s k.problem k.table (fault.Solution f) k.both (record { problem = p; spelled = spelled; fails = h }))
 
 -- their faults hold none of memory
-lower_instance : (f : InstanceFault) → OnFault (stop_from_instance f) HoldsNoStop
-lower_instance instance.OutOfMemory = tt
-lower_instance f = refl
-
 lower_solution : (f : SolutionFault) → OnFault (stop_from_solution f) HoldsNoStop
 lower_solution solution.OutOfMemory = tt
 lower_solution f = refl
 
-pub instance_lower : (f : InstanceFault) (x : Stop CertifyFault) → x ≡ stop_from_instance f → OnFault x HoldsNoStop
-instance_lower f x e = subst (λ (y : Stop CertifyFault). OnFault y HoldsNoStop) (sym e) (lower_instance f)
+pub instance_lower : (stop : Stop InstanceFault) (x : Stop CertifyFault) → x ≡ stop_from_instance stop → OnFault x HoldsNoStop
+instance_lower stop x e = at_mapped fault.Instance stop x e HoldsNoStop (OnFault-each stop _ (λ f. tt))
 
 pub solution_lower : (f : SolutionFault) (x : Stop CertifyFault) → x ≡ stop_from_solution f → OnFault x HoldsNoStop
 solution_lower f x e = subst (λ (y : Stop CertifyFault). OnFault y HoldsNoStop) (sym e) (lower_solution f)
 
 -- no read is reported
-reads_instance : (f : InstanceFault) → is_failed_read (stop_from_instance f) ≡ false
-reads_instance instance.OutOfMemory = refl
-reads_instance f = refl
-
 reads_solution : (f : SolutionFault) → is_failed_read (stop_from_solution f) ≡ false
 reads_solution solution.OutOfMemory = refl
 reads_solution f = refl
 
-pub instance_reads : (f : InstanceFault) (x : Stop CertifyFault) → x ≡ stop_from_instance f → is_failed_read x ≡ false
-instance_reads f x e = ap (λ (y : Stop CertifyFault). is_failed_read y) e ∙ reads_instance f
+pub instance_reads : (stop : Stop InstanceFault) (x : Stop CertifyFault) → x ≡ stop_from_instance stop → is_failed_read stop ≡ false
+    → is_failed_read x ≡ false
+instance_reads stop x e unread = ap (λ (y : Stop CertifyFault). is_failed_read y) e ∙ is_failed_read-mapped fault.Instance stop ∙ unread
 
 pub solution_reads : (f : SolutionFault) (x : Stop CertifyFault) → x ≡ stop_from_solution f → is_failed_read x ≡ false
 solution_reads f x e = ap (λ (y : Stop CertifyFault). is_failed_read y) e ∙ reads_solution f

@@ -1,18 +1,19 @@
 -- The bytes of an instance and of a solution, and the results of reading them.
 use Rattle.std.proofs.Common.{◌≡◌, ℕ, List, Err, subst}
 use Rattle.tt_instance.specs.Problem.{Problem}
-use Rattle.tt_instance_read.specs.Reading.{instance_of, Fails}
+use Rattle.tt_instance_read.specs.Reading.{instance_of}
 use Rattle.tt_instance.specs.Spelling.{Spells}
 use Rattle.tt_instance.specs.declared.cell.Cell.{Cell}
 use Rattle.tt_instance_read.specs.declared.fault.InstanceFault.{InstanceFault}
-use Rattle.tt_instance_read.specs.declared.fault.InstanceFault.TheVariants as instance
 use Rattle.tt_instance_read.proofs.Laws.{is_read, spelled_instance, spelled_once}
 use Rattle.tt_table.specs.Reading.{solution_of, Fails as FailsTable}
 use Rattle.tt_table.specs.Spelling.{SpellsBoth, SpellsTable}
 use Rattle.tt_table.specs.declared.fault.SolutionFault.{SolutionFault}
 use Rattle.tt_table.specs.declared.fault.SolutionFault.TheVariants as solution
 use Rattle.tt_table.proofs.EntryLaws.{solution_read}
-use Rattle.tt_stop.specs.Stops.{OnFault}
+use Rattle.tt_stop.specs.Stops.{OnFault, Fails}
+use Rattle.tt_stop.specs.declared.stop.Stop.{Stop}
+use Rattle.tt_stop.proofs.Stops.{OnFault-mapped}
 use Rattle.tt_proof_check.specs.Verdicts.{stop_from_instance, stop_from_solution, FailsSolution}
 use Rattle.tt_proof_check.specs.declared.fault.CertifyFault.{CertifyFault}
 use Rattle.tt_proof_check.specs.declared.fault.CertifyFault.TheVariants as fault
@@ -32,9 +33,9 @@ FailsFiles i s (fault.Solution f) = FailsSolution i s f
 FailsFiles i s (fault.Proof f) = ⊥
 
 -- a fault of the instance is reported
-pub tells_instance : (i s : List ℕ) (f : InstanceFault) → Fails f (instance_of i) → OnFault (stop_from_instance f) (FailsFiles i s)
-tells_instance i s instance.OutOfMemory h = tt
-tells_instance i s f h = h
+pub tells_instance : (i s : List ℕ) (stop : Stop InstanceFault) → Fails stop (instance_of i)
+    → OnFault (stop_from_instance stop) (FailsFiles i s)
+tells_instance i s stop h = OnFault-mapped fault.Instance stop (FailsFiles i s) h
 
 -- a fault of the solution is reported
 pub tells_solution : (i s : List ℕ) (p : Problem) (f : SolutionFault) → Spells i p → FailsTable f (solution_of p s)

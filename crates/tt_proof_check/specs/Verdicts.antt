@@ -8,7 +8,6 @@ use Rattle.tt_instance_read.specs.Reading.{instance_of}
 use Rattle.tt_instance.specs.Spelling.{Spells}
 use Rattle.tt_instance.specs.declared.cell.Cell.{Cell}
 use Rattle.tt_instance_read.specs.declared.fault.InstanceFault.{InstanceFault}
-use Rattle.tt_instance_read.specs.declared.fault.InstanceFault.TheVariants as instance
 use Rattle.tt_table.specs.Reading.{solution_of}
 use Rattle.tt_table.specs.declared.fault.SolutionFault.{SolutionFault}
 use Rattle.tt_table.specs.declared.fault.SolutionFault.TheVariants as solution
@@ -79,10 +78,9 @@ AnswersBroken (Err s) = s ≡ OutOfMemory
 
 -- -- what becomes of the faults below
 
--- Why there is no verdict after a fault of the reader of instances.
-abbrev pub stop_from_instance : InstanceFault → Stop CertifyFault
-stop_from_instance instance.OutOfMemory = OutOfMemory
-stop_from_instance f = Fault (fault.Instance f)
+-- Why there is no verdict after the reader of instances was stopped.
+abbrev pub stop_from_instance : Stop InstanceFault → Stop CertifyFault
+stop_from_instance stop = mapped fault.Instance stop
 
 -- Why there is no verdict after a fault of the reader of solutions.
 abbrev pub stop_from_solution : SolutionFault → Stop CertifyFault
@@ -95,6 +93,6 @@ stop_from_check stop = mapped fault.Proof stop
 
 -- The fault holds no fault of memory or of a failed read: these would have stopped the call.
 abbrev pub HoldsNoStop : CertifyFault → Type 0
-HoldsNoStop (fault.Instance f) = stop_from_instance f ≡ Fault (fault.Instance f)
+HoldsNoStop (fault.Instance f) = ⊤
 HoldsNoStop (fault.Solution f) = stop_from_solution f ≡ Fault (fault.Solution f)
 HoldsNoStop (fault.Proof f) = checks.HoldsNoStop f

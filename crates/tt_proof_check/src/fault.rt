@@ -71,13 +71,14 @@ pub enum CertifyFault {
     Proof(CheckFault),
 }
 
-/// Returns why there is no verdict after a fault of the reader of instances.
-pub fn stop_from_instance(fault: InstanceFault) -> Stop<CertifyFault>
-    ensures { result ≡ stop_from_instance fault }
+/// Returns why there is no verdict after the reader of instances was stopped.
+pub fn stop_from_instance(stop: Stop<InstanceFault>) -> Stop<CertifyFault>
+    ensures { result ≡ stop_from_instance stop }
 {
-    match fault {
-        InstanceFault::OutOfMemory => Stop::OutOfMemory,
-        fault => Stop::Fault(CertifyFault::Instance(fault)),
+    match stop {
+        Stop::Fault(fault) => Stop::Fault(CertifyFault::Instance(fault)),
+        Stop::ReadFailed => Stop::ReadFailed,
+        Stop::OutOfMemory => Stop::OutOfMemory,
     }
 }
 

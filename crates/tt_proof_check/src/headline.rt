@@ -82,7 +82,7 @@ pub fn certify<R: Source>(
 {
     let instance = match read_instance(alloc, instance) {
         Ok(instance) => instance,
-        Err(fault) => return Err(stop_from_instance(fault)),
+        Err(stop) => return Err(stop_from_instance(stop)),
     };
     let table = match read_solution(alloc, &instance, solution) {
         Ok(table) => table,

@@ -19,7 +19,7 @@ OnFault-each (Fault f) P h = h f
 OnFault-each ReadFailed P h = tt
 OnFault-each OutOfMemory P h = tt
 
--- what was read has the same fault, seen from another reading that has each fault of the first
+-- a reading that has each fault of another one has this fault, if the other has it
 pub fails_also : {X Y F : Type 0} (s : Stop F) (r : Result X F) (q : Result Y F) → ((f : F) → r ≡ Err f → q ≡ Err f) → Fails s r → Fails s q
 fails_also s r q also h = OnFault-weaker s (λ f. r ≡ Err f) (λ f. q ≡ Err f) also h
 

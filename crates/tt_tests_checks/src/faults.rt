@@ -28,7 +28,6 @@ fn of_instances(rt: HostRuntime) -> Result<(), Fail> {
         (InstanceFault::Repeated(3), "Repeated at byte 3"),
         (InstanceFault::UnknownCourse(4), "UnknownCourse at byte 4"),
         (InstanceFault::OutOfRange(5), "OutOfRange at byte 5"),
-        (InstanceFault::OutOfMemory, "out of memory"),
     ] {
         assert_eq!(rt; fault.to_string(rt.alloc())?.as_str(), text);
     }
@@ -239,7 +238,7 @@ fn of_sums(rt: HostRuntime) -> Result<(), Fail> {
 #[test]
 fn out_of_memory_is_one_fault(rt: HostRuntime) {
     for fault in [
-        AppFault::from(InstanceFault::OutOfMemory),
+        AppFault::from(Stop::<InstanceFault>::OutOfMemory),
         AppFault::from(SolutionFault::OutOfMemory),
         AppFault::from(Stop::<CheckFault>::OutOfMemory),
         AppFault::from(AllocError),

@@ -5,6 +5,7 @@ use std::test::Fail;
 use tt_instance::Instance;
 use tt_instance_read::{InstanceFault, read_instance};
 use tt_instance_write::write_instance;
+use tt_stop::Stop;
 use tt_testing_samples::{GAP, MINI, TOUR, TRIO, WIDE, edited};
 use tt_text::{Pieces, Source, WholeFault, read_whole};
 
@@ -122,7 +123,7 @@ fn instances_that_end_between_tokens(rt: HostRuntime) {
         if end < 187 && byte.is_ascii_whitespace() {
             let (front, _) = text.split_at(end);
             let fault = read_instance(rt.alloc(), front).err();
-            assert_eq!(rt; fault, Some(InstanceFault::Ended(end)));
+            assert_eq!(rt; fault, Some(Stop::Fault(InstanceFault::Ended(end))));
         }
     }
 }

@@ -29,7 +29,10 @@ pub fn changes(
     ensures only { (p : Problem) (t u : List Cell) → SpellsBoth instance.now solution.now p t → SpellsBoth instance.now older.now p u →
         MatchResult result (λ _. ⊤) (λ f. f ≡ fault.OutOfMemory) }
 {
-    let instance = read_instance(alloc, instance)?;
+    let instance = match read_instance(alloc, instance) {
+        Ok(instance) => instance,
+        Err(stop) => return Err(ChangesFault::of_instance(stop)),
+    };
     let table = read_solution(alloc, &instance, solution)?;
     let before = match read_solution(alloc, &instance, older) {
         Ok(before) => before,

@@ -60,7 +60,10 @@ pub fn validate_json(
     // A refusal reports the first error: the instance's, then the solution's, then that of the wishes.
     ensures fault { IfErr result (IsCountsRefusal instance.now solution.now (option_map (λ w. w.now) wishes.entry)) }
 {
-    let instance = read_instance(alloc, instance)?;
+    let instance = match read_instance(alloc, instance) {
+        Ok(instance) => instance,
+        Err(stop) => return Err(ValidateFault::of_instance(stop)),
+    };
     let table = read_solution(alloc, &instance, solution)?;
     let broken = broken_of(alloc, &instance, &table, wishes)?;
     let score = score(&instance, &table);

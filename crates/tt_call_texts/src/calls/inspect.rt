@@ -1,7 +1,6 @@
 //! The call `inspect`.
 
 ghost use Rattle.std.specs.Prelude.{◌≡◌, List, IfOk, IfErr, MatchOption, None, Some, false};
-ghost use Rattle.tt_instance_read.specs.Reading as instance;
 ghost use Rattle.tt_table.specs.Reading as solution;
 ghost use Rattle.tt_call_texts.specs.Inspected.{IsRefusalText, IsFindings, IsInspected};
 ghost use Rattle.tt_call_answers.specs.declared.fault.AppFault.TheVariants as fault;
@@ -12,6 +11,7 @@ use tt_inspect::{Inspected, inspect_instance, inspect_solution};
 use tt_inspect_faults::{explain_instance, explain_solution};
 use tt_instance_read::{InstanceFault, read_instance};
 use tt_rules::score;
+use tt_stop::Stop;
 use tt_table::{SolutionFault, read_solution};
 
 /// Returns the answer for a file that is refused.
@@ -42,12 +42,8 @@ fn findings(inspected: Inspected) -> Answer
 /// Returns the reason why bytes are no instance.
 fn refused_instance(alloc: Global, bytes: &[u8], why: InstanceFault) -> Result<Answer, AppFault>
     ensures text { IfOk result IsRefusalText }
-    ensures first { IfOk result (λ _. instance.is_environmental why ≡ false) }
     ensures memory { IfErr result (λ f. f ≡ fault.OutOfMemory) }
 {
-    if matches!(why, InstanceFault::OutOfMemory) {
-        return Err(AppFault::OutOfMemory);
-    }
     Ok(refusal(explain_instance(alloc, bytes, why)?))
 }
 
@@ -70,7 +66,9 @@ fn inspect_alone(alloc: Global, instance: &[u8]) -> Result<Answer, AppFault>
 {
     let read = match read_instance(alloc, instance) {
         Ok(read) => read,
-        Err(fault) => return refused_instance(alloc, instance, fault),
+        Err(Stop::Fault(why)) => return refused_instance(alloc, instance, why),
+        Err(Stop::ReadFailed) => unreachable!(),
+        Err(Stop::OutOfMemory) => return Err(AppFault::OutOfMemory),
     };
     Ok(findings(inspect_instance(alloc, &read)?))
 }
@@ -82,7 +80,9 @@ fn inspect_both(alloc: Global, instance: &[u8], solution: &[u8]) -> Result<Answe
 {
     let read = match read_instance(alloc, instance) {
         Ok(read) => read,
-        Err(fault) => return refused_instance(alloc, instance, fault),
+        Err(Stop::Fault(why)) => return refused_instance(alloc, instance, why),
+        Err(Stop::ReadFailed) => unreachable!(),
+        Err(Stop::OutOfMemory) => return Err(AppFault::OutOfMemory),
     };
     let table = match read_solution(alloc, &read, solution) {
         Ok(table) => table,

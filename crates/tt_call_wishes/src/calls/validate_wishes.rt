@@ -52,7 +52,10 @@ pub fn validate_wishes(
     ensures only { (p : Problem) (t : List Cell) (ws : List Wish) → SpellsBoth instance.now solution.now p t → SpellsWishes p wishes.now ws →
         MatchResult result (λ _. ⊤) (λ f. f ≡ fault.OutOfMemory) }
 {
-    let instance = read_instance(alloc, instance)?;
+    let instance = match read_instance(alloc, instance) {
+        Ok(instance) => instance,
+        Err(stop) => return Err(ValidateFault::of_instance(stop)),
+    };
     let table = read_solution(alloc, &instance, solution)?;
     let wishes = read_wishes(alloc, &instance, wishes)?;
     let score = score(&instance, &table);

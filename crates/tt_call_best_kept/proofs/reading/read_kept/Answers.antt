@@ -4,13 +4,14 @@ use Rattle.tt_instance.specs.Problem.{Problem}
 use Rattle.tt_instance_read.proofs.Laws.{spelled_once}
 use Rattle.tt_wishes.specs.declared.wish.Wish.{Wish}
 use Rattle.tt_wishes_narrow.specs.Narrowed.{narrowed}
-use Rattle.tt_call_best_kept.proofs.Refused.{tells_instance, tells_wishes}
+use Rattle.tt_call_kept.proofs.Refused.{tells_instance}
+use Rattle.tt_call_best_kept.proofs.Refused.{tells_wishes}
 use Rattle.tt_call_best_kept.proofs.reading.read_kept.Goals as goal
 
 pub returns-in_err-instance-clause-fault : goal.returns-in_err-instance-clause-fault
 returns-in_err-instance-clause-fault c =
     let e = err_from_is_err_and c.from_residual.result c.from_residual.ensures.1 in
-    rw (e.1, e.2) (tells_instance c.args.files c.in_err-instance.field-0.0 c.in_err-instance.ensures.exact)
+    rw (e.1, e.2) (tells_instance c.args.files c.in_err-instance.field-0.0 c.in_err-instance.ensures.exact c.in_err-instance.ensures.unread)
 
 pub returns-in_err-wishes-clause-fault : goal.returns-in_err-wishes-clause-fault
 returns-in_err-wishes-clause-fault c =
@@ -22,7 +23,7 @@ returns-in_err-wishes-clause-fault c =
 pub returns-in_err-again-clause-fault : goal.returns-in_err-again-clause-fault
 returns-in_err-again-clause-fault c =
     let e = err_from_is_err_and c.from_residual-in_err-again.result c.from_residual-in_err-again.ensures.1 in
-    rw (e.1, e.2) (tells_instance c.args.files c.in_err-again.field-0.0 c.in_err-again.ensures.exact)
+    rw (e.1, e.2) (tells_instance c.args.files c.in_err-again.field-0.0 c.in_err-again.ensures.exact c.in_err-again.ensures.unread)
 
 pub returns-clause-read : goal.returns-clause-read
 returns-clause-read c =

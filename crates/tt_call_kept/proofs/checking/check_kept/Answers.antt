@@ -24,7 +24,7 @@ returns-in_err-instance-clause-yes g c =
     let e = err_from_is_err_and c.from_residual.result c.from_residual.ensures.1 in
     λ p t ws bytes b spelled ok none given h within. rw (e.1, e.2)
     (instance_silent c.args.files c.args.solution.now p t ws spelled (cost p t) b (length ws) c.in_err-instance.field-0.0
-    c.in_err-instance.ensures.exact)
+    c.in_err-instance.ensures.exact c.in_err-instance.ensures.unread)
 
 pub returns-in_err-wishes-clause-yes : goal.returns-in_err-wishes-clause-yes
 returns-in_err-wishes-clause-yes g c =

@@ -8,13 +8,14 @@ use Rattle.tt_call_kept.proofs.files.read_narrowed.Goals as goal
 pub returns-in_err-instance-clause-fault : goal.returns-in_err-instance-clause-fault
 returns-in_err-instance-clause-fault c =
     let e = err_from_is_err_and c.from_residual.result c.from_residual.ensures.1 in
-    rw (e.1, e.2) (tells_instance c.args.files c.in_err-instance.field-0.0 c.in_err-instance.ensures.exact)
+    rw (e.1, e.2) (tells_instance c.args.files c.in_err-instance.field-0.0 c.in_err-instance.ensures.exact c.in_err-instance.ensures.unread)
 
 pub returns-in_err-instance-clause-only : goal.returns-in_err-instance-clause-only
 returns-in_err-instance-clause-only c =
     let e = err_from_is_err_and c.from_residual.result c.from_residual.ensures.1 in
     λ p ws spelled. rw (e.1, e.2)
-    (only_memory c.args.files p ws _ spelled (tells_instance c.args.files c.in_err-instance.field-0.0 c.in_err-instance.ensures.exact))
+    (only_memory c.args.files p ws _ spelled (tells_instance c.args.files c.in_err-instance.field-0.0
+    c.in_err-instance.ensures.exact c.in_err-instance.ensures.unread))
 
 pub returns-in_err-wishes-clause-fault : goal.returns-in_err-wishes-clause-fault
 returns-in_err-wishes-clause-fault c =

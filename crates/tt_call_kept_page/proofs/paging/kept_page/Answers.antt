@@ -23,7 +23,7 @@ returns-in_err-instance-clause-fault g c =
     let e = err_from_is_err_and c.from_residual.result c.from_residual.ensures.1 in
     rw (e.1, e.2)
     (tells_instance c.args.texts (Give g.R.Source.remaining c.args.proofs.now) _ _ c.in_err-instance.field-0.0
-    c.in_err-instance.ensures.exact)
+    c.in_err-instance.ensures.exact c.in_err-instance.ensures.unread)
 
 pub returns-in_err-table-clause-fault : goal.returns-in_err-table-clause-fault
 returns-in_err-table-clause-fault g c =
@@ -51,7 +51,8 @@ pub returns-in_err-again-clause-fault : goal.returns-in_err-again-clause-fault
 returns-in_err-again-clause-fault g c =
     let e = err_from_is_err_and c.from_residual-in_err-again.result c.from_residual-in_err-again.ensures.1 in
     rw (e.1, e.2)
-    (tells_instance c.args.texts (Give g.R.Source.remaining c.args.proofs.now) _ _ c.in_err-again.field-0.0 c.in_err-again.ensures.exact)
+    (tells_instance c.args.texts (Give g.R.Source.remaining c.args.proofs.now) _ _ c.in_err-again.field-0.0
+    c.in_err-again.ensures.exact c.in_err-again.ensures.unread)
 
 pub returns-in_err-bound-clause-fault : goal.returns-in_err-bound-clause-fault
 returns-in_err-bound-clause-fault g c =

@@ -9,26 +9,26 @@ use Rattle.tt_proof_check.proofs.headline.certify.Goals as goal
 pub returns-in-Err-clause-exactly : goal.returns-in-Err-clause-exactly
 returns-in-Err-clause-exactly g c =
     λ n b bytes known. files_exactly c.args.instance.now c.args.solution.now bytes n b c.stop_from_instance.result
-    (instance_told c.args.instance.now c.args.solution.now c.in-Err.fault c.stop_from_instance.result
+    (instance_told c.args.instance.now c.args.solution.now c.in-Err.stop c.stop_from_instance.result
     c.stop_from_instance.ensures c.in-Err.ensures.exact)
 
 pub returns-in-Err-clause-broken : goal.returns-in-Err-clause-broken
 returns-in-Err-clause-broken g c =
     λ k. (
-      instance_broken c.args.instance.now c.args.solution.now c.in-Err.fault c.stop_from_instance.result
-          c.stop_from_instance.ensures c.in-Err.ensures.exact k,
+      instance_broken c.args.instance.now c.args.solution.now c.in-Err.stop c.stop_from_instance.result
+          c.stop_from_instance.ensures c.in-Err.ensures.exact c.in-Err.ensures.unread k,
       refl,
     )
 
 pub returns-in-Err-clause-fault : goal.returns-in-Err-clause-fault
 returns-in-Err-clause-fault g c =
     files_first c.args.instance.now c.args.solution.now _ c.stop_from_instance.result
-    (instance_told c.args.instance.now c.args.solution.now c.in-Err.fault c.stop_from_instance.result
+    (instance_told c.args.instance.now c.args.solution.now c.in-Err.stop c.stop_from_instance.result
     c.stop_from_instance.ensures c.in-Err.ensures.exact)
 
 pub returns-in-Err-clause-lower : goal.returns-in-Err-clause-lower
 returns-in-Err-clause-lower g c =
-    instance_lower c.in-Err.fault c.stop_from_instance.result c.stop_from_instance.ensures
+    instance_lower c.in-Err.stop c.stop_from_instance.result c.stop_from_instance.ensures
 
 pub returns-in-Err-clause-unread : goal.returns-in-Err-clause-unread
 returns-in-Err-clause-unread g c =
@@ -36,12 +36,13 @@ returns-in-Err-clause-unread g c =
 
 pub returns-in-Err-clause-failed : goal.returns-in-Err-clause-failed
 returns-in-Err-clause-failed g c =
-    unread c.stop_from_instance.result _ (instance_reads c.in-Err.fault c.stop_from_instance.result c.stop_from_instance.ensures)
+    unread c.stop_from_instance.result _ (instance_reads c.in-Err.stop c.stop_from_instance.result c.stop_from_instance.ensures
+    c.in-Err.ensures.unread)
 
 pub returns-in-Err-clause-up_to_failed_read : goal.returns-in-Err-clause-up_to_failed_read
 returns-in-Err-clause-up_to_failed_read g c =
-    λ reported. absurd (not_read c.stop_from_instance.result (instance_reads c.in-Err.fault c.stop_from_instance.result
-    c.stop_from_instance.ensures) (cc))
+    λ reported. absurd (not_read c.stop_from_instance.result (instance_reads c.in-Err.stop c.stop_from_instance.result
+    c.stop_from_instance.ensures c.in-Err.ensures.unread) (cc))
 
 pub returns-in-Err-read_solution-clause-exactly : goal.returns-in-Err-read_solution-clause-exactly
 returns-in-Err-read_solution-clause-exactly g c =
@@ -188,8 +189,8 @@ returns-clause-up_to_failed_read g c =
 
 pub returns-in-Err-clause-read_last : goal.returns-in-Err-clause-read_last
 returns-in-Err-clause-read_last g c =
-    λ reported. absurd (not_read c.stop_from_instance.result (instance_reads c.in-Err.fault c.stop_from_instance.result
-    c.stop_from_instance.ensures) (cc))
+    λ reported. absurd (not_read c.stop_from_instance.result (instance_reads c.in-Err.stop c.stop_from_instance.result
+    c.stop_from_instance.ensures c.in-Err.ensures.unread) (cc))
 
 pub returns-in-Err-read_solution-clause-read_last : goal.returns-in-Err-read_solution-clause-read_last
 returns-in-Err-read_solution-clause-read_last g c =

@@ -1,19 +1,21 @@
-use Rattle.std.proofs.Common.{Err, refl, ap}
+use Rattle.std.proofs.Common.{Err, refl, ap, inl}
 use Rattle.std.proofs.lemmas.Result.{err_from_is_err_and}
 use Rattle.tt_proof_check.proofs.TextFaults.{err_same}
 use Rattle.tt_call_answers.specs.declared.fault.AppFault.TheVariants as fault
 use Rattle.tt_call_answers.specs.Refusals.{is_failed_read}
 use Rattle.tt_call_answers.specs.FaultMaps.{fault_from_instance, fault_from_check}
+use Rattle.tt_call_answers.proofs.Files.{spelled_memory}
 use Rattle.tt_call_answers.proofs.FailedReads.{read_checked, passed, calm, instance_read, check_read}
 use Rattle.tt_call_answers.proofs.ReportedMemory.{lower_instance, lower_check}
-use Rattle.tt_call_checks.proofs.DerivedBounds.{spelled_memory, proof_tells, silent_bound, proved_here, bounded}
+use Rattle.tt_call_checks.proofs.DerivedBounds.{proof_tells, silent_bound, proved_here, bounded}
 use Rattle.tt_call_checks.proofs.calls.bound.bound.Goals as goal
 
 pub returns-in_err-instance-clause-only : goal.returns-in_err-instance-clause-only
 returns-in_err-instance-clause-only g c =
     let e = err_from_is_err_and c.from_residual.result c.from_residual.ensures.1 in
     λ p bytes b spells known h. rw (e.1, e.2)
-    (spelled_memory c.args.instance.now p c.in_err-instance.field-0.0 b spells c.in_err-instance.ensures.exact)
+    (inl (spelled_memory c.args.instance.now p c.in_err-instance.field-0.0 spells c.in_err-instance.ensures.exact
+    c.in_err-instance.ensures.unread))
 
 pub returns-in_err-bound-clause-fault : goal.returns-in_err-bound-clause-fault
 returns-in_err-bound-clause-fault g c =
@@ -60,7 +62,8 @@ returns-in_err-bound-clause-lower g c =
 pub returns-in_err-instance-clause-failed : goal.returns-in_err-instance-clause-failed
 returns-in_err-instance-clause-failed g c =
     let f = c.in_err-instance.field-0.0 in
-    calm c.from_residual.result (fault_from_instance f) is_failed_read _ _ c.from_residual.ensures.1 (instance_read f) refl
+    calm c.from_residual.result (fault_from_instance f) is_failed_read _ _ c.from_residual.ensures.1
+    (instance_read f c.in_err-instance.ensures.unread) refl
 
 pub returns-in_err-bound-clause-failed : goal.returns-in_err-bound-clause-failed
 returns-in_err-bound-clause-failed g c =

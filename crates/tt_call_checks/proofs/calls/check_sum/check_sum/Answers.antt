@@ -20,14 +20,16 @@ returns-in_err-instance-clause-yes g c =
     let e = err_from_is_err_and c.from_residual.result c.from_residual.ensures.1 in
     λ n b files given h within. rw (e.1, e.2)
     (inl (only_memory c.args.instance.now c.args.solution.now h.solves.problem h.solves.table _ h.solves.both
-    (tells_instance c.args.instance.now c.args.solution.now c.in_err-instance.field-0.0 c.in_err-instance.ensures.exact)))
+    (tells_instance c.args.instance.now c.args.solution.now c.in_err-instance.field-0.0
+    c.in_err-instance.ensures.exact c.in_err-instance.ensures.unread)))
 
 pub returns-in_err-instance-clause-broken : goal.returns-in_err-instance-clause-broken
 returns-in_err-instance-clause-broken g c =
     let e = err_from_is_err_and c.from_residual.result c.from_residual.ensures.1 in
     λ k. (
       rw (e.1, e.2) (only_memory c.args.instance.now c.args.solution.now k.problem k.table _ k.both
-          (tells_instance c.args.instance.now c.args.solution.now c.in_err-instance.field-0.0 c.in_err-instance.ensures.exact)),
+          (tells_instance c.args.instance.now c.args.solution.now c.in_err-instance.field-0.0
+          c.in_err-instance.ensures.exact c.in_err-instance.ensures.unread)),
       refl,
     )
 

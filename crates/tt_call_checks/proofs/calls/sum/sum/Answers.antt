@@ -1,4 +1,4 @@
-use Rattle.std.proofs.Common.{◌+◌, Err, ap, subst}
+use Rattle.std.proofs.Common.{◌+◌, Err, ap, subst, inl}
 use Rattle.std.proofs.lemmas.Result.{err_from_is_err_and}
 use Rattle.tt_proof_check.proofs.TextFaults.{err_same}
 use Rattle.tt_proof_sum.specs.Added.{Give}
@@ -6,9 +6,10 @@ use Rattle.tt_call_checks.specs.Bounded.{IsBoundAnswer}
 use Rattle.tt_call_answers.specs.FaultMaps.{fault_from_instance, fault_from_sum}
 use Rattle.tt_call_answers.specs.declared.fault.AppFault.TheVariants as fault
 use Rattle.tt_call_answers.specs.Refusals.{is_failed_read_at}
+use Rattle.tt_call_answers.proofs.Files.{spelled_memory}
 use Rattle.tt_call_answers.proofs.FailedReads.{passed, calm, unread, instance_read_at, sum_read, read_summed}
 use Rattle.tt_call_answers.proofs.ReportedMemory.{lower_instance, lower_sum}
-use Rattle.tt_call_checks.proofs.Adding.{spelled_memory, sum_tells}
+use Rattle.tt_call_checks.proofs.Adding.{sum_tells}
 use Rattle.tt_call_answers.proofs.Sums.{sum_here, silent_refusal}
 use Rattle.tt_call_checks.proofs.calls.sum.sum.Goals as goal
 
@@ -16,7 +17,8 @@ pub returns-in_err-instance-clause-only : goal.returns-in_err-instance-clause-on
 returns-in_err-instance-clause-only g c =
     let e = err_from_is_err_and c.from_residual.result c.from_residual.ensures.1 in
     λ p files b spells given h within. rw (e.1, e.2)
-    (spelled_memory c.args.instance.now p c.in_err-instance.field-0.0 b spells c.in_err-instance.ensures.exact)
+    (inl (spelled_memory c.args.instance.now p c.in_err-instance.field-0.0 spells c.in_err-instance.ensures.exact
+    c.in_err-instance.ensures.unread))
 
 pub returns-in_err-instance-clause-lower : goal.returns-in_err-instance-clause-lower
 returns-in_err-instance-clause-lower g c =

@@ -8,7 +8,8 @@ returns-in_err-instance-clause-only c =
     let e = err_from_is_err_and c.from_residual.result c.from_residual.ensures.1 in
     λ p t both. rw (e.1, e.2)
     (only_memory c.args.instance.now c.args.solution.now p t _ both
-    (tells_instance c.args.instance.now c.args.solution.now c.in_err-instance.field-0.0 c.in_err-instance.ensures.exact))
+    (tells_instance c.args.instance.now c.args.solution.now c.in_err-instance.field-0.0
+    c.in_err-instance.ensures.exact c.in_err-instance.ensures.unread))
 
 pub returns-in_err-table-clause-fault : goal.returns-in_err-table-clause-fault
 returns-in_err-table-clause-fault c =

@@ -1,10 +1,10 @@
 use Rattle.std.proofs.lemmas.Result.{err_from_is_err_and}
 use Rattle.std.specs.Option.{option_copied}
+use Rattle.tt_call_answers.proofs.Files.{spelled_memory}
 use Rattle.tt_call_searches.proofs.Certified.{begins_well, costs_no_more}
 use Rattle.tt_call_names.proofs.Fitting.{names_memory}
 use Rattle.tt_call_searches.proofs.Given.{tells_first, tells_given, tells_memory, given_memory, given_fits}
 use Rattle.tt_call_searches.proofs.GivenNames.{before_names, names_told}
-use Rattle.tt_call_searches.proofs.Searching.{read_memory}
 use Rattle.tt_call_searches.proofs.calls.best.best.Goals as goal
 
 pub returns-in_err-instance-clause-fault : goal.returns-in_err-instance-clause-fault
@@ -12,13 +12,14 @@ returns-in_err-instance-clause-fault g c =
     let e = err_from_is_err_and c.from_residual.result c.from_residual.ensures.1 in
     rw (e.1, e.2)
     (before_names _ _ c.args.names _
-    (tells_first c.args.instance.now (option_copied c.args.search.start) c.in_err-instance.field-0.0 c.in_err-instance.ensures.exact))
+    (tells_first c.args.instance.now (option_copied c.args.search.start) c.in_err-instance.field-0.0
+    c.in_err-instance.ensures.exact c.in_err-instance.ensures.unread))
 
 pub returns-in_err-instance-clause-only : goal.returns-in_err-instance-clause-only
 returns-in_err-instance-clause-only g c =
     let e = err_from_is_err_and c.from_residual.result c.from_residual.ensures.1 in
-    λ p l spells some named. rw (e.1, e.2) (read_memory c.args.instance.now p c.in_err-instance.field-0.0 spells
-    c.in_err-instance.ensures.exact)
+    λ p l spells some named. rw (e.1, e.2) (spelled_memory c.args.instance.now p c.in_err-instance.field-0.0 spells
+    c.in_err-instance.ensures.exact c.in_err-instance.ensures.unread)
 
 pub returns-in_err-table-clause-fault : goal.returns-in_err-table-clause-fault
 returns-in_err-table-clause-fault g c =

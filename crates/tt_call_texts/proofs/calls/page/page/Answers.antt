@@ -17,7 +17,8 @@ returns-in_err-instance-clause-only g c =
     λ p t l both named there. rw (e.1, e.2)
     (memory_not_put _ _
     (only_memory c.args.instance.now c.args.solution.now p t _ both
-    (tells_instance c.args.instance.now c.args.solution.now c.in_err-instance.field-0.0 c.in_err-instance.ensures.exact)))
+    (tells_instance c.args.instance.now c.args.solution.now c.in_err-instance.field-0.0
+    c.in_err-instance.ensures.exact c.in_err-instance.ensures.unread)))
 
 pub returns-in_err-table-clause-only : goal.returns-in_err-table-clause-only
 returns-in_err-table-clause-only g c =

@@ -27,7 +27,8 @@ returns-in_err-instance-clause-only g c =
       by_bound p b,
       rw (e.1, e.2)
           (inl (inl (only_memory texts.instance.now texts.solution.now p t _ both
-          (tells_instance texts.instance.now texts.solution.now c.in_err-instance.field-0.0 c.in_err-instance.ensures.exact)))),
+          (tells_instance texts.instance.now texts.solution.now c.in_err-instance.field-0.0
+          c.in_err-instance.ensures.exact c.in_err-instance.ensures.unread)))),
     )
 
 pub returns-in_err-instance-clause-lower : goal.returns-in_err-instance-clause-lower
