@@ -1,7 +1,7 @@
 -- The result of `certify`, from the results of its steps.
 use Rattle.std.proofs.Common.{◌≡◌, ℕ, zero, suc, ◌+◌, ◌<◌, ◌≤◌, Bool, true, false, List, Option, Some, None, Result, Ok, Err, IfOk, refl, sym, ap, subst, ◌∙◌, arith}
 use Rattle.std.specs.Prelude.{IfSome, ◌↔◌, IsTrue}
-use Rattle.tt_stop.proofs.Stops.{OnFault-weaker, OnFault-each, at_mapped, is_failed_read-mapped}
+use Rattle.tt_stop.proofs.Stops.{OnFault-weaker, OnFault-each, at_mapped}
 use Rattle.tt_stop.specs.Stops.{OnFault, Fails, is_failed_read}
 use Rattle.tt_stop.specs.declared.stop.Stop.{Stop}
 use Rattle.tt_stop.specs.declared.stop.Stop.TheVariants.{Fault, ReadFailed, OutOfMemory}
@@ -128,10 +128,6 @@ solution_lower f x e = subst (λ (y : Stop CertifyFault). OnFault y HoldsNoStop)
 reads_solution : (f : SolutionFault) → is_failed_read (stop_from_solution f) ≡ false
 reads_solution solution.OutOfMemory = refl
 reads_solution f = refl
-
-pub instance_reads : (stop : Stop InstanceFault) (x : Stop CertifyFault) → x ≡ stop_from_instance stop → is_failed_read stop ≡ false
-    → is_failed_read x ≡ false
-instance_reads stop x e unread = ap (λ (y : Stop CertifyFault). is_failed_read y) e ∙ is_failed_read-mapped fault.Instance stop ∙ unread
 
 pub solution_reads : (f : SolutionFault) (x : Stop CertifyFault) → x ≡ stop_from_solution f → is_failed_read x ≡ false
 solution_reads f x e = ap (λ (y : Stop CertifyFault). is_failed_read y) e ∙ reads_solution f

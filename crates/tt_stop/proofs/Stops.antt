@@ -71,5 +71,8 @@ module _ {F G : Type 0} (wrap : F → G) (s : Stop F) (x : Stop G) (is : x ≡ m
   mapped_reads before after h = h ∙ ap (λ (b : Bool). if b then true else before)
       (sym (is_failed_read-mapped wrap s) ∙ ap (λ (y : Stop G). is_failed_read y) (sym is))
 
+  pub mapped_unread : is_failed_read s ≡ false → is_failed_read x ≡ false
+  mapped_unread unread = ap (λ (y : Stop G). is_failed_read y) is ∙ is_failed_read-mapped wrap s ∙ unread
+
   pub mapped_read : x ≡ ReadFailed → s ≡ ReadFailed
   mapped_read e = read_from_mapped wrap s (sym is ∙ e)

@@ -1,9 +1,9 @@
 use Rattle.std.proofs.Common.{◌≡◌, Err, refl, sym, ap, subst, ◌∙◌}
 use Rattle.tt_stop.specs.declared.stop.Stop.TheVariants.{ReadFailed}
-use Rattle.tt_stop.proofs.Stops.{OnFault-each, unread, not_read, mapped_reads, mapped_read}
+use Rattle.tt_stop.proofs.Stops.{OnFault-each, unread, not_read, mapped_unread, mapped_reads, mapped_read}
 use Rattle.tt_proof_check.specs.Verdicts.{IsYes}
-use Rattle.tt_proof_check.specs.declared.fault.CertifyFault.TheVariants.{Proof}
-use Rattle.tt_proof_check.proofs.Certifying.{points, no_points, instance_told, solution_told, files_first, files_exactly, instance_broken, solution_broken, instance_lower, solution_lower, instance_reads, solution_reads, check_lower, check_file, check_exactly, not_certified, broken_found, is_feasible, not_broken, bound_tells, certified_proof, certified_cost, yes_found, exactly_certified, certified_bounds, ok_bound, solves_here}
+use Rattle.tt_proof_check.specs.declared.fault.CertifyFault.TheVariants.{Instance, Proof}
+use Rattle.tt_proof_check.proofs.Certifying.{points, no_points, instance_told, solution_told, files_first, files_exactly, instance_broken, solution_broken, instance_lower, solution_lower, solution_reads, check_lower, check_file, check_exactly, not_certified, broken_found, is_feasible, not_broken, bound_tells, certified_proof, certified_cost, yes_found, exactly_certified, certified_bounds, ok_bound, solves_here}
 use Rattle.tt_proof_check.proofs.headline.certify.Goals as goal
 
 pub returns-in-Err-clause-exactly : goal.returns-in-Err-clause-exactly
@@ -36,12 +36,12 @@ returns-in-Err-clause-unread g c =
 
 pub returns-in-Err-clause-failed : goal.returns-in-Err-clause-failed
 returns-in-Err-clause-failed g c =
-    unread c.stop_from_instance.result _ (instance_reads c.in-Err.stop c.stop_from_instance.result c.stop_from_instance.ensures
+    unread c.stop_from_instance.result _ (mapped_unread Instance c.in-Err.stop c.stop_from_instance.result c.stop_from_instance.ensures
     c.in-Err.ensures.unread)
 
 pub returns-in-Err-clause-up_to_failed_read : goal.returns-in-Err-clause-up_to_failed_read
 returns-in-Err-clause-up_to_failed_read g c =
-    λ reported. absurd (not_read c.stop_from_instance.result (instance_reads c.in-Err.stop c.stop_from_instance.result
+    λ reported. absurd (not_read c.stop_from_instance.result (mapped_unread Instance c.in-Err.stop c.stop_from_instance.result
     c.stop_from_instance.ensures c.in-Err.ensures.unread) (cc))
 
 pub returns-in-Err-read_solution-clause-exactly : goal.returns-in-Err-read_solution-clause-exactly
@@ -189,7 +189,7 @@ returns-clause-up_to_failed_read g c =
 
 pub returns-in-Err-clause-read_last : goal.returns-in-Err-clause-read_last
 returns-in-Err-clause-read_last g c =
-    λ reported. absurd (not_read c.stop_from_instance.result (instance_reads c.in-Err.stop c.stop_from_instance.result
+    λ reported. absurd (not_read c.stop_from_instance.result (mapped_unread Instance c.in-Err.stop c.stop_from_instance.result
     c.stop_from_instance.ensures c.in-Err.ensures.unread) (cc))
 
 pub returns-in-Err-read_solution-clause-read_last : goal.returns-in-Err-read_solution-clause-read_last
