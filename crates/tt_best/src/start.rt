@@ -1,6 +1,6 @@
 //! The timetable and the bound with which a search begins.
 
-ghost use Rattle.std.specs.Prelude.{IfOk, IfSome, IsTrue, None, ◌≡◌, ◌↔◌};
+ghost use Rattle.std.specs.Prelude.{IfOk, IfSome, IsTrue, None, [], ◌≡◌, ◌↔◌};
 ghost use Rattle.tt_table.specs.Table.{IsTimetable};
 ghost use Rattle.tt_rules.specs.Score.{IsFeasible};
 ghost use Rattle.tt_moves.specs.Changes.{IsBelow};
@@ -110,7 +110,7 @@ fn table_after(
 ) -> Result<Timetable, AllocError>
     requires given { IfSome given (IsTimetable instance.now) }
     requires found { IfSome found (IsFeasible instance.now) }
-    requires begun { branch.BeginsWell instance.now found }
+    requires begun { branch.BeginsWell instance.now [] found }
     ensures table { IfOk result (IsTimetable instance.now) }
     ensures no_worse { IfOk result (IsNoWorseThan instance.now given) }
     ensures begun { given ≡ None → IfOk result (BeginsWell instance.now) }
@@ -161,7 +161,7 @@ fn search_tree<W: Watch>(
         bound,
         proof,
         ..
-    } = solve(alloc, instance, TREE_NODES, seed, watch)?;
+    } = solve(alloc, instance, &[], TREE_NODES, seed, watch)?;
     Ok(Week {
         parts: parts_of_tree(alloc, instance, bound, &proof)?,
         table: table_after(alloc, instance, given, best, seed)?,

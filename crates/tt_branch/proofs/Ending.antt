@@ -5,8 +5,8 @@ use Rattle.std.specs.List.{AllZip, list_any, AllByRecursion}
 use Rattle.std.proofs.lemmas.Bool.{or_parts}
 use Rattle.std.proofs.lemmas.List.{map-append}
 use Rattle.std.proofs.lemmas.List.Elements.{All-from_recursion}
-use Rattle.tt_list_laws.proofs.Sums.{each_weaker, each_both}
-use Rattle.tt_list_laws.proofs.Members.{each_member, at_member}
+use Rattle.tt_list_laws.proofs.Sums.{each_weaker}
+use Rattle.tt_list_laws.proofs.Members.{each_member, each_of_append, at_member}
 use Rattle.tt_list_laws.proofs.Tested.{each_append}
 use Rattle.tt_list_laws.proofs.Given.{given_member}
 use Rattle.tt_list_laws.proofs.Zipped.{zip_each, zip_length}
@@ -20,11 +20,10 @@ use Rattle.tt_leaf_rules.specs.Claims.{total_of}
 use Rattle.tt_leaf.specs.declared.leaf.Bound.{Bound}
 use Rattle.tt_leaf.specs.declared.leaf.Bound.TheVariants.{AtLeast}
 use Rattle.tt_leaf.specs.declared.leaf.Leaf.{Leaf}
-use Rattle.tt_proof_read.specs.Trees.{Tree, Tip, Fork, OnPath, on_paths, preorder, with_fact, IsShallow}
+use Rattle.tt_proof_read.specs.Trees.{Tree, Tip, Fork, OnPath, on_paths, preorder, with_fact}
 use Rattle.tt_proof_read.specs.declared.node.Node.TheVariants as node
 use Rattle.tt_proof_check.specs.Derives.{Derives}
-use Rattle.tt_proof_check.specs.Explains.{IsRightOn, Passes}
-use Rattle.tt_proof_check.proofs.Walking.{passed_tree}
+use Rattle.tt_proof_check.specs.Explains.{IsRightOn}
 use Rattle.tt_leaf_find.specs.Best.{best_claims, best_leaf}
 use Rattle.tt_branch.specs.declared.tree_node.NodeState.{NodeState}
 use Rattle.tt_branch.specs.declared.tree_node.NodeState.TheVariants.{Split, Closed, Opened, Unopened}
@@ -32,7 +31,7 @@ use Rattle.tt_branch.specs.declared.tree_node.TreeNode.{TreeNode}
 use Rattle.tt_branch.specs.declared.links.Link.{Link}
 use Rattle.tt_branch.specs.Inner.Growing.{node_of, IsKnown, IsSameNode, IsGrown, is_open}
 use Rattle.tt_branch.specs.Outcomes.{final_bound}
-use Rattle.tt_branch.specs.Proofs.{SplitsWell, node_worth, worths, IsCheaper, IsGreedy}
+use Rattle.tt_branch.specs.Proofs.{IsShallowOn, SplitsWell, node_worth, worths, IsCheaper, IsGreedy}
 use Rattle.tt_branch.proofs.Searching.{right_for, best_right, no_worth, worth_reaches, splits_well}
 
 -- ---- the shape of a tree
@@ -69,29 +68,56 @@ preorder-on_paths root (Fork g a b) =
     ∙ ap (λ l. l ++ map (λ x. x.node) (on_paths (with_fact root g false) b)) (preorder-on_paths (with_fact root g true) a)
     ∙ ap (λ l. preorder a ++ l) (preorder-on_paths (with_fact root g false) b))
 
+-- no node is too deep, if the root has few enough facts and the tree few enough nodes
+shallow_below : (root : List Fact) (tree : Tree) → 2 * length root + length (on_paths root tree) ≤ 131073
+    → AllByRecursion (λ x. length x.path ≤ 65536) (on_paths root tree)
+shallow_below root tree h = each_weaker (λ x. length x.path ≤ length root + splits tree) (λ x. length x.path ≤ 65536)
+    (λ x k. omega (arith, length-on_paths root tree)) (on_paths root tree) (depth-le root tree)
+
+leaves_shallow : (tree : Tree) (path : List Fact) → AllByRecursion (λ x. length x.path ≤ 65536) (on_paths path tree)
+    → IsShallowOn path tree
+leaves_shallow (Tip leaf) path a = a.0
+leaves_shallow (Fork g x y) path a =
+    let yes = on_paths (with_fact path g true) x in
+    let no = on_paths (with_fact path g false) y in
+    let h = each_of_append (λ (z : OnPath). length z.path ≤ 65536) yes no a.1 in
+    (leaves_shallow x (with_fact path g true) h.0, leaves_shallow y (with_fact path g false) h.1)
+
+derives_on : (p : Problem) (b : Bound) (tree : Tree) (path : List Fact)
+    → AllByRecursion (λ x. IsRightOn p b x.path x.node) (on_paths path tree) → Derives p b path tree
+derives_on p b (Tip leaf) path a = a.0
+derives_on p b (Fork g x y) path a =
+    let yes = on_paths (with_fact path g true) x in
+    let no = on_paths (with_fact path g false) y in
+    let h = each_of_append (λ (z : OnPath). IsRightOn p b z.path z.node) yes no a.1 in
+    (derives_on p b x (with_fact path g true) h.0, derives_on p b y (with_fact path g false) h.1)
+
 -- ---- the end
 
-module _ (p : Problem) (best : Option (List Cell)) (links : List Link) (tree_nodes : List TreeNode)
-    (grown : IsGrown p best links tree_nodes) where
+module _ (p : Problem) (root : List Fact) (best : Option (List Cell)) (links : List Link) (tree_nodes : List TreeNode)
+    (grown : IsGrown p root best links tree_nodes) where
   abbrev xs : List OnPath
-  xs = on_paths [] grown.tree
+  xs = on_paths root grown.tree
 
   pub as_many : length xs ≡ length tree_nodes
-  as_many = zip_length (IsSameNode p best links) xs tree_nodes grown.together
+  as_many = zip_length (IsSameNode p root best links) xs tree_nodes grown.together
 
-  -- no node is too deep, if the tree has at most as many nodes as a search can make
-  pub shallow : length tree_nodes ≤ 131073 → AllByRecursion (λ x. length x.path ≤ 65536) xs
-  shallow h = each_weaker (λ x. length x.path ≤ 0 + splits grown.tree) (λ x. length x.path ≤ 65536)
-      (λ x k. omega (arith, as_many, length-on_paths [] grown.tree)) xs (depth-le [] grown.tree)
+  -- no node is too deep, if root and tree have at most as many facts and nodes as in a search
+  pub shallow : 2 * length root + length tree_nodes ≤ 131073 → AllByRecursion (λ x. length x.path ≤ 65536) xs
+  shallow h = shallow_below root grown.tree (omega (arith, as_many))
+
+  -- the same without the facts of the root
+  pub shallow_alone : length tree_nodes ≤ 131073 → AllByRecursion (λ x. length x.path ≤ 65536) (on_paths [] grown.tree)
+  shallow_alone h = shallow_below [] grown.tree (omega (arith, as_many, length-on_paths root grown.tree, length-on_paths [] grown.tree))
 
   pub well_split : All (SplitsWell p) xs
   well_split = All-from_recursion (SplitsWell p) xs
-      (zip_each (IsSameNode p best links) (SplitsWell p) (splits_well p best links) xs tree_nodes grown.together)
+      (zip_each (IsSameNode p root best links) (SplitsWell p) (splits_well p root best links) xs tree_nodes grown.together)
 
-  proved_by : (b : Bound) → length tree_nodes ≤ 131073 → AllByRecursion (λ x. IsRightOn p b x.path x.node) xs → IsShallow grown.tree
-      × Derives p b [] grown.tree
+  proved_by : (b : Bound) → 2 * length root + length tree_nodes ≤ 131073 → AllByRecursion (λ x. IsRightOn p b x.path x.node) xs
+      → IsShallowOn root grown.tree × Derives p b root grown.tree
   proved_by b h right =
-      passed_tree p [] b grown.tree
+      passed_tree p root b grown.tree
       (All-from_recursion (Passes p b) xs (each_both (λ x. length x.path ≤ 65536) (λ x. IsRightOn p b x.path x.node) xs
       (shallow h) right))
 
@@ -104,7 +130,7 @@ module _ (p : Problem) (best : Option (List Cell)) (links : List Link) (tree_nod
   closed_right x (Opened g) n k e = cc
   closed_right x Unopened n k e = cc
 
-  all_closed : (ys : List OnPath) (es : List TreeNode) → AllZip (IsSameNode p best links) ys es
+  all_closed : (ys : List OnPath) (es : List TreeNode) → AllZip (IsSameNode p root best links) ys es
       → list_any (λ e. is_open e.mark) es ≡ false → AllByRecursion (λ x. IsRightOn p (final_bound p best) x.path x.node) ys
   all_closed [] [] h e = tt
   all_closed [] (m ∷ es) h e = absurd h
@@ -114,8 +140,8 @@ module _ (p : Problem) (best : Option (List Cell)) (links : List Link) (tree_nod
       (closed_right y m.mark h.0.node h.0.known a.0, all_closed ys es h.1 a.1)
 
   -- if no node is open, the tree derives the cost of the best timetable, or that no timetable exists
-  pub finished_proves : length tree_nodes ≤ 131073 → list_any (λ e. is_open e.mark) tree_nodes ≡ false → IsShallow grown.tree
-      × Derives p (final_bound p best) [] grown.tree
+  pub finished_proves : 2 * length root + length tree_nodes ≤ 131073 → list_any (λ e. is_open e.mark) tree_nodes ≡ false
+      → IsShallowOn root grown.tree × Derives p (final_bound p best) root grown.tree
   finished_proves h e = proved_by (final_bound p best) h (all_closed xs tree_nodes grown.together e)
 
   -- ---- some nodes are open
@@ -142,18 +168,19 @@ module _ (p : Problem) (best : Option (List Cell)) (links : List Link) (tree_nod
 
     all_known : AllByRecursion (λ x. IsRightOn p (AtLeast v) x.path x.node) xs
     all_known = each_member (λ x. IsRightOn p (AtLeast v) x.path x.node) xs (λ x i.
-        let w = at_member (λ y. (e : TreeNode) × IsSameNode p best links y e) xs x
-        (zip_each (IsSameNode p best links) (λ y. (e : TreeNode) × IsSameNode p best links y e)
+        let w = at_member (λ y. (e : TreeNode) × IsSameNode p root best links y e) xs x
+        (zip_each (IsSameNode p root best links) (λ y. (e : TreeNode) × IsSameNode p root best links y e)
         (λ y e s. (e, s)) xs tree_nodes grown.together) i in
         known_right x w.0.mark w.1.node w.1.known i)
 
     -- the tree derives the least value of a Cost leaf
-    pub unfinished_proves : length tree_nodes ≤ 131073 → IsShallow grown.tree × Derives p (AtLeast v) [] grown.tree
+    pub unfinished_proves : 2 * length root + length tree_nodes ≤ 131073 → IsShallowOn root grown.tree
+        × Derives p (AtLeast v) root grown.tree
     unfinished_proves h = proved_by (AtLeast v) h all_known
 
   -- -- leaves of a value below the best cost are those of the best claims
 
-  greedy_at : (x : OnPath) (e : TreeNode) → IsSameNode p best links x e → IsGreedy p best x
+  greedy_at : (x : OnPath) (e : TreeNode) → IsSameNode p root best links x e → IsGreedy p best x
   greedy_at x e s n k c = by_mark e.mark s.node s.known
     where
       dear : (o : Option (List Cell)) (leaf : Leaf) → x.node ≡ node.Leaf leaf → IsCheaper p o n
@@ -170,4 +197,4 @@ module _ (p : Problem) (best : Option (List Cell)) (links : List Link) (tree_nod
 
   pub greedy : All (IsGreedy p best) xs
   greedy = All-from_recursion (IsGreedy p best) xs
-      (zip_each (IsSameNode p best links) (IsGreedy p best) greedy_at xs tree_nodes grown.together)
+      (zip_each (IsSameNode p root best links) (IsGreedy p best) greedy_at xs tree_nodes grown.together)

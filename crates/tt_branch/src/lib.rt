@@ -3,6 +3,7 @@
 
 mod best;
 mod copying;
+mod fitting;
 mod improvement;
 mod keeping;
 mod laws;

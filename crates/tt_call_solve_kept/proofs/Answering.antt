@@ -1,5 +1,5 @@
 -- The answer of `solve_kept`, from the results of its steps.
-use Rattle.std.proofs.Common.{◌≡◌, ℕ, Bool, List, Option, Some, None, subst, sym}
+use Rattle.std.proofs.Common.{◌≡◌, ℕ, Bool, List, [], Option, Some, None, subst, sym}
 use Rattle.std.specs.Prelude.{IfSome, IsSomeAnd, MatchOption, Vec}
 use Rattle.tt_instance.specs.Problem.{Problem}
 use Rattle.tt_instance.specs.declared.cell.Cell.{Cell}
@@ -30,10 +30,10 @@ tells_files f limit ended e h = h
 
 -- a search in the instance that the wishes narrow
 pub outcome_there : (p n : Problem) (ws : List Wish) (limit : ℕ) (ended : Type 0) (best : Option (List Cell)) (b : Bound) (nodes : List Node)
-    (finished : Bool) → n ≡ narrowed p ws → IsOutcomeUntil n limit ended best b nodes finished
-    → IsOutcomeUntil (narrowed p ws) limit ended best b nodes finished
+    (finished : Bool) → n ≡ narrowed p ws → IsOutcomeUntil n [] limit ended best b nodes finished
+    → IsOutcomeUntil (narrowed p ws) [] limit ended best b nodes finished
 outcome_there p n ws limit ended best b nodes finished is outcome =
-    subst (λ (q : Problem). IsOutcomeUntil q limit ended best b nodes finished) is outcome
+    subst (λ (q : Problem). IsOutcomeUntil q [] limit ended best b nodes finished) is outcome
 
 -- a proof without a text is too large
 pub over_long : {A : Type 0} (b : Bound) (nodes here : List Node) (text : Option (Vec ℕ A)) → here ≡ nodes → text ≡ None

@@ -214,7 +214,7 @@ fn the_call_upgrade(rt: HostRuntime) -> Result<(), Fail> {
 fn the_call_solve_that_finishes(rt: HostRuntime) -> Result<(), Fail> {
     let instance = read_instance(rt.alloc(), GAP.as_bytes())?;
     println!(rt; "{MARK}")?;
-    let outcome = tt_branch::solve(rt.alloc(), &instance, 100, 1, &mut Unwatched);
+    let outcome = tt_branch::solve(rt.alloc(), &instance, &[], 100, 1, &mut Unwatched);
     println!(rt; "{MARK}")?;
     let outcome = outcome?;
     assert_eq!(rt;
@@ -229,7 +229,7 @@ fn the_call_solve_that_finishes(rt: HostRuntime) -> Result<(), Fail> {
 fn the_call_solve_of_one_node(rt: HostRuntime) -> Result<(), Fail> {
     let instance = read_instance(rt.alloc(), GAP.as_bytes())?;
     println!(rt; "{MARK}")?;
-    let outcome = tt_branch::solve(rt.alloc(), &instance, 1, 1, &mut Unwatched);
+    let outcome = tt_branch::solve(rt.alloc(), &instance, &[], 1, 1, &mut Unwatched);
     println!(rt; "{MARK}")?;
     let outcome = outcome?;
     assert_eq!(rt;

@@ -60,7 +60,7 @@ fn searched(alloc: Global, patience: u64) -> Result<(Asking, Bound, bool), Fail>
         patience,
         taken: Vec::new(alloc),
     };
-    let outcome = solve(alloc, &instance, 100, 1, &mut watch)?;
+    let outcome = solve(alloc, &instance, &[], 100, 1, &mut watch)?;
     Ok((watch, outcome.bound, outcome.finished))
 }
 

@@ -67,7 +67,7 @@ pub fn solve_kept<W: Watch>(
         bound,
         proof,
         finished,
-    } = solve(alloc, wishing.narrow, nodes, seed, watch)?;
+    } = solve(alloc, wishing.narrow, &[], nodes, seed, watch)?;
     let first = found_or_constructed(alloc, wishing, best, seed)?;
     Ok(Solved {
         table: try_repair(alloc, wishing, first, seed, &mut Unwatched)?,

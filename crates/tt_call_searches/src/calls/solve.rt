@@ -196,7 +196,7 @@ pub fn solve<W: Watch>(
         bound,
         proof,
         finished,
-    } = tt_branch::solve(alloc, &instance, nodes, seed, watch)?;
+    } = tt_branch::solve(alloc, &instance, &[], nodes, seed, watch)?;
     let Some(text) = least_text(alloc, bound, &proof)? else {
         return Err(AppFault::ProofTooLarge);
     };
