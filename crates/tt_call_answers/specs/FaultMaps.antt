@@ -18,10 +18,8 @@ use Rattle.tt_page.specs.declared.fault.PageFault.{PageFault}
 use Rattle.tt_page.specs.declared.fault.PageFault.TheVariants as page
 use Rattle.tt_page_text.specs.declared.fault.LabelsFault.{LabelsFault}
 use Rattle.tt_page_text.specs.declared.fault.LabelsFault.TheVariants as labels
-use Rattle.tt_report.specs.declared.fault.ReportFault.{ReportFault}
 use Rattle.tt_proof_sum.specs.Faults as sums
 use Rattle.tt_proof_sum.specs.declared.fault.FileFault.{FileFault}
-use Rattle.tt_report.specs.declared.fault.ReportFault.TheVariants as report
 use Rattle.tt_report_export.specs.declared.term.TermFault.{TermFault}
 use Rattle.tt_report_export.specs.declared.term.TermFault.TheVariants as term
 use Rattle.tt_call_answers.specs.declared.fault.AppFault.{AppFault}
@@ -43,11 +41,6 @@ abbrev pub fault_from_check : Stop CheckFault → AppFault
 fault_from_check (Fault f) = fault.Proof f
 fault_from_check ReadFailed = fault.ReadFailed
 fault_from_check OutOfMemory = fault.OutOfMemory
-
--- The fault of a call for a fault of the writer of reports.
-abbrev pub fault_from_report : ReportFault → AppFault
-fault_from_report report.Write = fault.CannotWrite
-fault_from_report report.OutOfMemory = fault.OutOfMemory
 
 -- The fault of a call for a fault of the writer of pages.
 abbrev pub fault_from_page : PageFault → AppFault

@@ -8,11 +8,11 @@ use tt_page_text::LabelsFault;
 use tt_proof_check::{CertifyFault, CheckFault};
 use tt_proof_sum::{FileFault, SumStop};
 use tt_proof_upgrade::UpgradeFault;
-use tt_report::ReportFault;
 use tt_report_export::TermFault;
 use tt_search_complete::CompleteFault;
 use tt_stop::Stop;
 use tt_table::SolutionFault;
+use tt_text::WriteFailed;
 
 /// The reason why a call was refused.
 #[derive(Clone, Copy, Debug, PartialEq, Eq, Error)]
@@ -153,17 +153,14 @@ impl From<Stop<CheckFault>> for AppFault {
     }
 }
 
-impl From<ReportFault> for AppFault {
+impl From<WriteFailed> for AppFault {
     ghost use Rattle.std.specs.Prelude.{◌≡◌};
-    ghost use Rattle.tt_call_answers.specs.FaultMaps.{fault_from_report};
+    ghost use Rattle.tt_call_answers.specs.declared.fault.AppFault.TheVariants as fault;
 
-    ghost from_gives = { λ f e. e ≡ fault_from_report f };
+    ghost from_gives = { λ _ e. e ≡ fault.CannotWrite };
 
-    fn from(fault: ReportFault) -> AppFault {
-        match fault {
-            ReportFault::Write => AppFault::CannotWrite,
-            ReportFault::OutOfMemory => AppFault::OutOfMemory,
-        }
+    fn from(_e: WriteFailed) -> AppFault {
+        AppFault::CannotWrite
     }
 }
 

@@ -3,13 +3,16 @@
 use clap::error::ErrorKind;
 use std::io::Write;
 use tt_cli_arguments::{Request, parse_arguments};
+use tt_cli_best::answer_best;
 use tt_cli_checks::{
     answer_bound, answer_calendar, answer_changes, answer_check, answer_inspect, answer_page,
     answer_stored, answer_sum, answer_table, answer_upgrade, answer_validate, report_to,
 };
 use tt_cli_files::{Printed, Rescued, StandardStream, Unwritten, Whereabouts, WriteFault};
-use tt_cli_saving::{CommandFault, Reply, World};
-use tt_cli_searches::{answer_best, answer_improve, answer_parts, answer_solve};
+use tt_cli_progress::World;
+use tt_cli_saving::{CommandFault, Reply};
+use tt_cli_searches::{answer_improve, answer_parts};
+use tt_cli_solve::answer_solve;
 
 /// The exit status of a refusal.
 const REFUSED: u8 = 2;

@@ -5,9 +5,9 @@ use std::cell::{Cell, RefCell};
 use std::io::Write;
 use tt_call_kept::{KeptFault, KeptFiles, check_kept, sum_kept};
 use tt_cli_arguments::Showing;
+use tt_cli_progress::{Shown, World, clear, ticker_of};
 use tt_cli_saving::{
-    CommandFault, Input, InputFile, Inputs, LastUnread, Reply, Shown, World, clear, fault_over,
-    proof_files, ticker_of,
+    CommandFault, Input, InputFile, Inputs, LastUnread, Reply, fault_over, proof_files,
 };
 
 /// The paths of the files.

@@ -1,7 +1,8 @@
 //! An instance with a solution.
 
 use tt_cli_arguments::TimetableFiles;
-use tt_cli_saving::{CommandFault, Input, Inputs, World};
+use tt_cli_progress::World;
+use tt_cli_saving::{CommandFault, Input, Inputs};
 
 /// The bytes of an instance and of a solution.
 #[derive(Debug, Drop)]

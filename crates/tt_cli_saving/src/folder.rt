@@ -3,11 +3,11 @@
 use crate::fault::CommandFault;
 use crate::inputs::Inputs;
 use crate::targets::{Found, Prepared, Target};
-use crate::world::World;
 use std::alloc::AllocError;
 use std::fs;
 use std::rt::Files;
 use tt_cli_files::{Batch, Label, Output, OutputFault, Role, make_folder};
+use tt_cli_progress::World;
 
 /// A file of a folder by its name, and what it is for.
 #[derive(Clone, Copy, Debug, PartialEq, Eq)]

@@ -1,13 +1,12 @@
 //! The files that a command reads.
 
 use crate::fault::CommandFault;
-use crate::opened::{Noting, open_input};
-use crate::world::World;
 use std::alloc::{AllocError, Global};
 use std::io;
 use std::io::ErrorKind;
 use thiserror::Error;
 use tt_cli_files::{OutputFault, STANDARD};
+use tt_cli_progress::{Noting, World, open_input};
 use tt_text::{Reading, WholeFault, read_whole};
 
 /// The maximum number of bytes of an instance file and of a solution file.

@@ -3,16 +3,13 @@
 ghost use Rattle.std.specs.Prelude.{◌≡◌, ◌⊎◌, IsTrue, Some};
 ghost use Rattle.tt_cli_saving.specs.Inner.Keeping.{MayReplace};
 
-use crate::limit::TimeLimit;
-use crate::pace::Pace;
 use crate::shelf::Shelf;
 use crate::targets::Prepared;
-use crate::ticker::Ticker;
-use crate::world::World;
 use std::alloc::{AllocError, Global};
 use std::io::Write;
 use std::rt::Files;
 use tt_cli_files::{Batch, Ready};
+use tt_cli_progress::{Pace, Ticker, TimeLimit, World};
 use tt_instance::Instance;
 use tt_table::{Entry, Timetable, write_solution};
 use tt_watch::{Pair, Progress, Watch};

@@ -4,13 +4,12 @@ ghost use Rattle.std.specs.Prelude.{◌≡◌, ◌≤◌, true, length, IfOk};
 
 use crate::fault::CommandFault;
 use crate::front::Front;
-use crate::showing::{OpenProof, Shown, open_counted};
-use crate::world::World;
 use std::alloc::{AllocError, Global};
 use std::cell::Cell;
 use std::io;
 use std::io::{Error, Read, Write};
 use tt_call_answers::AppFault;
+use tt_cli_progress::{OpenProof, Shown, World, open_counted};
 use tt_text::{ReadFailed, Source};
 use tt_text_peek::Peeked;
 

@@ -3,10 +3,10 @@
 use crate::fault::CommandFault;
 use crate::inputs::Inputs;
 use crate::reply::Reply;
-use crate::world::World;
 use std::alloc::AllocError;
 use std::rt::Files;
 use tt_cli_files::{Batch, Label, Output, OutputFault, Ready, Role, StandardStream};
+use tt_cli_progress::World;
 
 /// A file that a command is to write, by its role and its path.
 #[derive(Clone, Copy, Debug)]

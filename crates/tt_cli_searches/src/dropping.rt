@@ -3,7 +3,7 @@
 use std::alloc::Global;
 use std::io::Write;
 use tt_call_answers::AppFault;
-use tt_cli_saving::ShownLines;
+use tt_cli_progress::ShownLines;
 use tt_instance_read::read_instance;
 use tt_table_drop::{drop_misfits, write_left_out};
 

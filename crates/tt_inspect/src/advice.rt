@@ -3,13 +3,11 @@
 ghost use Rattle.std.specs.Prelude.{◌<◌, length};
 
 use crate::alike::put_alike;
-use crate::counts::Counts;
-use crate::impossible::put_impossible;
 use crate::lists::put_concerns;
-use crate::shown::{Counted, Name, Noun};
-use crate::summary::most_seats;
 use std::alloc::AllocError;
 use std::fmt;
+use tt_inspect_reasons::put_impossible;
+use tt_inspect_words::{Counted, Counts, Name, Noun, most_seats};
 use tt_instance::{Instance, MISSING_DAY_COST};
 
 /// The lectures of a course, and the days of the week: the course can have no more days than either.

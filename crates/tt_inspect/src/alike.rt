@@ -3,8 +3,8 @@
 ghost use Rattle.std.specs.Prelude.{◌<◌, length, IfSome};
 ghost use Rattle.tt_instance.specs.Courses.{teachers};
 
-use crate::shown::Name;
 use std::alloc::AllocError;
+use tt_inspect_words::Name;
 use tt_instance::Instance;
 
 /// The maximum number of bytes of a name that is compared.

@@ -1,10 +1,9 @@
 //! Texts about an instance, and about a solution of it.
 
 use crate::advice::put_advice;
-use crate::counts::Counts;
 use crate::scored::put_score;
-use crate::summary::put_summary;
 use std::alloc::{AllocError, Global};
+use tt_inspect_words::{Counts, put_summary};
 use tt_instance::Instance;
 use tt_rules::Score;
 use tt_table::Timetable;

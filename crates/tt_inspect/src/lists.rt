@@ -1,9 +1,8 @@
 //! Names that should be checked, a line for each kind.
 
-use crate::counts::Counts;
-use crate::shown::{Counted, Name, Noun};
 use std::alloc::AllocError;
 use std::fmt;
+use tt_inspect_words::{Counted, Counts, Name, Noun};
 use tt_instance::Instance;
 
 /// The maximum number of names of a line.

@@ -1,8 +1,8 @@
 //! The rules that a solution breaks and its costs, in words.
 
-use crate::shown::{Counted, Name, Noun};
 use std::alloc::AllocError;
 use std::fmt;
+use tt_inspect_words::{Counted, Name, Noun};
 use tt_instance::Instance;
 use tt_rules::Score;
 use tt_table::Timetable;

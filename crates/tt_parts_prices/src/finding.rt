@@ -1,14 +1,13 @@
 //! The search for prices.
 
-use crate::aim::{Aim, SCALE};
-use crate::climb::{Climb, End};
-use crate::fixed::ONE;
 use crate::found::{PricesFound, found_by};
 use crate::growing::grow_groups;
 use crate::racing::{climbs_of, race};
 use std::alloc::{AllocError, Global};
 use tt_instance::Instance;
+use tt_parts_climb::{Climb, End};
 use tt_parts_least::Allowance;
+use tt_parts_payers::{Aim, ONE, SCALE};
 use tt_parts_priced::Terms;
 use tt_parts_rents::rents_of;
 use tt_watch::Watch;

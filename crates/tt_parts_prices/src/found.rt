@@ -3,10 +3,9 @@
 ghost use Rattle.std.specs.Prelude.{All, IfOk, OnOk};
 ghost use Rattle.tt_prices.specs.Limits.{IsPrice};
 
-use crate::aim::{Aim, SCALE, points};
-use crate::climb::Climb;
-use crate::group::Group;
 use std::alloc::{AllocError, Global};
+use tt_parts_climb::Climb;
+use tt_parts_payers::{Aim, Group, SCALE, points};
 use tt_prices::{MAX_PRICE, PriceRow, PricedGroup};
 use tt_prices_read::Rent;
 

@@ -1,14 +1,11 @@
 //! Groups that grow where that gains something at once.
 
-use crate::aim::{Aim, SCALE};
-use crate::candidates::list_candidates;
-use crate::climb::Climb;
-use crate::group::Group;
-use crate::size::Size;
-use crate::trial::{Room, Trial, try_change};
 use std::alloc::AllocError;
 use std::mem;
+use tt_parts_climb::Climb;
 use tt_parts_least::Allowance;
+use tt_parts_payers::{Aim, Group, SCALE};
+use tt_parts_trials::{Room, Size, Trial, list_candidates, try_change};
 use tt_watch::Watch;
 
 /// A gain that counts, as a part of a point.

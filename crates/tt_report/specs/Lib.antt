@@ -1,4 +1,3 @@
-pub mod Faults
 pub mod Inner
 pub mod Names
 pub mod Reports

@@ -2,10 +2,8 @@
 #![tactic(auto)]
 
 mod blocks;
-mod fault;
 mod reports;
 mod showing;
 
-pub use fault::ReportFault;
 pub use reports::report;
 pub use tt_table::Kind as By;

@@ -1,6 +1,6 @@
 //! The text of a report, and writing it to a sink.
 
-ghost use Rattle.std.specs.Prelude.{◌≡◌, ◌<◌, length, flat_map, All, OnOk, Err, true, if◌then◌else◌};
+ghost use Rattle.std.specs.Prelude.{◌≡◌, ◌<◌, length, flat_map, is_ok, All, OnOk, OnErr, true, if◌then◌else◌};
 ghost use Rattle.std.specs.Io.KnownBytes.{Appends};
 ghost use Rattle.tt_list_laws.specs.Words.{range_below};
 ghost use Rattle.tt_text.specs.Lines.{line_text};
@@ -9,20 +9,15 @@ ghost use Rattle.tt_instance.specs.Courses.{teachers};
 ghost use Rattle.tt_table.specs.Table.{IsTimetable};
 ghost use Rattle.tt_table.specs.declared.groups.GroupBy.TheVariants as group;
 ghost use Rattle.tt_report.specs.Inner.Blocks.{IsBlock, entries_text, slot_text, day_text, block_text};
-ghost use Rattle.tt_report.specs.Faults.{is_failed_write};
 ghost use Rattle.tt_report.specs.Reports.{report_text};
-ghost use Rattle.tt_text.specs.Failures.{is_err_and};
 ghost use Rattle.tt_text.specs.Sinks.{TakesPart};
 ghost use Rattle.tt_text_output.specs.Puts.{Puts};
 ghost use Rattle.tt_report.specs.declared.blocks.Block.TheVariants as of;
-ghost use Rattle.tt_report.specs.declared.fault.ReportFault.TheVariants as fault;
 
 use crate::blocks::Block;
-use crate::fault::ReportFault;
-use std::alloc::Global;
 use tt_instance::Instance;
 use tt_table::{Group, Groups, Kind as By, Timetable};
-use tt_text::Sink;
+use tt_text::{Sink, WriteFailed};
 use tt_text_output::Output;
 
 /// Puts the texts of the entries that belong to a block.
@@ -156,22 +151,18 @@ fn put_report<W: Sink>(out: &mut Output<'_, W>, instance: &Instance<'_>, table: 
 
 /// Writes the week of each room, teacher or curriculum through a buffer of a fixed size. Allocates nothing.
 pub fn report<W: Sink>(
-    _alloc: Global,
     instance: &Instance<'_>,
     table: &Timetable,
     by: By,
     sink: &mut W,
-) -> Result<(), ReportFault>
+) -> Result<(), WriteFailed>
     requires { IsTimetable instance.now table.now }
     ensures written { OnOk result (Appends (W.contents sink.old) (W.contents sink.new) (report_text instance.now table.now by)) }
     // After a failed write, a part from the front of the text was taken.
-    ensures part { result ≡ Err fault.Write → TakesPart (W.contents sink.old) (W.contents sink.new) (report_text instance.now table.now by) }
-    ensures failed { W.has_failed sink.new ≡ (if is_err_and result is_failed_write then true else W.has_failed sink.old) }
-    // If memory ran out, nothing was written.
-    ensures unwritten { result ≡ Err fault.OutOfMemory → sink.new ≡ sink.old }
+    ensures part { OnErr result (TakesPart (W.contents sink.old) (W.contents sink.new) (report_text instance.now table.now by)) }
+    ensures failed { W.has_failed sink.new ≡ (if is_ok result then W.has_failed sink.old else true) }
 {
     let mut out = Output::new(sink);
     put_report(&mut out, instance, table, by);
-    out.flush()?;
-    Ok(())
+    out.flush()
 }

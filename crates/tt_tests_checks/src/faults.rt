@@ -11,7 +11,6 @@ use tt_proof_read::{TextFault, Word as ProofWord};
 use tt_proof_sum::{ClaimedTarget, FileFault};
 use tt_proof_upgrade::UpgradeFault;
 use tt_proof_write::WriteFault;
-use tt_report::ReportFault;
 use tt_stop::Stop;
 use tt_table::{PushFault, SolutionFault};
 use tt_text::FeedFault;
@@ -142,11 +141,6 @@ fn text_of<E: Display + Drop>(alloc: Global, fault: E) -> Result<String, Fail> {
 fn of_calls(rt: HostRuntime) -> Result<(), Fail> {
     let ended = TextFault::Ended(7);
     for (text, wanted) in [
-        (text_of(rt.alloc(), ReportFault::Write)?, "cannot write"),
-        (
-            text_of(rt.alloc(), ReportFault::OutOfMemory)?,
-            "out of memory",
-        ),
         (text_of(rt.alloc(), WriteFault::NotATree)?, "NotATree"),
         (text_of(rt.alloc(), WriteFault::OverLimit)?, "OverLimit"),
         (

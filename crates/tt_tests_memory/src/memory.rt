@@ -410,7 +410,6 @@ fn the_call_report(rt: HostRuntime) -> Result<(), Fail> {
     let mut text = Vec::with_capacity(rt.alloc(), 100)?;
     println!(rt; "{MARK}")?;
     let written = tt_report::report(
-        rt.alloc(),
         &instance,
         &table,
         By::Curriculum,

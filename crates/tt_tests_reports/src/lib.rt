@@ -1,4 +1,4 @@
-//! Tests of what the program shows about a timetable: reports, exports, pages and advice, through the commands and the library's calls.
+//! Tests of what the program shows about a timetable: reports, pages and changes, through the commands and the library's calls.
 #![tactic(auto)]
 
 #[cfg(test)]
@@ -7,12 +7,6 @@ mod buffers;
 mod changed_pages;
 #[cfg(test)]
 mod changes;
-#[cfg(test)]
-mod explaining;
-#[cfg(test)]
-mod exports;
-#[cfg(test)]
-mod inspecting;
 #[cfg(test)]
 mod pages;
 #[cfg(test)]

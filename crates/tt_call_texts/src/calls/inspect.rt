@@ -8,9 +8,8 @@ ghost use Rattle.tt_call_answers.specs.declared.fault.AppFault.TheVariants as fa
 
 use std::alloc::Global;
 use tt_call_answers::{Answer, AppFault};
-use tt_inspect::{
-    Inspected, explain_instance, explain_solution, inspect_instance, inspect_solution,
-};
+use tt_inspect::{Inspected, inspect_instance, inspect_solution};
+use tt_inspect_faults::{explain_instance, explain_solution};
 use tt_instance_read::{InstanceFault, read_instance};
 use tt_rules::score;
 use tt_table::{SolutionFault, read_solution};

@@ -38,6 +38,6 @@ pub fn report<W: Sink>(
 {
     let instance = read_instance(alloc, instance)?;
     let table = read_solution(alloc, &instance, solution)?;
-    tt_report::report(alloc, &instance, &table, by, sink)?;
+    tt_report::report(&instance, &table, by, sink)?;
     Ok(0)
 }

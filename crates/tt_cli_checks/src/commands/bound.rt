@@ -5,9 +5,8 @@ use std::cell::RefCell;
 use std::io::Write;
 use tt_call_checks::bound;
 use tt_cli_arguments::BoundRequest;
-use tt_cli_saving::{
-    CommandFault, Input, Inputs, Reply, World, clear, fault_over_proof, open_counted, ticker_of,
-};
+use tt_cli_progress::{World, clear, open_counted, ticker_of};
+use tt_cli_saving::{CommandFault, Input, Inputs, Reply, fault_over_proof};
 use tt_text::Reading;
 
 /// Returns the answer of `bound`.

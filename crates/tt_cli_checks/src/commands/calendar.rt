@@ -3,7 +3,8 @@
 use crate::timetable::read_timetable;
 use tt_call_texts::{WeekTimes, calendar};
 use tt_cli_arguments::{CalendarRequest, CalendarWish};
-use tt_cli_saving::{CommandFault, Reply, World};
+use tt_cli_progress::World;
+use tt_cli_saving::{CommandFault, Reply};
 
 /// Returns a calendar of a solution.
 pub fn answer_calendar<R: World>(

@@ -2,7 +2,8 @@
 
 use tt_call_changes::changes;
 use tt_cli_arguments::ChangesRequest;
-use tt_cli_saving::{CommandFault, Input, Inputs, Reply, ShownLines, World};
+use tt_cli_progress::{ShownLines, World};
+use tt_cli_saving::{CommandFault, Input, Inputs, Reply};
 
 /// Returns what changed from an older solution to a newer one.
 pub fn answer_changes<R: World>(

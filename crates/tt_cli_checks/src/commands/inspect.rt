@@ -3,7 +3,8 @@
 use tt_call_json::inspect_json;
 use tt_call_texts::inspect;
 use tt_cli_arguments::InspectRequest;
-use tt_cli_saving::{CommandFault, Input, Inputs, Reply, World};
+use tt_cli_progress::World;
+use tt_cli_saving::{CommandFault, Input, Inputs, Reply};
 
 /// Returns the answer of `inspect`.
 pub fn answer_inspect<R: World>(

@@ -13,9 +13,10 @@ use tt_call_names::PageNames;
 use tt_call_texts::{PageForm, ProvedTexts, page, proved_page};
 use tt_cli_arguments::{GivenWeeks, PageRequest};
 use tt_cli_files::{Batch, Draft, Label, OutputFault, Place, Ready, Role, StandardStream, finish};
+use tt_cli_progress::{Shown, World, Written, clear, ticker_of};
 use tt_cli_saving::{
-    CommandFault, Input, Inputs, LastUnread, Prepared, Reply, Shown, Target, World, Written, clear,
-    fault_over, proof_files, read_if_given, ticker_of,
+    CommandFault, Input, Inputs, LastUnread, Prepared, Reply, Target, fault_over, proof_files,
+    read_if_given,
 };
 use tt_page::{STYLE, Sheet};
 use tt_text::{Sink, Writing};

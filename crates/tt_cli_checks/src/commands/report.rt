@@ -6,7 +6,8 @@ use tt_call_answers::AppFault;
 use tt_call_texts::report;
 use tt_cli_arguments::ReportRequest;
 use tt_cli_files::WriteFault;
-use tt_cli_saving::{CommandFault, Remembering, World};
+use tt_cli_progress::World;
+use tt_cli_saving::{CommandFault, Remembering};
 use tt_text::Writing;
 
 /// Writes a report to standard output, and returns the status.

@@ -5,10 +5,8 @@ use std::cell::{Cell, RefCell};
 use std::io::Write;
 use tt_call_checks::{check_sum, sum};
 use tt_cli_arguments::SumRequest;
-use tt_cli_saving::{
-    CommandFault, Input, InputFile, Inputs, Reply, Shown, World, clear, fault_over, proof_files,
-    ticker_of,
-};
+use tt_cli_progress::{Shown, World, clear, ticker_of};
+use tt_cli_saving::{CommandFault, Input, InputFile, Inputs, Reply, fault_over, proof_files};
 
 /// Sums the bounds that proofs derive, and shows the progress of reading them.
 fn sum_files<R: World, E: Write>(

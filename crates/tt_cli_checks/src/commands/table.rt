@@ -3,7 +3,8 @@
 use crate::timetable::read_timetable;
 use tt_call_texts::table;
 use tt_cli_arguments::TableRequest;
-use tt_cli_saving::{CommandFault, Reply, World};
+use tt_cli_progress::World;
+use tt_cli_saving::{CommandFault, Reply};
 
 /// Returns the table of a solution.
 pub fn answer_table<R: World>(rt: &R, request: TableRequest<'_>) -> Result<Reply, CommandFault> {

@@ -5,10 +5,8 @@ use std::io::Write;
 use tt_call_checks::upgrade;
 use tt_cli_arguments::UpgradeRequest;
 use tt_cli_files::{Batch, Role};
-use tt_cli_saving::{
-    CommandFault, Input, Inputs, Reply, Target, World, clear, fault_over_proof, open_counted,
-    reply_with, ticker_of,
-};
+use tt_cli_progress::{World, clear, open_counted, ticker_of};
+use tt_cli_saving::{CommandFault, Input, Inputs, Reply, Target, fault_over_proof, reply_with};
 use tt_text::Reading;
 
 /// Returns the answer of `upgrade`, once the proof is in its file.

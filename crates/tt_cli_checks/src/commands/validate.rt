@@ -5,7 +5,8 @@ use tt_call_checks::validate;
 use tt_call_json::validate_json;
 use tt_call_wishes::validate_wishes;
 use tt_cli_arguments::ValidateRequest;
-use tt_cli_saving::{CommandFault, Input, Inputs, Reply, World, show_clash};
+use tt_cli_progress::World;
+use tt_cli_saving::{CommandFault, Input, Inputs, Reply, show_clash};
 
 /// The bytes of the files of `validate`.
 #[derive(Debug, Drop)]

@@ -1,5 +1,0 @@
-use Rattle.std.proofs.Common.{length}
-use Rattle.tt_inspect.proofs.survey.has_word.Given as goal
-
-abbrev pub decreases-loop-token : goal.decreases-loop-token
-decreases-loop-token l = length l.tokens
