@@ -16,7 +16,8 @@ use tt_table::{Entry, Timetable};
 use tt_watch::Unwatched;
 
 /// A course of ten students, and two rooms in two periods, of which the second has five seats too few.
-const ROOMY: &str = "Name: Roomy\nCourses: 1\nRooms: 2\nDays: 1\nPeriods_per_day: 2\nCurricula: 0\nConstraints: 0\n\nCOURSES:\nx t 1 1 10\n\nROOMS:\nA 10\nB 5\n\nCURRICULA:\n\nUNAVAILABILITY_CONSTRAINTS:\n\nEND.\n";
+const ROOMY: &str =
+    "Name: Roomy\nCourses: 1\nRooms: 2\nDays: 1\nPeriods_per_day: 2\nCurricula: 0\nConstraints: 0\n\nCOURSES:\nx t 1 1 10\n\nROOMS:\nA 10\nB 5\n\nCURRICULA:\n\nUNAVAILABILITY_CONSTRAINTS:\n\nEND.\n";
 
 /// Returns the fact that the course has no entry in a room.
 fn closed(room: u32) -> Fact {
@@ -161,7 +162,10 @@ fn a_given_table_that_fits(rt: HostRuntime) -> Result<(), Fail> {
         table: table_in(rt.alloc(), 1)?,
     };
     let (outcome, entries) = searched(rt.alloc(), start)?;
-    assert_eq!(rt; (outcome.bound, outcome.finished), (Bound::AtLeast(5), true));
+    assert_eq!(rt;
+        (outcome.bound, outcome.finished),
+        (Bound::AtLeast(5), true)
+    );
     assert_eq!(rt; entries.as_slice(), [entry_in(1)].as_slice());
     Ok(())
 }

@@ -39,9 +39,9 @@ returns g c =
     (advance_twice p root c.in_ok-search.search.best c.open_at.new.search.best new first second) in
     IfOk-weaker c.conclude.result
     (λ o. (given : Option (List Cell)) → BeginsWell q root given (table_of new)
-        → IsOutcome q root given opened o.best o.bound o.proof.items o.finished)
+    → IsOutcome q root given opened o.best o.bound o.proof.items o.finished)
     (λ o. (given : Option (List Cell)) → BeginsWell p root given (table_of c.args.best)
-        → IsOutcomeUntil p root given c.args.limit (g.W.Watch.has_ended c.grow.new.watch) o.best o.bound o.proof.items o.finished)
+    → IsOutcomeUntil p root given c.args.limit (g.W.Watch.has_ended c.grow.new.watch) o.best o.bound o.proof.items o.finished)
     (λ o is. λ given begun. record {
       opened = opened;
       at_most = e.within;
