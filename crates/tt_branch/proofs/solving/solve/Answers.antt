@@ -42,8 +42,8 @@ returns g c =
     let same = c.in_ok-push_root.ensures.unchanged ∙ c.in_ok-path.ensures.problem in
     IfOk-weaker c.solve_over.result
     (λ o. (t : Option (List Cell)) → BeginsWell p root t (table_of best)
-        → IsOutcomeUntil p root t c.args.nodes ended o.best o.bound o.proof.items o.finished)
+    → IsOutcomeUntil p root t c.args.nodes ended o.best o.bound o.proof.items o.finished)
     (λ o. IsOutcomeUntil p root given c.args.nodes ended o.best o.bound o.proof.items o.finished)
     (λ o is. is given c.in_ok-best.ensures.begun)
     (subst (λ (q : Problem). IfOk c.solve_over.result (λ o. (t : Option (List Cell)) → BeginsWell q root t (table_of best)
-        → IsOutcomeUntil q root t c.args.nodes ended o.best o.bound o.proof.items o.finished)) same c.solve_over.ensures)
+    → IsOutcomeUntil q root t c.args.nodes ended o.best o.bound o.proof.items o.finished)) same c.solve_over.ensures)
