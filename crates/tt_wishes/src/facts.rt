@@ -123,7 +123,8 @@ fn add_if_few(
     if facts.len() >= MAX_ROOT {
         return Ok(());
     }
-    add_facts(facts, instance, wish)
+    add_facts(facts, instance, wish)?;
+    Ok(())
 }
 
 /// Returns the facts that wishes put at the root of a tree: those of all wishes, in their order, or the first 32,768 of these.
