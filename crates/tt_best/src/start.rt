@@ -111,7 +111,7 @@ fn table_after(
 ) -> Result<Timetable, AllocError>
     requires given { IfSome given (IsTimetable instance.now) }
     requires found { IfSome found (IsFeasible instance.now) }
-    requires begun { branch.BeginsWell instance.now [] found }
+    requires begun { branch.BeginsWell instance.now [] None found }
     ensures table { IfOk result (IsTimetable instance.now) }
     ensures no_worse { IfOk result (IsNoWorseThan instance.now given) }
     ensures begun { given ≡ None → IfOk result (BeginsWell instance.now) }
@@ -158,12 +158,16 @@ fn search_tree<W: Watch>(
     ensures no_worse { IfOk result (λ w. IsNoWorseThan instance.now given w.table) }
     ensures begun { given ≡ None → IfOk result (λ w. BeginsWell instance.now w.table) }
 {
+    let tree = tt_branch::Start {
+        root: &[],
+        table: None,
+    };
     let Outcome {
         best,
         bound,
         proof,
         ..
-    } = solve(alloc, instance, &[], TREE_NODES, seed, watch)?;
+    } = solve(alloc, instance, tree, TREE_NODES, seed, watch)?;
     Ok(Week {
         parts: parts_of_tree(alloc, instance, &[], bound, &proof)?,
         table: table_after(alloc, instance, given, best, seed)?,

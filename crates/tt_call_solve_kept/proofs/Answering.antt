@@ -30,10 +30,10 @@ tells_files f limit ended e h = h
 
 -- a search in the instance that the wishes narrow
 pub outcome_there : (p n : Problem) (ws : List Wish) (limit : ℕ) (ended : Type 0) (best : Option (List Cell)) (b : Bound) (nodes : List Node)
-    (finished : Bool) → n ≡ narrowed p ws → IsOutcomeUntil n [] limit ended best b nodes finished
-    → IsOutcomeUntil (narrowed p ws) [] limit ended best b nodes finished
+    (finished : Bool) → n ≡ narrowed p ws → IsOutcomeUntil n [] None limit ended best b nodes finished
+    → IsOutcomeUntil (narrowed p ws) [] None limit ended best b nodes finished
 outcome_there p n ws limit ended best b nodes finished is outcome =
-    subst (λ (q : Problem). IsOutcomeUntil q [] limit ended best b nodes finished) is outcome
+    subst (λ (q : Problem). IsOutcomeUntil q [] None limit ended best b nodes finished) is outcome
 
 -- a proof without a text is too large
 pub over_long : {A : Type 0} (b : Bound) (nodes here : List Node) (text : Option (Vec ℕ A)) → here ≡ nodes → text ≡ None

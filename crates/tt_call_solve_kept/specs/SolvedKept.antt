@@ -42,7 +42,7 @@ pub record IsSolvedKeptOf (p : Problem) (ws : List Wish) (limit : ℕ) (ended : 
   pub bound : Bound
   pub nodes : List Node
   pub finished : Bool
-  pub outcome : IsOutcomeUntil (narrowed p ws) [] limit ended best bound nodes finished
+  pub outcome : IsOutcomeUntil (narrowed p ws) [] None limit ended best bound nodes finished
   pub holds : HoldsOfKept p ws bound
   pub table : List Cell
   pub fits : IsTimetable p table
@@ -63,7 +63,7 @@ pub record IsTooLargeOf (p : Problem) (ws : List Wish) (limit : ℕ) (ended : Ty
   pub bound : Bound
   pub nodes : List Node
   pub finished : Bool
-  pub outcome : IsOutcomeUntil (narrowed p ws) [] limit ended best bound nodes finished
+  pub outcome : IsOutcomeUntil (narrowed p ws) [] None limit ended best bound nodes finished
   pub large : IsOverLong bound nodes
 
 -- The proof of such a search for the spelled instance and wishes is too large.

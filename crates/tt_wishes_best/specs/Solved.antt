@@ -1,5 +1,5 @@
 -- The results of a search by a tree under wishes.
-use Rattle.std.specs.Prelude.{ℕ, Bool, List, [], Option, IfSome}
+use Rattle.std.specs.Prelude.{ℕ, Bool, List, [], Option, None, IfSome}
 use Rattle.tt_instance.specs.declared.cell.Cell.{Cell}
 use Rattle.tt_table.specs.Table.{IsTimetable}
 use Rattle.tt_leaf.specs.declared.leaf.Bound.{Bound}
@@ -11,6 +11,6 @@ use Rattle.tt_wishes_best.specs.declared.wishing.Wishing.{Wishing}
 -- A tree was searched in the narrowed instance. The timetable is no worse than the best one that the tree found there, if there is one.
 pub record IsSolvedUntil (w : Wishing) (limit : ℕ) (ended : Type 0) (t : List Cell) (b : Bound) (nodes : List Node) (finished : Bool) : Type 0 where
   pub best : Option (List Cell)
-  pub outcome : IsOutcomeUntil w.narrow.now [] limit ended best b nodes finished
+  pub outcome : IsOutcomeUntil w.narrow.now [] None limit ended best b nodes finished
   pub table : IsTimetable w.instance.now t
   pub no_worse : IfSome best (λ u. IsNoWorse w.instance.now w.wishes.now u t)

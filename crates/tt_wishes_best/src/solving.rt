@@ -9,7 +9,7 @@ ghost use Rattle.tt_wishes_best.specs.Solved.{IsSolvedUntil};
 use crate::trying::try_repair;
 use crate::wishing::Wishing;
 use std::alloc::{AllocError, Global};
-use tt_branch::{Outcome, solve};
+use tt_branch::{Outcome, Start, solve};
 use tt_leaf::Bound;
 use tt_proof_read::Node;
 use tt_search::construct;
@@ -62,12 +62,16 @@ pub fn solve_kept<W: Watch>(
     requires at_most { nodes ≤ MAX_OPENED }
     ensures { IfOk result (λ s. IsSolvedUntil wishing.entry nodes (W.has_ended watch.new) s.table s.bound s.proof.items s.finished) }
 {
+    let start = Start {
+        root: &[],
+        table: None,
+    };
     let Outcome {
         best,
         bound,
         proof,
         finished,
-    } = solve(alloc, wishing.narrow, &[], nodes, seed, watch)?;
+    } = solve(alloc, wishing.narrow, start, nodes, seed, watch)?;
     let first = found_or_constructed(alloc, wishing, best, seed)?;
     Ok(Solved {
         table: try_repair(alloc, wishing, first, seed, &mut Unwatched)?,

@@ -1,3 +1,4 @@
+use Rattle.tt_branch.proofs.Rootless.{holds_of_all}
 use Rattle.tt_call_kept.proofs.Holding.{holds_of_narrowed}
 use Rattle.tt_call_solve_kept.proofs.Answering.{outcome_there, over_long, proof_given}
 use Rattle.tt_call_solve_kept.proofs.searching.search_kept.Goals as goal
@@ -31,7 +32,8 @@ returns-clause-found g c =
       finished = solved.finished;
       outcome = outcome_there w.instance.now w.narrow.now w.wishes.now c.args.tree.nodes _ is.best solved.bound solved.proof.items
           solved.finished c.requires.narrow is.outcome;
-      holds = holds_of_narrowed w.instance.now w.narrow.now w.wishes.now solved.bound c.requires.narrow is.outcome.outcome.holds;
+      holds = holds_of_narrowed w.instance.now w.narrow.now w.wishes.now solved.bound c.requires.narrow
+          (holds_of_all w.narrow.now solved.bound is.outcome.outcome.holds);
       table = solved.table;
       fits = is.table;
       no_worse = is.no_worse;
