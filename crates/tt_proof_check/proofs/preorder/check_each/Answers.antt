@@ -1,12 +1,23 @@
-use Rattle.std.proofs.Common.{◌<◌, ◌≤◌, length, refl, ◌∙◌, subst, arith}
+use Rattle.std.proofs.Common.{◌<◌, ◌≤◌, true, length, refl, ◌∙◌, subst, arith}
 use Rattle.tt_proof_check.specs.Inner.Steps.{Stops}
 use Rattle.tt_proof_check.specs.declared.walk.NodeStop.TheVariants.{Rule, TooDeep}
 use Rattle.tt_proof_check.proofs.InOrder.{midway_root, midway_next, midway_fails, midway_deep, midway_end}
-use Rattle.tt_proof_check.proofs.Walking.{steps_as}
+use Rattle.tt_proof_check.proofs.Walking.{walked_start, steps_as}
 use Rattle.tt_proof_check.proofs.preorder.check_each.Goals as goal
 
-pub check_node-requires : goal.check_node-requires
-check_node-requires g c = ?
+pub loop-i-init : goal.loop-i-init
+loop-i-init g c =
+    let p = g.P.Path.problem c.args.path.now in
+    let root = g.P.Path.facts c.args.path.now in
+    let within : length root ≤ 65536 = omega (arith, c.depth-root.ensures.value, c.depth-root.ensures.within) in
+    record { walked = (true, walked_start p root c.args.bound within); same_problem = refl }
+
+pub check_node-requires-clause-root : goal.check_node-requires-clause-root
+check_node-requires-clause-root g c =
+    let p = g.P.Path.problem c.args.path.now in
+    let root = g.P.Path.facts c.args.path.now in
+    let long = midway_root p root c.args.bound c.args.nodes.now c.loop-i.i (g.P.Path.facts c.loop-i.path) c.loop-i.invariant.walked in
+    omega (arith, c.depth-root.ensures.value, long)
 
 pub returns-in-Err-Rule-clause-fault : goal.returns-in-Err-Rule-clause-fault
 returns-in-Err-Rule-clause-fault g c =

@@ -1,4 +1,4 @@
-use Rattle.std.proofs.Common.{Err, inl, refl, ap}
+use Rattle.std.proofs.Common.{◌≡◌, ◌∙◌, Err, inl, refl, ap}
 use Rattle.tt_text.specs.Feeds.{stream_at, fresh}
 use Rattle.tt_proof_read.specs.Faults.{read_failed, is_failed_read}
 use Rattle.tt_stop.proofs.Stops.{OnFault-weaker}
@@ -7,6 +7,29 @@ use Rattle.tt_proof_check.specs.Streams.{IsProofFault}
 use Rattle.tt_proof_check.proofs.Streaming.{root_deep, nodes_fault}
 use Rattle.tt_proof_check.proofs.TextFaults.{text_reported, text_lower, text_read, text_failed, told}
 use Rattle.tt_proof_check.proofs.stream.deep_root.Goals as goal
+
+pub returns-in-Err-clause-fault : goal.returns-in-Err-clause-fault
+returns-in-Err-clause-fault g c =
+    λ root long k.
+    let f = c.in-Err.fault in
+    let s = stream_at fresh (g.R.Source.remaining c.args.source.now) in
+    text_reported c.stop_from_text.result f (IsProofFault c.args.instance.now root s) c.stop_from_text.ensures
+    (λ calm. inl (told f _ calm (c.in-Err.ensures.read k)))
+
+pub returns-in-Err-clause-up_to_failed_read : goal.returns-in-Err-clause-up_to_failed_read
+returns-in-Err-clause-up_to_failed_read g c =
+    λ root long reported k.
+    let f = c.in-Err.fault in
+    let is : f ≡ read_failed = text_read c.stop_from_text.result f c.stop_from_text.ensures reported in
+    let here = c.in-Err.ensures.cut_short k (ap is_failed_read is) in
+    (here.0, inl (here.1 ∙ ap (λ x. Err x) is))
+
+pub returns-in-Err-clause-lower : goal.returns-in-Err-clause-lower
+returns-in-Err-clause-lower g c = text_lower c.stop_from_text.result c.in-Err.fault c.stop_from_text.ensures
+
+pub returns-in-Err-clause-failed : goal.returns-in-Err-clause-failed
+returns-in-Err-clause-failed g c =
+    text_failed c.stop_from_text.result c.in-Err.fault _ _ _ c.stop_from_text.ensures c.in-Err.ensures.failed refl
 
 pub returns-clause-fault : goal.returns-clause-fault
 returns-clause-fault g c =

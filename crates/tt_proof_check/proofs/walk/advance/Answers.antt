@@ -40,3 +40,8 @@ loop-path-preserved g c =
       same_problem = c.pop-fact.ensures.unchanged ∙ c.loop-path.invariant.same_problem;
       within = omega (arith, len, c.loop-path.invariant.within);
     }
+
+pub returns-clause-next : goal.returns-clause-next
+returns-clause-next g c =
+    let none = pending-none c.args.root (g.P.Path.facts c.loop-path.path) (omega arith) in
+    (c.loop-path.invariant.same_root, inl (sym c.loop-path.invariant.same_pending ∙ none))
