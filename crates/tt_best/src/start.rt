@@ -83,7 +83,7 @@ fn descended_table(
 }
 
 /// Returns the given timetable, or else the result of a descent from a constructed one.
-pub fn first_table(
+fn first_table(
     alloc: Global,
     instance: &Instance<'_>,
     given: Option<Timetable>,
