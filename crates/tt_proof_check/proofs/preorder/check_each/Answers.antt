@@ -1,5 +1,7 @@
-use Rattle.std.proofs.Common.{◌<◌, ◌≤◌, true, length, refl, ◌∙◌, subst, arith}
+use Rattle.std.proofs.Common.{◌<◌, ◌≤◌, true, length, refl, sym, ◌∙◌, subst, arith}
+use Rattle.std.proofs.lemmas.List.Elements.{All-get_or}
 use Rattle.tt_proof_check.specs.Inner.Steps.{Stops}
+use Rattle.tt_proof_check.specs.Nodes.{IsNodeOf}
 use Rattle.tt_proof_check.specs.declared.walk.NodeStop.TheVariants.{Rule, TooDeep}
 use Rattle.tt_proof_check.proofs.InOrder.{midway_root, midway_next, midway_fails, midway_deep, midway_end}
 use Rattle.tt_proof_check.proofs.Walking.{walked_start, steps_as}
@@ -12,12 +14,23 @@ loop-i-init g c =
     let within : length root ≤ 65536 = omega (arith, c.depth-root.ensures.value, c.depth-root.ensures.within) in
     record { walked = (true, walked_start p root c.args.bound within); same_problem = refl }
 
-pub check_node-requires-clause-root : goal.check_node-requires-clause-root
-check_node-requires-clause-root g c =
+pub check_node-requires : goal.check_node-requires
+check_node-requires g c = λ κs.
+    let nodes = c.args.nodes.now in
+    let i = c.loop-i.i in
+    let inside : i < length nodes = omega arith in
     let p = g.P.Path.problem c.args.path.now in
     let root = g.P.Path.facts c.args.path.now in
-    let long = midway_root p root c.args.bound c.args.nodes.now c.loop-i.i (g.P.Path.facts c.loop-i.path) c.loop-i.invariant.walked in
-    omega (arith, c.depth-root.ensures.value, long)
+    let n = c.index-nodes-i.result in
+    let walked = c.loop-i.invariant.walked in
+    let long = midway_root p root c.args.bound nodes i (g.P.Path.facts c.loop-i.path) walked in (
+      (refl, tt),
+      (
+        subst (λ q. IsNodeOf q n) (sym c.loop-i.invariant.same_problem)
+            (subst (IsNodeOf p) (sym c.index-nodes-i.is) (All-get_or (IsNodeOf p) nodes i n inside c.requires.nodes)),
+        (omega (arith, c.depth-root.ensures.value, long), walked.1.within),
+      ),
+    )
 
 pub returns-in-Err-Rule-clause-fault : goal.returns-in-Err-Rule-clause-fault
 returns-in-Err-Rule-clause-fault g c =
