@@ -220,12 +220,14 @@ pub fn first_best<W: Watch>(
     ensures fits { IfOk result (FitsRoot instance.now root.now) }
     ensures begun { IfOk result (λ best. BeginsWell instance.now root.now given (table_of best)) }
 {
-    if let Some(table) = given {
-        return best_from(alloc, instance, root, table, improvement, watch);
+    match given {
+        Some(table) => best_from(alloc, instance, root, table, improvement, watch),
+        None => {
+            let table = construct(alloc, instance, improvement.seed)?;
+            let descent = descend(alloc, instance, table, FIRST_STEPS)?;
+            best_from(alloc, instance, root, descent.table, improvement, watch)
+        }
     }
-    let table = construct(alloc, instance, improvement.seed)?;
-    let descent = descend(alloc, instance, table, FIRST_STEPS)?;
-    best_from(alloc, instance, root, descent.table, improvement, watch)
 }
 
 /// Returns the bound that closes a node: no timetable costs less than the best, or no timetable exists.
