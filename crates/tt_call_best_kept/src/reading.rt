@@ -15,8 +15,8 @@ use tt_call_searches::read_given;
 use tt_instance::Instance;
 use tt_instance_read::read_instance;
 use tt_page_text::Labels;
-use tt_table::Timetable;
 use tt_path::Fact;
+use tt_table::Timetable;
 use tt_wishes::{Wish, list_root, read_wishes};
 use tt_wishes_narrow::narrow;
 

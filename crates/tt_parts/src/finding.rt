@@ -14,8 +14,8 @@ use crate::together::sum_of;
 use std::alloc::{AllocError, Global};
 use tt_instance::Instance;
 use tt_leaf::Bound;
-use tt_path::Fact;
 use tt_parts_groups::{GroupSearch, KnownProof, find_groups, write_all};
+use tt_path::Fact;
 use tt_table::Entry;
 use tt_watch::Watch;
 

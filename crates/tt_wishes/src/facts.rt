@@ -112,11 +112,7 @@ fn add_facts(facts: &mut Vec<Fact>, instance: &Instance<'_>, wish: &Wish) -> Res
 }
 
 /// Adds the facts of a wish, unless a root has no room for more.
-fn add_if_few(
-    facts: &mut Vec<Fact>,
-    instance: &Instance<'_>,
-    wish: &Wish,
-) -> Result<(), AllocError>
+fn add_if_few(facts: &mut Vec<Fact>, instance: &Instance<'_>, wish: &Wish) -> Result<(), AllocError>
     ensures { OnOk result ((all : List Fact) → take MAX_ROOT facts.old.items ≡ take MAX_ROOT all →
         take MAX_ROOT facts.new.items ≡ take MAX_ROOT (all ++ facts_of instance.now wish.now)) }
 {

@@ -123,14 +123,7 @@ fn begin<W: WatchKept>(
         nodes: FIRST_NODES,
         seed: rounds.seed,
     };
-    search_bounds(
-        alloc,
-        wishing.narrow,
-        wishing.root,
-        week,
-        effort,
-        watch,
-    )
+    search_bounds(alloc, wishing.narrow, wishing.root, week, effort, watch)
 }
 
 /// Makes another round, from the result of the one before it.
@@ -158,14 +151,7 @@ fn search_round<W: WatchKept>(
         return Ok(better);
     }
     let effort = Effort { nodes, seed };
-    search_bounds(
-        alloc,
-        wishing.narrow,
-        wishing.root,
-        better,
-        effort,
-        watch,
-    )
+    search_bounds(alloc, wishing.narrow, wishing.root, better, effort, watch)
 }
 
 /// Searches for a best timetable that keeps wishes, and for proofs of a lower bound for those that do, in rounds, until they meet or the watch

@@ -31,11 +31,7 @@ pub struct Solved {
 
 /// Returns the timetable that a tree found, unless the first one is better, or else the first one.
 #[tactic(auto, using(crate::proofs::Narrowing::table_of_instance))]
-fn found_or_first(
-    wishing: Wishing<'_, '_>,
-    found: Option<Timetable>,
-    first: Timetable,
-) -> Timetable
+fn found_or_first(wishing: Wishing<'_, '_>, found: Option<Timetable>, first: Timetable) -> Timetable
     requires narrow { IsNarrowing wishing }
     requires found { IfSome found (IsTimetable wishing.instance.now) }
     requires first { IsTimetable wishing.instance.now first }
