@@ -59,7 +59,7 @@ no_dearer p end t feasible less =
     (omega (arith, feasible.lectures, feasible.conflicts, feasible.availability, feasible.room_occupancy)) less
 
 -- the timetable that a tree has found begins well
-pub begun_found : (p : Problem) (t : List Cell) → IsFeasible p t → branch.BeginsWell p [] (Some t) → BeginsWell p t
+pub begun_found : (p : Problem) (t : List Cell) → IsFeasible p t → branch.BeginsWell p [] None (Some t) → BeginsWell p t
 begun_found p t feasible b = record {
   start = b.start;
   constructed = b.constructed;

@@ -239,10 +239,11 @@ module _ (p : Problem) (ok : IsInstance p) where
     }
 
     -- the end of a search
-    pub concluded : (finished : Bool) (lowest : Option ℕ) → BeginsWell p root best → EndsAt limit tree_nodes finished
+    pub concluded : (given : Option (List Cell)) (finished : Bool) (lowest : Option ℕ) → BeginsWell p root given best
+        → EndsAt limit tree_nodes finished
         → (finished ≡ false → lowest ≡ least (worths_of p root links tree_nodes))
-        → IsOutcome p root limit best (shown_bound (final_bound p best) lowest finished) nodes finished
-    concluded true lowest begun ends same =
+        → IsOutcome p root given limit best (shown_bound (final_bound p best) lowest finished) nodes finished
+    concluded given true lowest begun ends same =
         let proved = finished_proves p root best links tree_nodes u.grown (omega (arith, ends.1)) ends.0 in
         record {
           feasible = best_feasible s.best u.kept;
@@ -254,7 +255,7 @@ module _ (p : Problem) (ok : IsInstance p) where
           proves = (u.grown.tree, spelled, proved.0, proved.1);
           holds = λ t ok fits. tree_sound p t ok (final_bound p best) root u.grown.tree proved.1 fits;
         }
-    concluded false lowest begun ends same =
+    concluded given false lowest begun ends same =
         let w = least_worth root links tree_nodes ends.0 in
         let reported : lowest ≡ Some w.0 = same refl ∙ w.1 in
         let shown : shown_bound (final_bound p best) lowest false ≡ AtLeast w.0 =
@@ -289,9 +290,10 @@ few_ended root limit tree_nodes true small ends = omega (arith, ends.1)
 few_ended root limit tree_nodes false small ends = omega (arith, ends.2)
 
 -- if a search began well, a better timetable preserves this
-pub begun_still : (p : Problem) (root : List Fact) (old new : Option Best) → BeginsWell p root (table_of old) → Advances p root old new
-    → BeginsWell p root (table_of new)
-begun_still p root old new b a = record {
+pub begun_still : (p : Problem) (root : List Fact) (given : Option (List Cell)) (old new : Option Best)
+    → BeginsWell p root given (table_of old) → Advances p root old new → BeginsWell p root given (table_of new)
+begun_still p root (Some t) old new b a = λ f fits. a.no_dearer t (b f fits)
+begun_still p root None old new b a = record {
   start = b.start;
   constructed = b.constructed;
   end = b.end;

@@ -5,8 +5,8 @@ use Rattle.std.specs.List.{AllZip, list_any, AllByRecursion}
 use Rattle.std.proofs.lemmas.Bool.{or_parts}
 use Rattle.std.proofs.lemmas.List.{map-append}
 use Rattle.std.proofs.lemmas.List.Elements.{All-from_recursion}
-use Rattle.tt_list_laws.proofs.Sums.{each_weaker}
-use Rattle.tt_list_laws.proofs.Members.{each_member, each_of_append, at_member}
+use Rattle.tt_list_laws.proofs.Sums.{each_weaker, each_both}
+use Rattle.tt_list_laws.proofs.Members.{each_member, at_member}
 use Rattle.tt_list_laws.proofs.Tested.{each_append}
 use Rattle.tt_list_laws.proofs.Given.{given_member}
 use Rattle.tt_list_laws.proofs.Zipped.{zip_each, zip_length}
@@ -22,8 +22,9 @@ use Rattle.tt_leaf.specs.declared.leaf.Bound.TheVariants.{AtLeast}
 use Rattle.tt_leaf.specs.declared.leaf.Leaf.{Leaf}
 use Rattle.tt_proof_read.specs.Trees.{Tree, Tip, Fork, OnPath, on_paths, preorder, with_fact}
 use Rattle.tt_proof_read.specs.declared.node.Node.TheVariants as node
-use Rattle.tt_proof_check.specs.Derives.{Derives}
-use Rattle.tt_proof_check.specs.Explains.{IsRightOn}
+use Rattle.tt_proof_check.specs.Derives.{Derives, IsShallowOn}
+use Rattle.tt_proof_check.specs.Explains.{IsRightOn, Passes}
+use Rattle.tt_proof_check.proofs.Walking.{passed_tree}
 use Rattle.tt_leaf_find.specs.Best.{best_claims, best_leaf}
 use Rattle.tt_branch.specs.declared.tree_node.NodeState.{NodeState}
 use Rattle.tt_branch.specs.declared.tree_node.NodeState.TheVariants.{Split, Closed, Opened, Unopened}
@@ -31,7 +32,7 @@ use Rattle.tt_branch.specs.declared.tree_node.TreeNode.{TreeNode}
 use Rattle.tt_branch.specs.declared.links.Link.{Link}
 use Rattle.tt_branch.specs.Inner.Growing.{node_of, IsKnown, IsSameNode, IsGrown, is_open}
 use Rattle.tt_branch.specs.Outcomes.{final_bound}
-use Rattle.tt_branch.specs.Proofs.{IsShallowOn, SplitsWell, node_worth, worths, IsCheaper, IsGreedy}
+use Rattle.tt_branch.specs.Proofs.{SplitsWell, node_worth, worths, IsCheaper, IsGreedy}
 use Rattle.tt_branch.proofs.Searching.{right_for, best_right, no_worth, worth_reaches, splits_well}
 
 -- ---- the shape of a tree
@@ -73,24 +74,6 @@ shallow_below : (root : List Fact) (tree : Tree) → 2 * length root + length (o
     → AllByRecursion (λ x. length x.path ≤ 65536) (on_paths root tree)
 shallow_below root tree h = each_weaker (λ x. length x.path ≤ length root + splits tree) (λ x. length x.path ≤ 65536)
     (λ x k. omega (arith, length-on_paths root tree)) (on_paths root tree) (depth-le root tree)
-
-leaves_shallow : (tree : Tree) (path : List Fact) → AllByRecursion (λ x. length x.path ≤ 65536) (on_paths path tree)
-    → IsShallowOn path tree
-leaves_shallow (Tip leaf) path a = a.0
-leaves_shallow (Fork g x y) path a =
-    let yes = on_paths (with_fact path g true) x in
-    let no = on_paths (with_fact path g false) y in
-    let h = each_of_append (λ (z : OnPath). length z.path ≤ 65536) yes no a.1 in
-    (leaves_shallow x (with_fact path g true) h.0, leaves_shallow y (with_fact path g false) h.1)
-
-derives_on : (p : Problem) (b : Bound) (tree : Tree) (path : List Fact)
-    → AllByRecursion (λ x. IsRightOn p b x.path x.node) (on_paths path tree) → Derives p b path tree
-derives_on p b (Tip leaf) path a = a.0
-derives_on p b (Fork g x y) path a =
-    let yes = on_paths (with_fact path g true) x in
-    let no = on_paths (with_fact path g false) y in
-    let h = each_of_append (λ (z : OnPath). IsRightOn p b z.path z.node) yes no a.1 in
-    (derives_on p b x (with_fact path g true) h.0, derives_on p b y (with_fact path g false) h.1)
 
 -- ---- the end
 

@@ -8,9 +8,10 @@ use Rattle.tt_proof_read.specs.declared.node.Node.{Node}
 use Rattle.tt_branch.specs.Outcomes.{IsOutcome, IsOutcomeUntil}
 
 -- if nothing can end the search, it is one of as many nodes as its limit
-pub whole_outcome : (p : Problem) (root : List Fact) (limit : ℕ) (best : Option (List Cell)) (b : Bound) (nodes : List Node)
-    (finished : Bool) → IsOutcomeUntil p root limit ⊥ best b nodes finished → IsOutcome p root limit best b nodes finished
-whole_outcome p root limit best b nodes finished o = elim o.all [
-  | inl all ↦ subst (λ (n : ℕ). IsOutcome p root n best b nodes finished) all o.outcome
+pub whole_outcome : (p : Problem) (root : List Fact) (given : Option (List Cell)) (limit : ℕ) (best : Option (List Cell)) (b : Bound)
+    (nodes : List Node) (finished : Bool) → IsOutcomeUntil p root given limit ⊥ best b nodes finished
+    → IsOutcome p root given limit best b nodes finished
+whole_outcome p root given limit best b nodes finished o = elim o.all [
+  | inl all ↦ subst (λ (n : ℕ). IsOutcome p root given n best b nodes finished) all o.outcome
   | inr never ↦ absurd never
 ]

@@ -1,5 +1,5 @@
 -- The properties of the proof that a search returns.
-use Rattle.std.specs.Prelude.{◌≡◌, ℕ, ◌<◌, ◌≤◌, Bool, true, false, List, [], ◌∷◌, Option, Some, None, length, All, Contains, ⊤}
+use Rattle.std.specs.Prelude.{◌≡◌, ℕ, ◌<◌, Bool, true, false, List, [], ◌∷◌, Option, Some, None, length, All, Contains, ⊤}
 use Rattle.std.specs.List.{filter_map}
 use Rattle.tt_instance.specs.Problem.{Problem}
 use Rattle.tt_instance.specs.declared.cell.Cell.{Cell}
@@ -7,7 +7,6 @@ use Rattle.tt_rules.specs.Score.{cost}
 use Rattle.tt_path.specs.Facts.{IsPattern, has_fact}
 use Rattle.tt_path.specs.declared.facts.Pattern.{Pattern}
 use Rattle.tt_path.specs.declared.facts.Fact.{Fact}
-use Rattle.tt_path.specs.declared.path.TheConstants.{MAX_FACTS}
 use Rattle.tt_leaf_rules.specs.Claims.{total_of}
 use Rattle.tt_leaf_rules.specs.Leaves.{IsRight}
 use Rattle.tt_leaf.specs.declared.leaf.Bound.{Bound}
@@ -15,7 +14,7 @@ use Rattle.tt_leaf.specs.declared.leaf.Bound.TheVariants.{AtLeast, Nothing}
 use Rattle.tt_leaf.specs.declared.leaf.Leaf.{Leaf}
 use Rattle.tt_leaf.specs.declared.leaf.Leaf.TheVariants.{Empty, Many, Clique, Slots, Cost}
 use Rattle.tt_proof_read.specs.Limits.{IsShortLeaf}
-use Rattle.tt_proof_read.specs.Trees.{Tree, AllLeaves, preorder, OnPath, on_paths}
+use Rattle.tt_proof_read.specs.Trees.{Tree, preorder, OnPath, on_paths}
 use Rattle.tt_proof_read.specs.declared.node.Node.{Node}
 use Rattle.tt_proof_read.specs.declared.node.Node.TheVariants as node
 use Rattle.tt_proof_write.specs.Within.{AreWithin}
@@ -48,14 +47,6 @@ SplitsWell p x = (g : Pattern) → x.node ≡ node.Split g → IsSplitOn p x.pat
 abbrev pub IsShortNode : Node → Type 0
 IsShortNode (node.Split g) = ⊤
 IsShortNode (node.Leaf leaf) = IsShortLeaf leaf
-
--- No leaf below the root has more than 65,536 facts on its path, those of the root included.
-abbrev pub IsShallowOn : List Fact → Tree → Type 0
-IsShallowOn root tree = AllLeaves (λ path _. length path ≤ MAX_FACTS) root tree
-
--- The nodes are those of a tree that is not too deep below the root and derives the bound on it.
-abbrev pub ProvesOn : Problem → List Fact → Bound → List Node → Type 0
-ProvesOn p root b nodes = (tree : Tree) × (preorder tree ≡ nodes) × IsShallowOn root tree × Derives p b root tree
 
 -- A proof of the bound on the root: its numbers are in the range of the instance, and the only limit of a file that it can exceed is that of its
 -- bytes.

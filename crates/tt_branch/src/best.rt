@@ -7,7 +7,7 @@ ghost use Rattle.tt_table.specs.Table.{IsTimetable};
 ghost use Rattle.tt_rules.specs.Score.{IsFeasible};
 ghost use Rattle.tt_path.specs.Facts.{Fits};
 ghost use Rattle.tt_search.specs.Improved.{IsNoWorse};
-ghost use Rattle.tt_branch.specs.Outcomes.{final_bound, BeginsWell, IsNoDearer};
+ghost use Rattle.tt_branch.specs.Outcomes.{final_bound, BeginsWell, IsNoDearer, Keeps};
 ghost use Rattle.tt_branch.specs.Inner.BestSoFar.{IsBestSoFar, FitsRoot, table_of, IsCosted};
 
 use crate::fitting::is_fitting;
@@ -186,24 +186,48 @@ fn improve_to<W: Watch>(
     Ok(best)
 }
 
-/// Returns the timetable that a search begins with: the result of a descent from a constructed one, improved in this many turns
+/// Returns the result of the improvement of a timetable, if it breaks no hard rule and fits the root.
+fn best_from<W: Watch>(
+    alloc: Global,
+    instance: &Instance<'_>,
+    root: &[Fact],
+    table: Timetable,
+    improvement: Improvement,
+    watch: &mut W,
+) -> Result<Option<Best>, AllocError>
+    requires { IsTimetable instance.now table }
+    ensures best { IfOk result (IsBestSoFar instance.now) }
+    ensures fits { IfOk result (FitsRoot instance.now root.now) }
+    ensures kept { IfOk result (λ best. Keeps instance.now root.now (table_of best) table) }
+{
+    let improved = improve_to(alloc, instance, root, table, improvement, watch)?;
+    Ok(if_feasible(instance, root, improved))
+}
+
+/// Returns the timetable that a search begins with: the given one, or else the result of a descent from a constructed one, improved in this many turns
 /// or until it costs at most a goal or the search is to end, if it breaks no hard rule and fits the root. The same seed gives the same timetable,
 /// unless the watch ends the search.
 pub fn first_best<W: Watch>(
     alloc: Global,
     instance: &Instance<'_>,
     root: &[Fact],
+    given: Option<Timetable>,
     improvement: Improvement,
     watch: &mut W,
 ) -> Result<Option<Best>, AllocError>
+    requires { IfSome given (IsTimetable instance.now) }
     ensures best { IfOk result (IsBestSoFar instance.now) }
     ensures fits { IfOk result (FitsRoot instance.now root.now) }
-    ensures begun { IfOk result (λ best. BeginsWell instance.now root.now (table_of best)) }
+    ensures begun { IfOk result (λ best. BeginsWell instance.now root.now given (table_of best)) }
 {
-    let table = construct(alloc, instance, improvement.seed)?;
-    let descent = descend(alloc, instance, table, FIRST_STEPS)?;
-    let improved = improve_to(alloc, instance, root, descent.table, improvement, watch)?;
-    Ok(if_feasible(instance, root, improved))
+    match given {
+        Some(table) => best_from(alloc, instance, root, table, improvement, watch),
+        None => {
+            let table = construct(alloc, instance, improvement.seed)?;
+            let descent = descend(alloc, instance, table, FIRST_STEPS)?;
+            best_from(alloc, instance, root, descent.table, improvement, watch)
+        }
+    }
 }
 
 /// Returns the bound that closes a node: no timetable costs less than the best, or no timetable exists.

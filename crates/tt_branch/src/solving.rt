@@ -1,7 +1,9 @@
 //! The search for a best timetable and a proof of a lower bound.
 
-ghost use Rattle.std.specs.Prelude.{◌≡◌, ◌≤◌, ◌+◌, length, IfOk};
+ghost use Rattle.std.specs.Prelude.{◌≡◌, ◌≤◌, ◌+◌, List, Option, length, IfOk, IfSome};
 ghost use Rattle.tt_instance.specs.Problem.{Problem};
+ghost use Rattle.tt_instance.specs.declared.cell.Cell.{Cell};
+ghost use Rattle.tt_table.specs.Table.{IsTimetable};
 ghost use Rattle.tt_path.specs.declared.path.TheConstants.{MAX_FACTS};
 ghost use Rattle.tt_leaf_find.specs.Found.{ArePatterns};
 ghost use Rattle.tt_branch.specs.Inner.BestSoFar.{IsBestSoFar, FitsRoot, table_of};
@@ -27,6 +29,15 @@ use tt_proof_read::Node;
 use tt_reason::find_reason;
 use tt_table::Timetable;
 use tt_watch::Watch;
+
+/// What a search begins with.
+#[derive(Drop)]
+pub struct Start<'r> {
+    /// The facts that each timetable is to fit; without any, each timetable counts.
+    pub root: &'r [Fact],
+    /// The first timetable, which may break hard rules and may not fit the root; if there is none, one is constructed.
+    pub table: Option<Timetable>,
+}
 
 /// The result of a search.
 #[derive(Drop)]
@@ -62,10 +73,10 @@ fn conclude<'i, P: Path<'i>>(
 ) -> Result<Outcome, AllocError>
     requires rooted { IsRooted root.now (P.facts path.old) }
     requires under_way { IsUnderWay (P.problem path.old) root.now search }
-    requires begun { BeginsWell (P.problem path.old) root.now (table_of search.best) }
     requires ends { EndsAt ending.opened search.tree_nodes.items ending.finished }
     requires at_most { length root.now + ending.opened ≤ MAX_FACTS }
-    ensures { IfOk result (λ o. IsOutcome (P.problem path.old) root.now ending.opened o.best o.bound o.proof.items o.finished) }
+    ensures { IfOk result (λ o. (given : Option (List Cell)) → BeginsWell (P.problem path.old) root.now given (table_of search.best)
+        → IsOutcome (P.problem path.old) root.now given ending.opened o.best o.bound o.proof.items o.finished) }
 {
     // Brings the instance's limits into the proof.
     prove!(path.instance().days() <= 64);
@@ -113,10 +124,10 @@ fn solve_over<'i, P: Path<'i>, W: Watch>(
     requires patterns { ArePatterns (P.problem path.old) root.now }
     requires best { IsBestSoFar (P.problem path.old) best }
     requires fits { FitsRoot (P.problem path.old) root.now best }
-    requires begun { BeginsWell (P.problem path.old) root.now (table_of best) }
     requires positive { 1 ≤ limit }
     requires at_most { length root.now + limit ≤ MAX_FACTS }
-    ensures { IfOk result (λ o. IsOutcomeUntil (P.problem path.old) root.now limit (W.has_ended watch.new) o.best o.bound o.proof.items o.finished) }
+    ensures { IfOk result (λ o. (given : Option (List Cell)) → BeginsWell (P.problem path.old) root.now given (table_of best)
+        → IsOutcomeUntil (P.problem path.old) root.now given limit (W.has_ended watch.new) o.best o.bound o.proof.items o.finished) }
 {
     let mut search = Search::new(alloc, best)?;
     open_at(alloc, path, root, &mut search, 0)?;
@@ -124,8 +135,17 @@ fn solve_over<'i, P: Path<'i>, W: Watch>(
     conclude(alloc, path, root, search, ending)
 }
 
-/// Returns the turns of the improvement: none if there is a plain reason why no feasible timetable exists.
-fn turns_in(alloc: Global, instance: &Instance<'_>, nodes: u32) -> Result<Turns, AllocError> {
+/// Returns the turns of the improvement: none if a timetable is given for a root, since their steps know nothing of its facts, or if there is a plain
+/// reason why no feasible timetable exists.
+fn turns_in(
+    alloc: Global,
+    instance: &Instance<'_>,
+    start: &Start<'_>,
+    nodes: u32,
+) -> Result<Turns, AllocError> {
+    if start.table.is_some() && !start.root.is_empty() {
+        return Ok(Turns::NONE);
+    }
     let reason = find_reason(alloc, instance)?;
     Ok(if reason.is_some() {
         Turns::NONE
@@ -136,29 +156,32 @@ fn turns_in(alloc: Global, instance: &Instance<'_>, nodes: u32) -> Result<Turns,
 
 /// Searches for a best timetable by a tree below a root of facts. Returns the best timetable that it found and a proof of a lower bound for those that
 /// fit the root, of at most `nodes` nodes if each is closed, and of fewer than twice as many otherwise; if each is closed, the cost and the bound are
-/// equal, or no timetable exists that fits and breaks no hard rule. If the watch ends the search, the result is that of a search of fewer nodes. It
-/// makes no promise about which nodes are opened.
+/// equal, or no timetable exists that fits and breaks no hard rule. If a timetable is given that fits and breaks no hard rule, the best one is at most as
+/// expensive. If the watch ends the search, the result is that of a search of fewer nodes. It makes no promise about which nodes are opened.
 pub fn solve<W: Watch>(
     alloc: Global,
     instance: &Instance<'_>,
-    root: &[Fact],
+    start: Start<'_>,
     nodes: u32,
     seed: u64,
     watch: &mut W,
 ) -> Result<Outcome, AllocError>
-    requires patterns { ArePatterns instance.now root.now }
+    requires patterns { ArePatterns instance.now start.root.now }
+    requires table { IfSome start.table (IsTimetable instance.now) }
     requires positive { 1 ≤ nodes }
     requires at_most { nodes ≤ MAX_OPENED }
-    requires few { length root.now ≤ root_limit nodes }
-    ensures { IfOk result (λ o. IsOutcomeUntil instance.now root.now nodes (W.has_ended watch.new) o.best o.bound o.proof.items o.finished) }
+    requires few { length start.root.now ≤ root_limit nodes }
+    ensures { IfOk result (λ o. IsOutcomeUntil instance.now start.entry.root.now start.entry.table nodes (W.has_ended watch.new) o.best o.bound o.proof.items
+        o.finished) }
 {
     let mut path = TrailPath::new(alloc, instance)?;
-    push_root(&mut path, root)?;
+    push_root(&mut path, start.root)?;
     let improvement = Improvement {
         seed,
         goal: best_worth(alloc, &path)?,
-        turns: turns_in(alloc, instance, nodes)?,
+        turns: turns_in(alloc, instance, &start, nodes)?,
     };
-    let best = first_best(alloc, instance, root, improvement, watch)?;
+    let Start { root, table } = start;
+    let best = first_best(alloc, instance, root, table, improvement, watch)?;
     solve_over(alloc, &mut path, root, best, nodes, watch)
 }

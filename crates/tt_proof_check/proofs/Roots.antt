@@ -1,5 +1,5 @@
 -- Trees with the facts of a root.
-use Rattle.std.proofs.Common.{◌≡◌, ◌≤◌, true, false, List, [], ◌∷◌, ◌++◌, length, sym, subst, arith, append_assoc, append-nil, length-append}
+use Rattle.std.proofs.Common.{◌≡◌, true, false, List, [], ◌∷◌, ◌++◌, sym, subst, arith, append_assoc, append-nil, length-append}
 use Rattle.tt_instance.specs.Problem.{Problem}
 use Rattle.tt_path.specs.declared.facts.Fact.{Fact}
 use Rattle.tt_proof_read.specs.Trees.{Tree, Tip, Fork, with_fact, IsShallow}

@@ -49,10 +49,11 @@ returns g c =
     let is = c.in_ok-nodes.ensures.nodes ∙ ap (λ (l : List Link). nodes_of p root l c.as_slice-2.result.now) links
     ∙ ap (nodes_of p root s.links.items) items in
     let shown = c.shown-bound.ensures p c.requires.under_way.kept in
-    let done = concluded p ok root s c.requires.under_way e.opened c.requires.at_most nodes is e.finished lowest c.requires.begun
+    λ given begun.
+    let done = concluded p ok root s c.requires.under_way e.opened c.requires.at_most nodes is given e.finished lowest begun
     c.requires.ends
     (λ f. c.in_ok-nodes.ensures.least (not_from_false e.finished f)
     ∙ ap (λ (l : List Link). least (worths_of p root l c.as_slice-2.result.now)) links
     ∙ ap (λ (es : List TreeNode). least (worths_of p root s.links.items es)) items) in
-    subst (λ (t : Option (List Cell)). IsOutcome p root e.opened t c.shown-bound.result nodes e.finished) (sym c.table_in.ensures)
-    (subst (λ (b : Bound). IsOutcome p root e.opened (table_of s.best) b nodes e.finished) (sym shown) done)
+    subst (λ (t : Option (List Cell)). IsOutcome p root given e.opened t c.shown-bound.result nodes e.finished) (sym c.table_in.ensures)
+    (subst (λ (b : Bound). IsOutcome p root given e.opened (table_of s.best) b nodes e.finished) (sym shown) done)

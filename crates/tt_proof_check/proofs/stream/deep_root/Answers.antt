@@ -50,6 +50,8 @@ returns-clause-up_to_failed_read g c =
     let start = c.in-Ok.ensures in
     let p = c.args.instance.now in
     let child = c.deep_fault.ensures.up_to_failed_read reported (start.known k) in
-    let first = start.cut_short k _ child.0 in
-    (first.0, nodes_fault p root _ _ reader.version reader.bound (Text read_failed) first.1
-    (root_deep p root _ reader (Text read_failed) long start.sizes start.start.0 child.1))
+    let first = start.cut_short k _ child.0 in (
+      first.0,
+      nodes_fault p root _ _ reader.version reader.bound (Text read_failed) first.1
+          (root_deep p root _ reader (Text read_failed) long start.sizes start.start.0 child.1),
+    )

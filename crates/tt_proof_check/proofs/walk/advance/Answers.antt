@@ -22,7 +22,7 @@ returns-then-fact-clause-next g c =
           ∙ sym (root_stays c.args.root now before c.pop-fact.result c.pop-fact.ensures.fact long)
           ∙ c.loop-path.invariant.same_root,
       inr (sym c.loop-path.invariant.same_pending
-      ∙ pending-turned c.args.root now before after c.pop-fact.result long c.pop-fact.ensures.fact c.if-fact.true turned),
+          ∙ pending-turned c.args.root now before after c.pop-fact.result long c.pop-fact.ensures.fact c.if-fact.true turned),
     )) c.push.ensures.ok
 
 pub loop-path-preserved : goal.loop-path-preserved
