@@ -2,7 +2,7 @@
 use Rattle.std.proofs.Common.{◌≡◌, ℕ, ◌+◌, ◌≤◌, Bool, true, false, not, cond, ◌&&◌, ◌||◌, List, [], ◌∷◌, ◌++◌, map, Option, refl, subst, ◌∙◌, arith, inl, inr, zero-le}
 use Rattle.std.specs.Prelude.{Contains, ◌⊎◌, sum_by, flat_map}
 use Rattle.std.specs.List.{list_any, list_all, AllZip, AllByRecursion}
-use Rattle.std.proofs.lemmas.List.Elements.{All-nil, Contains-append_right, recursion_from_All}
+use Rattle.std.proofs.lemmas.List.Elements.{Contains-append_right, recursion_from_All}
 use Rattle.std.proofs.lemmas.List.Folds.{list_any-append, list_all-append, list_all-map}
 use Rattle.std.proofs.lemmas.List.Sums.{sum_by-append}
 use Rattle.std.proofs.lemmas.Bool.{and_parts, cond-true, and_from, both_ways, not-true}
@@ -15,7 +15,7 @@ use Rattle.tt_list_laws.proofs.Apart.{distinct_sum}
 use Rattle.tt_instance.specs.Problem.{Problem}
 use Rattle.tt_instance.specs.declared.cell.Cell.{Cell}
 use Rattle.tt_rules.specs.Score.{IsFeasible, cost}
-use Rattle.tt_path.specs.Facts.{Holds, Fits}
+use Rattle.tt_path.specs.Facts.{Fits}
 use Rattle.tt_path.specs.declared.facts.Fact.{Fact}
 use Rattle.tt_leaf_rules.specs.Bounds.{Respects}
 use Rattle.tt_leaf_rules.specs.Claims.{Target, WorkingDays, Compactness, part}

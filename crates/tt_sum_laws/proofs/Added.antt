@@ -13,7 +13,7 @@ use Rattle.tt_prices_file.specs.declared.fault.PricesFault.{PricesFault}
 use Rattle.tt_proof_check.specs.declared.fault.CheckFault.{CheckFault}
 use Rattle.tt_proof_sum.specs.declared.groups_fault.GroupsFault.{GroupsFault}
 use Rattle.tt_proof_sum.specs.Faults.{IsTreeFault, IsGroupsFault, IsPricesFault, IsClaimedElsewhere, IsTargetClaimedElsewhere, IsTooLarge, ExplainsAddedOn, IsUnfinished}
-use Rattle.tt_proof_sum.specs.Sums.{are_apart, TreePart, Part, TreeProof, GroupsFile, PricesFile, IsPartOn, claims_of, AreApart}
+use Rattle.tt_proof_sum.specs.Sums.{are_apart, Part, TreeProof, GroupsFile, PricesFile, IsPartOn, claims_of, AreApart}
 use Rattle.tt_proof_sum.specs.declared.claimed.ClaimedTarget.{ClaimedTarget}
 use Rattle.tt_proof_sum.specs.declared.fault.FileFault.{FileFault}
 use Rattle.tt_proof_sum.specs.declared.fault.FileFault.TheVariants.{Proof, Groups, Prices, ClaimedElsewhere, TargetClaimedElsewhere, TooLarge}

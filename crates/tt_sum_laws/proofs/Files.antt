@@ -1,5 +1,5 @@
 -- A list of files has one fault, unless the check of a claim wasn't finished.
-use Rattle.std.proofs.Common.{◌≡◌, ℕ, ◌+◌, ◌≤◌, List, [], ◌∷◌, ◌++◌, length, length-append, take, refl, sym, ap, subst, ◌∙◌, arith, append_assoc, inl, inr}
+use Rattle.std.proofs.Common.{◌≡◌, ℕ, List, [], ◌∷◌, ◌++◌, length, take, refl, sym, ap, subst, ◌∙◌, arith, append_assoc, inl, inr}
 use Rattle.std.specs.Prelude.{◌⊎◌}
 use Rattle.std.specs.List.{AllZip}
 use Rattle.std.proofs.Math.Seq.{take-append_seam}
@@ -7,7 +7,7 @@ use Rattle.tt_instance.specs.Problem.{Problem}
 use Rattle.tt_instance.specs.Limits.{IsInstance}
 use Rattle.tt_path.specs.declared.facts.Fact.{Fact}
 use Rattle.tt_list_laws.proofs.Members.{each_two-of_append}
-use Rattle.tt_proof_sum.specs.Faults.{AreSmall, IsSmall, IsReachedOn, IsSumStopOn, ExplainsAddedOn, IsUnfinished}
+use Rattle.tt_proof_sum.specs.Faults.{IsSmall, IsReachedOn, IsSumStopOn, ExplainsAddedOn, IsUnfinished}
 use Rattle.tt_proof_sum.specs.Sums.{are_apart, Part, IsPartOn, claims_of, AreApart, sum_of}
 use Rattle.tt_proof_sum.specs.declared.fault.FileFault.{FileFault}
 use Rattle.tt_proof_sum.proofs.Added.{only_unfinished}

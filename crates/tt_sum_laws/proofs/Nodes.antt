@@ -1,5 +1,5 @@
 -- Which node of a tree, or which target of groups with prices, is the first that an earlier file claims.
-use Rattle.std.proofs.Common.{◌≡◌, ℕ, ◌+◌, ◌≤◌, Bool, true, false, not, ◌&&◌, List, [], ◌∷◌, ◌++◌, length, Option, Some, None, refl, sym, ap, ◌∙◌, arith}
+use Rattle.std.proofs.Common.{◌≡◌, ℕ, ◌+◌, true, not, List, [], ◌∷◌, ◌++◌, length, Option, Some, None, refl, sym, ap, ◌∙◌, arith}
 use Rattle.std.specs.List.{list_all}
 use Rattle.std.specs.Option.{option_or}
 use Rattle.std.proofs.lemmas.Bool.{and_from, and_parts}
@@ -12,10 +12,9 @@ use Rattle.tt_proof_read.specs.Trees.{Tree, preorder}
 use Rattle.tt_proof_read.specs.declared.node.Node.{Node}
 use Rattle.tt_proof_sum.specs.Faults.{IsClaimedElsewhere, IsTargetClaimedElsewhere}
 use Rattle.tt_proof_sum.specs.GroupsFaults.{is_unclaimed}
-use Rattle.tt_proof_sum.specs.Sums.{is_among, are_apart, PricesPart, Part, PricesFile, claims_of, AreApart}
+use Rattle.tt_proof_sum.specs.Sums.{is_among, are_apart, Part, PricesFile, claims_of, AreApart}
 use Rattle.tt_proof_sum.specs.Tables.{claims_at}
 use Rattle.tt_proof_sum.specs.declared.claimed.ClaimedTarget.{ClaimedTarget}
-use Rattle.tt_proof_sum.specs.declared.fault.FileFault.{FileFault}
 use Rattle.tt_proof_sum.specs.declared.fault.FileFault.TheVariants.{ClaimedElsewhere, TargetClaimedElsewhere}
 use Rattle.tt_proof_sum.proofs.Owners.{both_all}
 use Rattle.tt_proof_sum.proofs.SpelledOnce.{same_part}
