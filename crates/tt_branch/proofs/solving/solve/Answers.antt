@@ -1,4 +1,5 @@
 use Rattle.std.proofs.Common.{List, Option, [], ◌++◌, refl, sym, ap, ◌∙◌, subst, arith}
+use Rattle.std.specs.Prelude.{IfOk}
 use Rattle.std.proofs.lemmas.List.{append-nil}
 use Rattle.std.proofs.lemmas.Result.{IfOk-weaker}
 use Rattle.tt_instance.specs.Problem.{Problem}
@@ -37,8 +38,12 @@ returns g c =
     let root = c.args.start.root.now in
     let given = c.args.start.table in
     let best = c.in_ok-best.best in
+    let ended = g.W.Watch.has_ended c.solve_over.new.watch in
     let same = c.in_ok-push_root.ensures.unchanged ∙ c.in_ok-path.ensures.problem in
-    let begun = subst (λ (q : Problem). BeginsWell q root given (table_of best)) (sym same) c.in_ok-best.ensures.begun in
-    IfOk-weaker c.solve_over.result _ _
-    (λ o is. subst (λ (q : Problem). IsOutcomeUntil q root given c.args.nodes _ o.best o.bound o.proof.items o.finished) same (is given begun))
-    c.solve_over.ensures
+    IfOk-weaker c.solve_over.result
+    (λ o. (t : Option (List Cell)) → BeginsWell p root t (table_of best)
+        → IsOutcomeUntil p root t c.args.nodes ended o.best o.bound o.proof.items o.finished)
+    (λ o. IsOutcomeUntil p root given c.args.nodes ended o.best o.bound o.proof.items o.finished)
+    (λ o is. is given c.in_ok-best.ensures.begun)
+    (subst (λ (q : Problem). IfOk c.solve_over.result (λ o. (t : Option (List Cell)) → BeginsWell q root t (table_of best)
+        → IsOutcomeUntil q root t c.args.nodes ended o.best o.bound o.proof.items o.finished)) same c.solve_over.ensures)
