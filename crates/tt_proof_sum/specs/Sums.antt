@@ -168,10 +168,6 @@ IsPartOn p root bytes (TreeProof k) = IsTreePart p root bytes k
 IsPartOn p root bytes (GroupsFile k) = IsGroupsPart p bytes k
 IsPartOn p root bytes (PricesFile k) = IsPricesPart p bytes k
 
--- The bytes spell the part, and it is right.
-abbrev pub IsPart : Problem → List ℕ → Part → Type 0
-IsPart p bytes k = IsPartOn p [] bytes k
-
 -- The part is right on a path: a tree that derives its bound there, or claims or prices that are right on each path.
 abbrev pub ShowsOn : Problem → List Fact → Part → Type 0
 ShowsOn p path (TreeProof k) = Derives p k.bound path k.tree
