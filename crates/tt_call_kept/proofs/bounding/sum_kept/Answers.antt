@@ -1,4 +1,4 @@
-use Rattle.std.proofs.Common.{subst, ◌∙◌}
+use Rattle.std.proofs.Common.{subst}
 use Rattle.std.proofs.lemmas.Result.{err_from_is_err_and}
 use Rattle.tt_proof_sum.specs.Added.{Give}
 use Rattle.tt_call_answers.proofs.Sums.{silent_refusal}

@@ -19,7 +19,7 @@ use Rattle.tt_call_kept.specs.declared.fault.KeptFault.TheVariants as fault
 use Rattle.tt_call_kept.specs.Kept.{IsTextAnswer, SpellsAll, kept_line}
 use Rattle.tt_call_kept.proofs.Checked.{broken_by, broken_kept, costs_of, feasible_kept, not_broken, one_of_all, some_points, spelled_are, yes_kept}
 use Rattle.tt_call_kept.proofs.Summed.{made_stop, sum_made}
-use Rattle.tt_call_kept.proofs.Refused.{before_solution, instance_silent, solution_silent, tells_sum, wishes_silent}
+use Rattle.tt_call_kept.proofs.Refused.{before_solution, instance_silent, memory_silent, solution_silent, tells_sum, wishes_silent}
 use Rattle.tt_call_kept.proofs.checking.check_kept.Goals as goal
 use Rattle.tt_call_kept.proofs.checking.check_kept.Goals.{then-not-feasible-via-then-not-feasible, then-not-feasible-via-else-not-feasible+then-broken-gt0}
 
@@ -187,3 +187,8 @@ returns-clause-yes g c =
     (subst (λ (k : ℕ). IsTextAnswer (yes_line c.cost.result b ++ kept_line k) 0 a) are.made.count
     (subst (λ (k : ℕ). IsTextAnswer (yes_line c.cost.result k ++ kept_line c.len-count.result) 0 a)
     (c.in_ok-bound.ensures.only bytes b given here.is here.within) c.in_ok-yes_answer.ensures))
+
+pub returns-in_err-yes_answer-clause-yes : goal.returns-in_err-yes_answer-clause-yes
+returns-in_err-yes_answer-clause-yes g c =
+    let e = err_from_is_err_and c.from_residual-in_err-yes_answer.result c.from_residual-in_err-yes_answer.ensures.1 in
+    λ p t ws bytes b spelled ok none given h within. rw e.1 (memory_silent e.0 (cost p t) b (length ws) e.2)

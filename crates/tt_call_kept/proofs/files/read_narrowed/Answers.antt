@@ -40,4 +40,4 @@ returns-clause-only c = λ p ws spelled.
       root_is = c.in_ok-root.ensures ∙ ap (root_of c.in_ok-narrow.narrow) c.deref-2.ensures.value;
       count = c.len-count.ensures ∙ sym c.deref.ensures.len ∙ ap length c.deref.ensures.value;
     }) spelled in
-    (made.narrowed_is, (made.root_is, made.count))
+    (made.narrowed_is, made.root_is, made.count)
