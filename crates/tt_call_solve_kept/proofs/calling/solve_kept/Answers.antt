@@ -5,4 +5,4 @@ use Rattle.tt_call_solve_kept.proofs.calling.solve_kept.Goals as goal
 pub returns-in_err-instance-clause-fault : goal.returns-in_err-instance-clause-fault
 returns-in_err-instance-clause-fault g c =
     let e = err_from_is_err_and c.from_residual.result c.from_residual.ensures.1 in
-    rw (e.1, e.2) (tells_files c.args.files c.args.tree.nodes _ c.in_err-instance.field-0.0 c.in_err-instance.ensures.fault)
+    rw (e.1, e.2) (tells_files c.args.files _ _ c.in_err-instance.field-0.0 c.in_err-instance.ensures.fault)

@@ -1,5 +1,7 @@
-use Rattle.tt_branch.proofs.Rootless.{holds_of_all}
-use Rattle.tt_call_kept.proofs.Holding.{holds_of_narrowed}
+use Rattle.std.proofs.Common.{subst}
+use Rattle.std.specs.Prelude.{min}
+use Rattle.tt_wishes_best.specs.declared.limit.TheConstants.{MAX_KEPT}
+use Rattle.tt_call_best_kept.proofs.Keeping.{kept_holds}
 use Rattle.tt_call_solve_kept.proofs.Answering.{outcome_there, over_long, proof_given}
 use Rattle.tt_call_solve_kept.proofs.searching.search_kept.Goals as goal
 
@@ -13,8 +15,8 @@ returns-in_default-clause-fault g c =
       bound = solved.bound;
       nodes = solved.proof.items;
       finished = solved.finished;
-      outcome = outcome_there w.instance.now w.narrow.now w.wishes.now c.args.tree.nodes _ is.best solved.bound solved.proof.items
-          solved.finished c.requires.narrow is.outcome;
+      first = is.first;
+      outcome = outcome_there w is.first _ _ is.best solved.bound solved.proof.items solved.finished c.requires.narrow is.outcome;
       large = over_long solved.bound solved.proof.items c.deref.result.now c.in_ok-text.field-0 c.deref.ensures.value c.in_default.is
           c.in_ok-text.ensures;
     }
@@ -30,10 +32,9 @@ returns-clause-found g c =
       bound = solved.bound;
       nodes = solved.proof.items;
       finished = solved.finished;
-      outcome = outcome_there w.instance.now w.narrow.now w.wishes.now c.args.tree.nodes _ is.best solved.bound solved.proof.items
-          solved.finished c.requires.narrow is.outcome;
-      holds = holds_of_narrowed w.instance.now w.narrow.now w.wishes.now solved.bound c.requires.narrow
-          (holds_of_all w.narrow.now solved.bound is.outcome.outcome.holds);
+      first = is.first;
+      outcome = outcome_there w is.first _ _ is.best solved.bound solved.proof.items solved.finished c.requires.narrow is.outcome;
+      holds = kept_holds w c.requires.narrow solved.bound is.outcome.outcome.holds;
       table = solved.table;
       fits = is.table;
       no_worse = is.no_worse;
