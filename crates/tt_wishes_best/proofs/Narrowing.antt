@@ -1,6 +1,6 @@
 -- The timetables of an instance and of the one that wishes narrow are the same.
 use Rattle.std.proofs.Common.{◌≡◌, ◌≤◌, List, length, Option, Some, None, subst, sym, ap, ◌∙◌, arith}
-use Rattle.std.specs.Prelude.{IfSome, min}
+use Rattle.std.specs.Prelude.{All, IfSome, min}
 use Rattle.std.proofs.lemmas.List.{length-take}
 use Rattle.std.proofs.lemmas.List.Elements.{All-weaker}
 use Rattle.tt_instance.specs.Problem.{Problem}
@@ -8,8 +8,8 @@ use Rattle.tt_instance.specs.Cells.{InRange}
 use Rattle.tt_instance.specs.declared.cell.Cell.{Cell}
 use Rattle.tt_table.specs.Table.{IsTimetable}
 use Rattle.tt_rules.specs.Score.{IsFeasible}
+use Rattle.tt_path.specs.Facts.{IsPattern}
 use Rattle.tt_path.specs.declared.facts.Fact.{Fact}
-use Rattle.tt_leaf_find.specs.Found.{ArePatterns}
 use Rattle.tt_wishes.specs.Facts.{facts_of_all, root_of}
 use Rattle.tt_wishes.specs.Spelling.{IsPlace, IsWish, AreWishes}
 use Rattle.tt_wishes.specs.declared.format.TheConstants.{MAX_ROOT}
@@ -67,14 +67,14 @@ wish_there p ws (Rooms c rooms) is = (is.0, record { some = is.1.some; each = is
 wish_there p ws (Closed g) is = place_there p ws g is
 
 -- the numbers of its facts are
-pub root_inside_narrow : (w : Wishing) → IsNarrowing w → ArePatterns w.narrow.now w.root.now
+pub root_inside_narrow : (w : Wishing) → IsNarrowing w → All (λ f. IsPattern w.narrow.now f.pattern) w.root.now
 root_inside_narrow w is =
     let p = w.instance.now in
     let ws = w.wishes.now in
     let there : AreWishes (narrowed p ws) ws = All-weaker (IsWish p) (IsWish (narrowed p ws)) (wish_there p ws) ws is.wishes in
-    let inside : ArePatterns w.narrow.now (root_of w.narrow.now ws) =
-    subst (λ (q : Problem). ArePatterns q (root_of q ws)) (sym is.is) (root_inside (narrowed p ws) ws there) in
-    subst (λ (r : List Fact). ArePatterns w.narrow.now r) (sym is.root_is) inside
+    let inside : All (λ f. IsPattern w.narrow.now f.pattern) (root_of w.narrow.now ws) =
+    subst (λ (q : Problem). All (λ f. IsPattern q f.pattern) (root_of q ws)) (sym is.is) (root_inside (narrowed p ws) ws there) in
+    subst (λ (r : List Fact). All (λ f. IsPattern w.narrow.now f.pattern) r) (sym is.root_is) inside
 
 -- a root has so many facts at most
 pub root_short : (w : Wishing) → IsNarrowing w → length w.root.now ≤ MAX_ROOT
