@@ -1,4 +1,3 @@
-use Rattle.std.proofs.Common.{subst}
 use Rattle.std.specs.Prelude.{min}
 use Rattle.tt_wishes_best.specs.declared.limit.TheConstants.{MAX_KEPT}
 use Rattle.tt_call_best_kept.proofs.Keeping.{kept_holds}
@@ -16,7 +15,8 @@ returns-in_default-clause-fault g c =
       nodes = solved.proof.items;
       finished = solved.finished;
       first = is.first;
-      outcome = outcome_there w is.first _ _ is.best solved.bound solved.proof.items solved.finished c.requires.narrow is.outcome;
+      outcome = outcome_there w is.first c.min-nodes.result (min c.args.tree.nodes MAX_KEPT) _ is.best solved.bound solved.proof.items
+          solved.finished c.requires.narrow c.min-nodes.ensures is.outcome;
       large = over_long solved.bound solved.proof.items c.deref.result.now c.in_ok-text.field-0 c.deref.ensures.value c.in_default.is
           c.in_ok-text.ensures;
     }
@@ -33,7 +33,8 @@ returns-clause-found g c =
       nodes = solved.proof.items;
       finished = solved.finished;
       first = is.first;
-      outcome = outcome_there w is.first _ _ is.best solved.bound solved.proof.items solved.finished c.requires.narrow is.outcome;
+      outcome = outcome_there w is.first c.min-nodes.result (min c.args.tree.nodes MAX_KEPT) _ is.best solved.bound solved.proof.items
+          solved.finished c.requires.narrow c.min-nodes.ensures is.outcome;
       holds = kept_holds w c.requires.narrow solved.bound is.outcome.outcome.holds;
       table = solved.table;
       fits = is.table;
