@@ -93,11 +93,11 @@ fn table_in(alloc: Global, room: u32) -> Result<Option<Timetable>, Fail> {
 /// Returns the result of a search on Roomy, and the entries of its best timetable.
 fn searched(alloc: Global, start: Start<'_>) -> Result<(Outcome, Vec<Entry>), Fail> {
     let instance = read_instance(alloc, ROOMY.as_bytes())?;
-    let is_start = start.root.len() <= 10
-        && are_patterns(&instance, start.root)
-        && is_table(&instance, &start.table);
-    if !is_start {
-        return Err(Fail::new("the start is wrong"));
+    if start.root.len() > 10 || !are_patterns(&instance, start.root) {
+        return Err(Fail::new("the root is wrong"));
+    }
+    if !is_table(&instance, &start.table) {
+        return Err(Fail::new("the timetable is wrong"));
     }
     let outcome = solve(alloc, &instance, start, 100, 1, &mut Unwatched)?;
     let mut entries = Vec::new(alloc);
