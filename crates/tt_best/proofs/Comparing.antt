@@ -1,5 +1,5 @@
 -- Comparisons of timetables by their hard counts and costs.
-use Rattle.std.proofs.Common.{◌≡◌, ◌≤◌, ℕ, Bool, List, Option, Some, None, sym, subst, arith}
+use Rattle.std.proofs.Common.{◌≡◌, ◌≤◌, ℕ, Bool, List, [], Option, Some, None, sym, subst, arith}
 use Rattle.std.proofs.lemmas.Option.{same_Some}
 use Rattle.tt_instance.specs.Problem.{Problem}
 use Rattle.tt_instance.specs.declared.cell.Cell.{Cell}
@@ -9,6 +9,7 @@ use Rattle.tt_search.specs.Constructed.{IsConstructed}
 use Rattle.tt_search.specs.Descent.{IsDescent}
 use Rattle.tt_branch.specs.Outcomes as branch
 use Rattle.tt_branch.specs.declared.limit.TheConstants.{FIRST_STEPS}
+use Rattle.tt_branch.proofs.Rootless.{begun_feasible}
 use Rattle.tt_best.specs.Weeks.{IsNoHigher, IsNoWorseThan, BeginsWell}
 
 -- a comparison after another
@@ -58,7 +59,7 @@ no_dearer p end t feasible less =
     (omega (arith, feasible.lectures, feasible.conflicts, feasible.availability, feasible.room_occupancy)) less
 
 -- the timetable that a tree has found begins well
-pub begun_found : (p : Problem) (t : List Cell) → IsFeasible p t → branch.BeginsWell p (Some t) → BeginsWell p t
+pub begun_found : (p : Problem) (t : List Cell) → IsFeasible p t → branch.BeginsWell p [] None (Some t) → BeginsWell p t
 begun_found p t feasible b = record {
   start = b.start;
   constructed = b.constructed;
@@ -66,7 +67,7 @@ begun_found p t feasible b = record {
   settled = b.settled;
   descent = b.descent;
   kept = λ end_feasible.
-      let found = b.kept end_feasible in
+      let found = begun_feasible p (Some t) b end_feasible in
       let same : t ≡ found.0 = same_Some t found.0 found.1 in
       no_dearer p b.end t feasible (subst (λ (u : List Cell). cost p u ≤ cost p b.end) (sym same) found.2);
 }

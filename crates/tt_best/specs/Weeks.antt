@@ -1,5 +1,5 @@
 -- The result of a search for a best timetable.
-use Rattle.std.specs.Prelude.{Bool, List, Option, IfSome}
+use Rattle.std.specs.Prelude.{Bool, List, [], Option, IfSome}
 use Rattle.tt_instance.specs.Problem.{Problem}
 use Rattle.tt_instance.specs.declared.cell.Cell.{Cell}
 use Rattle.tt_table.specs.Table.{IsTimetable}
@@ -8,14 +8,19 @@ use Rattle.tt_moves.specs.Changes.{IsBelow}
 use Rattle.tt_search.specs.Constructed.{IsConstructed}
 use Rattle.tt_search.specs.Descent.{IsDescent}
 use Rattle.tt_branch.specs.declared.limit.TheConstants.{FIRST_STEPS}
-use Rattle.tt_parts.specs.Found.{AreFound}
+use Rattle.tt_path.specs.declared.facts.Fact.{Fact}
+use Rattle.tt_parts.specs.Found.{AreFoundOn}
 use Rattle.tt_best.specs.declared.week.Week.{Week}
 
--- The entries are a timetable of the instance. Each proof spells a part that is right, no target is claimed by two of them, and their sum holds for
--- every feasible timetable.
-pub record IsWeek (p : Problem) (w : Week) : Type 0 where
+-- The entries are a timetable of the instance. Each proof spells a part that is right, with these facts at the roots of trees, no target is claimed by
+-- two of them, and their sum holds for every feasible timetable that fits the facts.
+pub record IsWeekOn (p : Problem) (root : List Fact) (w : Week) : Type 0 where
   pub table : IsTimetable p w.table
-  pub parts : AreFound p w.parts
+  pub parts : AreFoundOn p root w.parts
+
+-- The same without facts at the roots.
+abbrev pub IsWeek : Problem → Week → Type 0
+IsWeek p w = IsWeekOn p [] w
 
 -- The first timetable's hard count and cost are not below the second's: it breaks more hard rules, or as many and costs at least as much.
 abbrev pub IsNoHigher : Problem → List Cell → List Cell → Type 0

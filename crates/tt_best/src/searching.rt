@@ -106,7 +106,7 @@ fn begin<W: WatchRounds>(
         nodes: FIRST_NODES,
         seed: rounds.seed,
     };
-    search_bounds(alloc, instance, week, effort, watch)
+    search_bounds(alloc, instance, &[], week, effort, watch)
 }
 
 /// Searches for a better timetable until its cost is the bound.
@@ -152,7 +152,7 @@ fn search_round<W: WatchRounds>(
         return Ok(better);
     }
     let effort = Effort { nodes, seed };
-    search_bounds(alloc, instance, better, effort, watch)
+    search_bounds(alloc, instance, &[], better, effort, watch)
 }
 
 /// Searches for a best timetable and for proofs of a lower bound, in rounds, until they meet or the watch ends the search. It begins with the

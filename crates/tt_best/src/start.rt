@@ -1,11 +1,11 @@
 //! The timetable and the bound with which a search begins.
 
-ghost use Rattle.std.specs.Prelude.{IfOk, IfSome, IsTrue, None, ◌≡◌, ◌↔◌};
+ghost use Rattle.std.specs.Prelude.{IfOk, IfSome, IsTrue, None, [], ◌≡◌, ◌↔◌};
 ghost use Rattle.tt_table.specs.Table.{IsTimetable};
 ghost use Rattle.tt_rules.specs.Score.{IsFeasible};
 ghost use Rattle.tt_moves.specs.Changes.{IsBelow};
 ghost use Rattle.tt_branch.specs.Outcomes as branch;
-ghost use Rattle.tt_parts.specs.Found.{AreFound};
+ghost use Rattle.tt_parts.specs.Found.{AreFoundOn};
 ghost use Rattle.tt_best.specs.Weeks.{IsWeek, IsNoWorseThan, BeginsWell};
 
 use crate::week::Week;
@@ -14,6 +14,7 @@ use tt_branch::{FIRST_STEPS, Outcome, solve};
 use tt_instance::Instance;
 use tt_leaf::Bound;
 use tt_parts::{Parts, add_up, add_up_or_best};
+use tt_path::Fact;
 use tt_proof_read::Node;
 use tt_proof_write::{WriteFault, write_proof};
 use tt_rules::score;
@@ -22,7 +23,7 @@ use tt_table::Timetable;
 use tt_watch::Watch;
 
 /// The number of nodes of a tree that are opened.
-const TREE_NODES: u32 = 1_000;
+pub const TREE_NODES: u32 = 1_000;
 
 /// The version of the proof of a tree.
 const VERSION: u8 = 2;
@@ -110,7 +111,7 @@ fn table_after(
 ) -> Result<Timetable, AllocError>
     requires given { IfSome given (IsTimetable instance.now) }
     requires found { IfSome found (IsFeasible instance.now) }
-    requires begun { branch.BeginsWell instance.now found }
+    requires begun { branch.BeginsWell instance.now [] None found }
     ensures table { IfOk result (IsTimetable instance.now) }
     ensures no_worse { IfOk result (IsNoWorseThan instance.now given) }
     ensures begun { given ≡ None → IfOk result (BeginsWell instance.now) }
@@ -121,14 +122,15 @@ fn table_after(
     }
 }
 
-/// Returns the proof of a tree as the only proof of a sum; none if its text would be too long.
-fn parts_of_tree(
+/// Returns the proof of a tree below a root as the only proof of a sum; none if its text would be too long.
+pub fn parts_of_tree(
     alloc: Global,
     instance: &Instance<'_>,
+    root: &[Fact],
     bound: Bound,
     nodes: &[Node],
 ) -> Result<Parts, AllocError>
-    ensures { IfOk result (AreFound instance.now) }
+    ensures { IfOk result (AreFoundOn instance.now root.now) }
 {
     let text = match write_proof(alloc, VERSION, bound, nodes) {
         Ok(text) => text,
@@ -137,7 +139,7 @@ fn parts_of_tree(
     };
     let mut texts = Vec::new(alloc);
     texts.push(text)?;
-    match add_up(alloc, instance, texts)? {
+    match add_up(alloc, instance, root, texts)? {
         Some(parts) => Ok(parts),
         None => Ok(Parts::none(alloc)),
     }
@@ -156,14 +158,18 @@ fn search_tree<W: Watch>(
     ensures no_worse { IfOk result (λ w. IsNoWorseThan instance.now given w.table) }
     ensures begun { given ≡ None → IfOk result (λ w. BeginsWell instance.now w.table) }
 {
+    let tree = tt_branch::Start {
+        root: &[],
+        table: None,
+    };
     let Outcome {
         best,
         bound,
         proof,
         ..
-    } = solve(alloc, instance, TREE_NODES, seed, watch)?;
+    } = solve(alloc, instance, tree, TREE_NODES, seed, watch)?;
     Ok(Week {
-        parts: parts_of_tree(alloc, instance, bound, &proof)?,
+        parts: parts_of_tree(alloc, instance, &[], bound, &proof)?,
         table: table_after(alloc, instance, given, best, seed)?,
     })
 }
@@ -183,7 +189,7 @@ pub fn first_week<W: Watch>(
     ensures begun { start.entry.table ≡ None → IfOk result (λ w. BeginsWell instance.now w.table) }
 {
     let Start { table, proofs } = start;
-    if let Some(parts) = add_up_or_best(alloc, instance, proofs)? {
+    if let Some(parts) = add_up_or_best(alloc, instance, &[], proofs)? {
         let table = first_table(alloc, instance, table, seed)?;
         return Ok(Week { table, parts });
     }

@@ -1,5 +1,5 @@
 -- A better timetable, and nodes that are opened.
-use Rattle.std.proofs.Common.{◌≡◌, ℕ, zero, suc, ◌+◌, ◌*◌, ◌≤◌, Bool, true, false, List, [], ◌∷◌, ◌++◌, length, length-append, Option, Some, None, refl, sym, ap, ◌∙◌, subst, arith}
+use Rattle.std.proofs.Common.{◌≡◌, ℕ, zero, suc, ◌+◌, ◌*◌, ◌≤◌, Bool, true, false, List, [], ◌∷◌, ◌++◌, length, length-append, Option, Some, None, refl, sym, ap, ◌∙◌, subst, arith, append_assoc}
 use Rattle.std.proofs.Common.{not, get_or}
 use Rattle.std.specs.Prelude.{slice_get, slice_set, IfSome, IsNone}
 use Rattle.std.specs.Option.{is_some}
@@ -7,6 +7,8 @@ use Rattle.tt_path.specs.declared.facts.Fact.{Fact}
 use Rattle.std.specs.List.{AllByRecursion, list_any}
 use Rattle.std.proofs.lemmas.List.Sums.{sum_by-append, count_by-le-length}
 use Rattle.std.proofs.lemmas.Bool.{or_parts, or_left, or_right}
+use Rattle.std.proofs.lemmas.List.Elements.{All-from_recursion, recursion_from_All}
+use Rattle.tt_list_laws.proofs.Members.{each_of_append}
 use Rattle.std.proofs.lemmas.Option.{get_or_from_slice_get}
 use Rattle.tt_list_laws.proofs.Sums.{one_if, count_by-cons}
 use Rattle.tt_list_laws.proofs.Zipped.{zip_and, zip_cut, zip_other}
@@ -14,6 +16,7 @@ use Rattle.tt_list_laws.proofs.Cuts.{cut_at, set_cut, get_next, get_after}
 use Rattle.tt_instance.specs.Problem.{Problem}
 use Rattle.tt_instance.specs.declared.cell.Cell.{Cell}
 use Rattle.tt_rules.specs.Score.{IsFeasible, cost}
+use Rattle.tt_path.specs.Facts.{Holds, Fits}
 use Rattle.tt_path.specs.declared.facts.Pattern.{Pattern}
 use Rattle.tt_leaf_find.specs.Found.{ArePatterns}
 use Rattle.tt_leaf.specs.declared.leaf.Leaf.{Leaf}
@@ -27,8 +30,8 @@ use Rattle.tt_branch.specs.declared.tree_node.TreeNode.{TreeNode}
 use Rattle.tt_branch.specs.declared.links.Link.{Link}
 use Rattle.tt_branch.specs.declared.search.Search.{Search}
 use Rattle.tt_branch.specs.Inner.Growing.{node_of, IsKnown, IsSameNode, IsGrown, was_opened, is_open, IsSingle, HasMark, IsOpenAt, opened_in}
-use Rattle.tt_branch.specs.Inner.BestSoFar.{IsBestSoFar, table_of, Advances}
-use Rattle.tt_branch.specs.Inner.Links.{path_at, AreLinks, link_of, divided_links}
+use Rattle.tt_branch.specs.Inner.BestSoFar.{IsBestSoFar, FitsRoot, table_of, Advances}
+use Rattle.tt_branch.specs.Inner.Links.{path_at, AreLinks, IsRooted, link_of, divided_links}
 use Rattle.tt_branch.specs.Inner.State.{IsSplitAt, MakesWait, EndsAt}
 use Rattle.tt_branch.specs.Inner.Written.{IsReached}
 use Rattle.tt_branch.proofs.Chains.{links_more}
@@ -37,42 +40,74 @@ use Rattle.tt_branch.proofs.Ending.{shallow}
 
 -- ---- the best timetable
 
-pub advance_same : (p : Problem) (old : Option Best) → IsBestSoFar p old → Advances p old old
-advance_same p old k = record { kept = k; grown = λ links tree_nodes g. g; no_dearer = λ t w. w }
-
-pub advance_twice : (p : Problem) (old mid new : Option Best) → Advances p old mid → Advances p mid new → Advances p old new
-advance_twice p old mid new a b = record {
-  kept = b.kept;
-  grown = λ links tree_nodes g. b.grown links tree_nodes (a.grown links tree_nodes g);
-  no_dearer = λ t w. b.no_dearer t (a.no_dearer t w);
+pub advance_same : (p : Problem) (path : List Fact) (old : Option Best) → IsBestSoFar p old → Advances p path old old
+advance_same p path old k = record {
+  kept = k;
+  grown = λ root links tree_nodes g. g;
+  no_dearer = λ t w. w;
+  fits = λ root above f. f;
 }
 
-pub advance_to : (p : Problem) (old : Option Best) (new : Best) → IsBetter p (table_of old) new.table → IsFeasible p new.table
-    → new.cost ≡ cost p new.table → Advances p old (Some new)
-advance_to p old new better feasible costs = record {
+pub advance_twice : (p : Problem) (path : List Fact) (old mid new : Option Best) → Advances p path old mid → Advances p path mid new
+    → Advances p path old new
+advance_twice p path old mid new a b = record {
+  kept = b.kept;
+  grown = λ root links tree_nodes g. b.grown root links tree_nodes (a.grown root links tree_nodes g);
+  no_dearer = λ t w. b.no_dearer t (a.no_dearer t w);
+  fits = λ root above f. b.fits root above (a.fits root above f);
+}
+
+-- a root above another root of the path is above the path
+rooted_twice : (root other path : List Fact) → IsRooted root other → IsRooted other path → IsRooted root path
+rooted_twice root other path above r = record {
+  below = above.below ++ r.below;
+  whole = r.whole ∙ ap (λ l. l ++ r.below) above.whole ∙ append_assoc root above.below r.below;
+}
+
+-- a better timetable for a path is one for each root above it
+pub advance_above : (p : Problem) (root path : List Fact) (old new : Option Best) → IsRooted root path → Advances p path old new
+    → Advances p root old new
+advance_above p root path old new r a = record {
+  kept = a.kept;
+  grown = a.grown;
+  no_dearer = a.no_dearer;
+  fits = λ other above f. a.fits other (rooted_twice other root path above r) f;
+}
+
+-- a timetable that fits a path fits each root above it
+fits_above : (p : Problem) (root path : List Fact) (t : List Cell) → IsRooted root path → Fits p t path → Fits p t root
+fits_above p root path t r fits =
+    let whole = recursion_from_All (Holds p t) (root ++ r.below) (subst (λ (l : List Fact). Fits p t l) r.whole fits) in
+    All-from_recursion (Holds p t) root (each_of_append (Holds p t) root r.below whole).0
+
+pub advance_to : (p : Problem) (path : List Fact) (old : Option Best) (new : Best) → IsBetter p (table_of old) new.table
+    → IsFeasible p new.table → new.cost ≡ cost p new.table → Fits p new.table path → Advances p path old (Some new)
+advance_to p path old new better feasible costs fits = record {
   kept = record { feasible = feasible; cost = costs };
-  grown = λ links tree_nodes g. grow_better p (table_of old) new.table links tree_nodes better g;
+  grown = λ root links tree_nodes g. grow_better p root (table_of old) new.table links tree_nodes better g;
   no_dearer = λ t w.
       let b = subst (λ o. IsBetter p o new.table) w.1 better in
       (new.table, refl, omega (arith, b, w.2));
+  fits = λ root above f. fits_above p root path new.table above fits;
 }
 
 -- ---- nodes that are reached
 
 -- the facts of a node fit on a path, and their numbers are in the range of the instance
-pub record IsThere (p : Problem) (links : List Link) (e : TreeNode) : Type 0 where
-  pub reached : IsReached links e.link
-  pub patterns : ArePatterns p (path_at links e.link)
+pub record IsThere (p : Problem) (root : List Fact) (links : List Link) (e : TreeNode) : Type 0 where
+  pub reached : IsReached root links e.link
+  pub patterns : ArePatterns p (path_at root links e.link)
 
-pub each_there : (p : Problem) (best : Option (List Cell)) (links : List Link) (tree_nodes : List TreeNode)
-    → IsGrown p best links tree_nodes → length tree_nodes ≤ 131073 → AllByRecursion (IsThere p links) tree_nodes
-each_there p best links tree_nodes grown at_most =
-    zip_other (λ x e. IsSameNode p best links x e × (length x.path ≤ 65536)) (IsThere p links) (λ x e h. record {
+pub each_there : (p : Problem) (root : List Fact) (best : Option (List Cell)) (links : List Link) (tree_nodes : List TreeNode)
+    → IsGrown p root best links tree_nodes → 2 * length root + length tree_nodes ≤ 131073
+    → AllByRecursion (IsThere p root links) tree_nodes
+each_there p root best links tree_nodes grown at_most =
+    zip_other (λ x e. IsSameNode p root best links x e × (length x.path ≤ 65536)) (IsThere p root links) (λ x e h. record {
       reached = record { within = h.0.link; depth = subst (λ q. length q ≤ 65536) (sym h.0.path) h.1 };
       patterns = subst (ArePatterns p) (sym h.0.path) h.0.patterns;
-    }) (on_paths [] grown.tree) tree_nodes
-    (zip_and (IsSameNode p best links) (λ x. length x.path ≤ 65536) (on_paths [] grown.tree) tree_nodes
-    (shallow p best links tree_nodes grown at_most) grown.together)
+    }) (on_paths root grown.tree) tree_nodes
+    (zip_and (IsSameNode p root best links) (λ x. length x.path ≤ 65536) (on_paths root grown.tree) tree_nodes
+    (shallow p root best links tree_nodes grown at_most) grown.together)
 
 -- ---- opened nodes
 
@@ -88,34 +123,32 @@ one_opened : (m : NodeState) → was_opened m ≡ true → one_if (was_opened m)
 one_opened m e = ap one_if e
 
 -- a new mark replaces the mark of a node that waits
-pub record IsOpening (p : Problem) (old new : Option Best) (links : List Link) (tree_nodes more : List TreeNode) : Type 0 where
-  pub grown : IsGrown p (table_of new) links more
-  pub opened : opened_in more ≡ opened_in tree_nodes + 1
-  pub many : length more ≡ length tree_nodes
+pub record IsOpening (p : Problem) (root : List Fact) (best : Option Best) (links : List Link) (old new : List TreeNode) : Type 0 where
+  pub grown : IsGrown p root (table_of best) links new
+  pub opened : opened_in new ≡ opened_in old + 1
+  pub many : length new ≡ length old
 
-shown_leaf : (p : Problem) (links : List Link) (e : TreeNode) (m : NodeState) → IsSingle m
-    → (leaf : Leaf) × (node_of p (path_at links e.link) m ≡ node.Leaf leaf)
-shown_leaf p links e (Split g) s = absurd s
-shown_leaf p links e (Closed leaf) s = (leaf, refl)
-shown_leaf p links e (Opened g) s = (best_leaf p (path_at links e.link), refl)
-shown_leaf p links e Unopened s = (best_leaf p (path_at links e.link), refl)
+shown_leaf : (p : Problem) (path : List Fact) (m : NodeState) → IsSingle m → (leaf : Leaf) × (node_of p path m ≡ node.Leaf leaf)
+shown_leaf p path (Split g) s = absurd s
+shown_leaf p path (Closed leaf) s = (leaf, refl)
+shown_leaf p path (Opened g) s = (best_leaf p path, refl)
+shown_leaf p path Unopened s = (best_leaf p path, refl)
 
-pub opening : (p : Problem) (old new : Option Best) (links : List Link) (tree_nodes more : List TreeNode) (place : ℕ) (e put : TreeNode)
-    → IsGrown p (table_of old) links tree_nodes → Advances p old new → slice_get tree_nodes place ≡ Some e → e.mark ≡ Unopened
-    → put.link ≡ e.link
-    → IsKnown p (table_of new) (path_at links e.link) put.mark → was_opened put.mark ≡ true → IsSingle put.mark
-    → more ≡ slice_set tree_nodes place put → IsOpening p old new links tree_nodes more
-opening p old new links tree_nodes more place e put grown better at waits same known opened single is =
+pub opening : (p : Problem) (root facts : List Fact) (old new : Option Best) (links : List Link) (tree_nodes more : List TreeNode)
+    (place : ℕ) (e put : TreeNode) → IsGrown p root (table_of old) links tree_nodes → Advances p facts old new → slice_get tree_nodes place ≡ Some e
+    → e.mark ≡ Unopened → put.link ≡ e.link → IsKnown p (table_of new) (path_at root links e.link) put.mark
+    → was_opened put.mark ≡ true → IsSingle put.mark → more ≡ slice_set tree_nodes place put → IsOpening p root new links tree_nodes more
+opening p root facts old new links tree_nodes more place e put grown better at waits same known opened single is =
     let cut = cut_at tree_nodes place e at in
     let before = cut.before in
     let after = cut.after in
     let made : more ≡ before ++ put ∷ after = is ∙ ap (λ l. slice_set l place put) cut.whole
     ∙ ap (λ n. slice_set (before ++ e ∷ after) n put) (sym cut.place) ∙ set_cut before e after put in
-    let here = subst (IsGrown p (table_of new) links) cut.whole (better.grown links tree_nodes grown) in
-    let leaf = shown_leaf p links e put.mark single in
+    let here = subst (IsGrown p root (table_of new) links) cut.whole (better.grown root links tree_nodes grown) in
+    let leaf = shown_leaf p (path_at root links e.link) put.mark single in
     record {
-      grown = subst (IsGrown p (table_of new) links) (sym made)
-          (grow_mark p (table_of new) links before e put after here (ap is_open waits) same known leaf.0 leaf.1);
+      grown = subst (IsGrown p root (table_of new) links) (sym made)
+          (grow_mark p root (table_of new) links before e put after here (ap is_open waits) same known leaf.0 leaf.1);
       opened = omega (
         arith,
         ap opened_in made,
@@ -136,19 +169,20 @@ waits_split place g old new s =
     let yes = link_of s.was.link g true in
     let no = link_of s.was.link g false in
     record {
-      under_way = λ p u.
-          let here = subst (IsGrown p (table_of old.best) links) s.old_tree_nodes u.grown in
-          let w = zip_cut (IsSameNode p (table_of old.best) links) (on_paths [] here.tree) s.before s.was s.after here.together in
+      under_way = λ p root u.
+          let here = subst (IsGrown p root (table_of old.best) links) s.old_tree_nodes u.grown in
+          let w = zip_cut (IsSameNode p root (table_of old.best) links) (on_paths root here.tree) s.before s.was s.after here.together in
           let inside : s.was.link ≤ length links = w.5.link in
           let ok = links_more (links ++ yes ∷ []) no (links_more links yes u.links inside)
           (omega (arith, length-append links (yes ∷ []))) in
           record {
             kept = subst (IsBestSoFar p) (sym s.best) u.kept;
+            fits = subst (FitsRoot p root) (sym s.best) u.fits;
             links = subst AreLinks (sym s.links) ok;
-            grown = subst (λ b. IsGrown p (table_of b) new.links.items new.tree_nodes.items) (sym s.best)
-                (subst (λ l. IsGrown p (table_of old.best) l new.tree_nodes.items) (sym s.links)
-                (subst (IsGrown p (table_of old.best) (divided_links links s.was.link g)) (sym s.tree_nodes)
-                (grow_split p (table_of old.best) links s.before s.was s.after g s.divided s.first s.second u.links here s.opened
+            grown = subst (λ b. IsGrown p root (table_of b) new.links.items new.tree_nodes.items) (sym s.best)
+                (subst (λ l. IsGrown p root (table_of old.best) l new.tree_nodes.items) (sym s.links)
+                (subst (IsGrown p root (table_of old.best) (divided_links links s.was.link g)) (sym s.tree_nodes)
+                (grow_split p root (table_of old.best) links s.before s.was s.after g s.divided s.first s.second u.links here s.opened
                 s.division)));
           };
       waiting = (
@@ -201,7 +235,7 @@ waits_second place g old new s =
     }
 
 pub waits_same : (place : ℕ) (old : Search) → HasMark old.tree_nodes.items place Unopened → MakesWait place old place old
-waits_same place old h = record { under_way = λ p u. u; waiting = h; opened = refl; many = omega arith; best = refl }
+waits_same place old h = record { under_way = λ p root u. u; waiting = h; opened = refl; many = omega arith; best = refl }
 
 -- ---- the end of the rounds
 
@@ -227,17 +261,18 @@ pub ends_open : (limit : ℕ) (tree_nodes : List TreeNode) → list_any (λ e. i
 ends_open limit tree_nodes some e h = (some, omega (arith, count_by-le-length (λ (k : TreeNode). was_opened k.mark) tree_nodes), h)
 
 -- an opening in the form in which the code reads the node and moves the path
-pub opening_there : (p q : Problem) (facts : List Fact) (old new : Option Best) (links : List Link) (tree_nodes more : List TreeNode)
-    (place : ℕ) (read put : TreeNode) → q ≡ p → facts ≡ path_at links read.link → read ≡ get_or tree_nodes place read
-    → HasMark tree_nodes place Unopened → IsGrown p (table_of old) links tree_nodes
-    → Advances q old new → IsKnown q (table_of new) facts put.mark → was_opened put.mark ≡ true → IsSingle put.mark
-    → put.link ≡ read.link → more ≡ slice_set tree_nodes place put → IsOpening p old new links tree_nodes more
-opening_there p q facts old new links tree_nodes more place read put same there is waits grown better known opened single link made =
+pub opening_there : (p q : Problem) (root facts : List Fact) (old new : Option Best) (links : List Link) (tree_nodes more : List TreeNode)
+    (place : ℕ) (read put : TreeNode) → q ≡ p → facts ≡ path_at root links read.link → read ≡ get_or tree_nodes place read
+    → HasMark tree_nodes place Unopened → IsGrown p root (table_of old) links tree_nodes
+    → Advances q facts old new → IsKnown q (table_of new) facts put.mark → was_opened put.mark ≡ true → IsSingle put.mark
+    → put.link ≡ read.link → more ≡ slice_set tree_nodes place put → IsOpening p root new links tree_nodes more
+opening_there p q root facts old new links tree_nodes more place read put same there is waits grown better known opened single link made =
     let e = waits.0 in
     let met : read.link ≡ e.link = ap (λ (x : TreeNode). x.link) (is ∙ get_or_from_slice_get tree_nodes place e read waits.1) in
-    opening p old new links tree_nodes more place e put grown (subst (λ (r : Problem). Advances r old new) same better) waits.1 waits.2
+    opening p root facts old new links tree_nodes more place e put grown
+    (subst (λ (r : Problem). Advances r facts old new) same better) waits.1 waits.2
     (link ∙ met)
-    (subst (λ (l : List Fact). IsKnown p (table_of new) l put.mark) (there ∙ ap (path_at links) met)
+    (subst (λ (l : List Fact). IsKnown p (table_of new) l put.mark) (there ∙ ap (path_at root links) met)
     (subst (λ (r : Problem). IsKnown r (table_of new) facts put.mark) same known))
     opened single made
 

@@ -20,9 +20,9 @@ use Rattle.tt_leaf_rules.specs.Claims.{total_of}
 use Rattle.tt_leaf.specs.declared.leaf.Bound.{Bound}
 use Rattle.tt_leaf.specs.declared.leaf.Bound.TheVariants.{AtLeast}
 use Rattle.tt_leaf.specs.declared.leaf.Leaf.{Leaf}
-use Rattle.tt_proof_read.specs.Trees.{Tree, Tip, Fork, OnPath, on_paths, preorder, with_fact, IsShallow}
+use Rattle.tt_proof_read.specs.Trees.{Tree, Tip, Fork, OnPath, on_paths, preorder, with_fact}
 use Rattle.tt_proof_read.specs.declared.node.Node.TheVariants as node
-use Rattle.tt_proof_check.specs.Derives.{Derives}
+use Rattle.tt_proof_check.specs.Derives.{Derives, IsShallowOn}
 use Rattle.tt_proof_check.specs.Explains.{IsRightOn, Passes}
 use Rattle.tt_proof_check.proofs.Walking.{passed_tree}
 use Rattle.tt_leaf_find.specs.Best.{best_claims, best_leaf}
@@ -69,29 +69,38 @@ preorder-on_paths root (Fork g a b) =
     ∙ ap (λ l. l ++ map (λ x. x.node) (on_paths (with_fact root g false) b)) (preorder-on_paths (with_fact root g true) a)
     ∙ ap (λ l. preorder a ++ l) (preorder-on_paths (with_fact root g false) b))
 
+-- no node is too deep, if the root has few enough facts and the tree few enough nodes
+shallow_below : (root : List Fact) (tree : Tree) → 2 * length root + length (on_paths root tree) ≤ 131073
+    → AllByRecursion (λ x. length x.path ≤ 65536) (on_paths root tree)
+shallow_below root tree h = each_weaker (λ x. length x.path ≤ length root + splits tree) (λ x. length x.path ≤ 65536)
+    (λ x k. omega (arith, length-on_paths root tree)) (on_paths root tree) (depth-le root tree)
+
 -- ---- the end
 
-module _ (p : Problem) (best : Option (List Cell)) (links : List Link) (tree_nodes : List TreeNode)
-    (grown : IsGrown p best links tree_nodes) where
+module _ (p : Problem) (root : List Fact) (best : Option (List Cell)) (links : List Link) (tree_nodes : List TreeNode)
+    (grown : IsGrown p root best links tree_nodes) where
   abbrev xs : List OnPath
-  xs = on_paths [] grown.tree
+  xs = on_paths root grown.tree
 
   pub as_many : length xs ≡ length tree_nodes
-  as_many = zip_length (IsSameNode p best links) xs tree_nodes grown.together
+  as_many = zip_length (IsSameNode p root best links) xs tree_nodes grown.together
 
-  -- no node is too deep, if the tree has at most as many nodes as a search can make
-  pub shallow : length tree_nodes ≤ 131073 → AllByRecursion (λ x. length x.path ≤ 65536) xs
-  shallow h = each_weaker (λ x. length x.path ≤ 0 + splits grown.tree) (λ x. length x.path ≤ 65536)
-      (λ x k. omega (arith, as_many, length-on_paths [] grown.tree)) xs (depth-le [] grown.tree)
+  -- no node is too deep, if root and tree have at most as many facts and nodes as in a search
+  pub shallow : 2 * length root + length tree_nodes ≤ 131073 → AllByRecursion (λ x. length x.path ≤ 65536) xs
+  shallow h = shallow_below root grown.tree (omega (arith, as_many))
+
+  -- the same without the facts of the root
+  pub shallow_alone : length tree_nodes ≤ 131073 → AllByRecursion (λ x. length x.path ≤ 65536) (on_paths [] grown.tree)
+  shallow_alone h = shallow_below [] grown.tree (omega (arith, as_many, length-on_paths root grown.tree, length-on_paths [] grown.tree))
 
   pub well_split : All (SplitsWell p) xs
   well_split = All-from_recursion (SplitsWell p) xs
-      (zip_each (IsSameNode p best links) (SplitsWell p) (splits_well p best links) xs tree_nodes grown.together)
+      (zip_each (IsSameNode p root best links) (SplitsWell p) (splits_well p root best links) xs tree_nodes grown.together)
 
-  proved_by : (b : Bound) → length tree_nodes ≤ 131073 → AllByRecursion (λ x. IsRightOn p b x.path x.node) xs → IsShallow grown.tree
-      × Derives p b [] grown.tree
+  proved_by : (b : Bound) → 2 * length root + length tree_nodes ≤ 131073 → AllByRecursion (λ x. IsRightOn p b x.path x.node) xs
+      → IsShallowOn root grown.tree × Derives p b root grown.tree
   proved_by b h right =
-      passed_tree p b grown.tree
+      passed_tree p root b grown.tree
       (All-from_recursion (Passes p b) xs (each_both (λ x. length x.path ≤ 65536) (λ x. IsRightOn p b x.path x.node) xs
       (shallow h) right))
 
@@ -104,7 +113,7 @@ module _ (p : Problem) (best : Option (List Cell)) (links : List Link) (tree_nod
   closed_right x (Opened g) n k e = cc
   closed_right x Unopened n k e = cc
 
-  all_closed : (ys : List OnPath) (es : List TreeNode) → AllZip (IsSameNode p best links) ys es
+  all_closed : (ys : List OnPath) (es : List TreeNode) → AllZip (IsSameNode p root best links) ys es
       → list_any (λ e. is_open e.mark) es ≡ false → AllByRecursion (λ x. IsRightOn p (final_bound p best) x.path x.node) ys
   all_closed [] [] h e = tt
   all_closed [] (m ∷ es) h e = absurd h
@@ -114,8 +123,8 @@ module _ (p : Problem) (best : Option (List Cell)) (links : List Link) (tree_nod
       (closed_right y m.mark h.0.node h.0.known a.0, all_closed ys es h.1 a.1)
 
   -- if no node is open, the tree derives the cost of the best timetable, or that no timetable exists
-  pub finished_proves : length tree_nodes ≤ 131073 → list_any (λ e. is_open e.mark) tree_nodes ≡ false → IsShallow grown.tree
-      × Derives p (final_bound p best) [] grown.tree
+  pub finished_proves : 2 * length root + length tree_nodes ≤ 131073 → list_any (λ e. is_open e.mark) tree_nodes ≡ false
+      → IsShallowOn root grown.tree × Derives p (final_bound p best) root grown.tree
   finished_proves h e = proved_by (final_bound p best) h (all_closed xs tree_nodes grown.together e)
 
   -- ---- some nodes are open
@@ -142,18 +151,19 @@ module _ (p : Problem) (best : Option (List Cell)) (links : List Link) (tree_nod
 
     all_known : AllByRecursion (λ x. IsRightOn p (AtLeast v) x.path x.node) xs
     all_known = each_member (λ x. IsRightOn p (AtLeast v) x.path x.node) xs (λ x i.
-        let w = at_member (λ y. (e : TreeNode) × IsSameNode p best links y e) xs x
-        (zip_each (IsSameNode p best links) (λ y. (e : TreeNode) × IsSameNode p best links y e)
+        let w = at_member (λ y. (e : TreeNode) × IsSameNode p root best links y e) xs x
+        (zip_each (IsSameNode p root best links) (λ y. (e : TreeNode) × IsSameNode p root best links y e)
         (λ y e s. (e, s)) xs tree_nodes grown.together) i in
         known_right x w.0.mark w.1.node w.1.known i)
 
     -- the tree derives the least value of a Cost leaf
-    pub unfinished_proves : length tree_nodes ≤ 131073 → IsShallow grown.tree × Derives p (AtLeast v) [] grown.tree
+    pub unfinished_proves : 2 * length root + length tree_nodes ≤ 131073 → IsShallowOn root grown.tree
+        × Derives p (AtLeast v) root grown.tree
     unfinished_proves h = proved_by (AtLeast v) h all_known
 
   -- -- leaves of a value below the best cost are those of the best claims
 
-  greedy_at : (x : OnPath) (e : TreeNode) → IsSameNode p best links x e → IsGreedy p best x
+  greedy_at : (x : OnPath) (e : TreeNode) → IsSameNode p root best links x e → IsGreedy p best x
   greedy_at x e s n k c = by_mark e.mark s.node s.known
     where
       dear : (o : Option (List Cell)) (leaf : Leaf) → x.node ≡ node.Leaf leaf → IsCheaper p o n
@@ -170,4 +180,4 @@ module _ (p : Problem) (best : Option (List Cell)) (links : List Link) (tree_nod
 
   pub greedy : All (IsGreedy p best) xs
   greedy = All-from_recursion (IsGreedy p best) xs
-      (zip_each (IsSameNode p best links) (IsGreedy p best) greedy_at xs tree_nodes grown.together)
+      (zip_each (IsSameNode p root best links) (IsGreedy p best) greedy_at xs tree_nodes grown.together)

@@ -14,5 +14,6 @@ pub mod Concluding
 pub mod Improving
 pub mod Moving
 pub mod OneTimetable
+pub mod Rootless
 pub mod Until
 mod Numbers

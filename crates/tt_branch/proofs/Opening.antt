@@ -9,7 +9,7 @@ use Rattle.tt_instance.specs.Limits.{IsInstance}
 use Rattle.tt_instance.specs.Courses.{unavailable}
 use Rattle.tt_instance.specs.declared.cell.Cell.{Cell}
 use Rattle.tt_rules.specs.Score.{IsFeasible, cost}
-use Rattle.tt_path.specs.Facts.{matches, has_fact}
+use Rattle.tt_path.specs.Facts.{matches, has_fact, Fits}
 use Rattle.tt_path.specs.Live.{is_live}
 use Rattle.tt_path.specs.declared.facts.Pattern.{Pattern}
 use Rattle.tt_path.specs.declared.facts.Fact.{Fact}
@@ -20,7 +20,7 @@ use Rattle.tt_leaf.specs.declared.leaf.Bound.TheVariants.{AtLeast}
 use Rattle.tt_leaf_find.specs.Best.{best_leaf}
 use Rattle.tt_leaf_find.specs.Found.{Closes}
 use Rattle.tt_leaf_find.specs.Pinned.{IsPinnedDown, IsOpen}
-use Rattle.tt_leaf_find.proofs.Fitting.{is_feasible}
+use Rattle.tt_leaf_find.proofs.Fitting.{is_feasible, fits}
 use Rattle.tt_leaf_find.proofs.Closing.{cost-le_total}
 use Rattle.tt_leaf_find.proofs.Answering.{best_answer}
 use Rattle.tt_branch.specs.Outcomes.{final_bound}
@@ -54,6 +54,7 @@ splits_on p path g b s none = record {
 -- for its cost
 pub record IsSolved (p : Problem) (path : List Fact) (best : Option (List Cell)) (t : List Cell) : Type 0 where
   pub feasible : IsFeasible p t
+  pub fits : Fits p t path
   pub better : IsBetter p best t
   pub closes : Closes p path (AtLeast (cost p t)) (best_leaf p path)
 
@@ -69,6 +70,7 @@ pub solved : (p : Problem) (path : List Fact) (best : Option (List Cell)) → Is
     → IsOpen p path (final_bound p best) → IsSolved p path best (live_cells p path)
 solved p path best ok pins none = record {
   feasible = is_feasible p path pins (final_bound p best) none;
+  fits = fits p path pins (final_bound p best) none;
   better = better p path best ok pins none;
   closes = record {
     right = best_right p path (cost p (live_cells p path)) (cost-le_total p path pins ok (final_bound p best) none);

@@ -1,7 +1,8 @@
 -- The steps of a search preserve the properties of its tree, and its end proves its bound.
 use Rattle.std.proofs.Common.{◌≡◌, ℕ, suc, ◌≤◌, Bool, true, false, List, [], ◌∷◌, ◌++◌, length, length-append, Option, Some, None, refl, sym, ap, ◌∙◌, subst, arith}
 use Rattle.std.specs.Prelude.{slice_get, ⊤}
-use Rattle.std.proofs.lemmas.List.Elements.{All-nil, All-push}
+use Rattle.std.proofs.lemmas.List.{append-nil}
+use Rattle.std.proofs.lemmas.List.Elements.{All-push}
 use Rattle.std.specs.List.{AllZip}
 use Rattle.tt_list_laws.proofs.Zipped.{zip_cut, zip_append, zip_weaker}
 use Rattle.tt_list_laws.proofs.Cuts.{at_first, at_next}
@@ -21,6 +22,7 @@ use Rattle.tt_leaf.specs.declared.leaf.Leaf.TheVariants.{Empty, Many, Clique, Sl
 use Rattle.tt_proof_read.specs.Trees.{Tip, Fork, OnPath, on_paths, with_fact}
 use Rattle.tt_proof_read.specs.declared.node.Node.TheVariants as node
 use Rattle.tt_leaf_find.specs.Best.{best_claims, best_leaf}
+use Rattle.tt_leaf_find.specs.Found.{ArePatterns}
 use Rattle.tt_leaf_find.proofs.Claims.{all_different, all_fair}
 use Rattle.tt_branch.specs.declared.tree_node.NodeState.{NodeState}
 use Rattle.tt_branch.specs.declared.tree_node.NodeState.TheVariants.{Split, Closed, Opened, Unopened}
@@ -90,15 +92,15 @@ open_leaf p (Closed leaf) path e = cc
 open_leaf p (Opened g) path e = refl
 open_leaf p Unopened path e = refl
 
-module _ (p : Problem) where
+module _ (p : Problem) (root : List Fact) where
   -- a better timetable was found
   pub grow_better : (best : Option (List Cell)) (t : List Cell) (links : List Link) (tree_nodes : List TreeNode) → IsBetter p best t
-      → IsGrown p best links tree_nodes → IsGrown p (Some t) links tree_nodes
+      → IsGrown p root best links tree_nodes → IsGrown p root (Some t) links tree_nodes
   grow_better best t links tree_nodes h grown = record {
     tree = grown.tree;
-    together = zip_weaker (IsSameNode p best links) (IsSameNode p (Some t) links)
+    together = zip_weaker (IsSameNode p root best links) (IsSameNode p root (Some t) links)
         (λ x e s. record { node = s.node; known = by_mark x.path e.mark s.known; link = s.link; path = s.path; patterns = s.patterns })
-        (on_paths [] grown.tree) tree_nodes grown.together;
+        (on_paths root grown.tree) tree_nodes grown.together;
   }
     where
       by_mark : (path : List Fact) (m : NodeState) → IsKnown p best path m → IsKnown p (Some t) path m
@@ -109,33 +111,33 @@ module _ (p : Problem) where
 
   module _ (best : Option (List Cell)) where
     -- further links change nothing
-    pub grow_links : (links : List Link) (l : Link) (tree_nodes : List TreeNode) → AreLinks links → IsGrown p best links tree_nodes
-        → IsGrown p best (links ++ l ∷ []) tree_nodes
+    pub grow_links : (links : List Link) (l : Link) (tree_nodes : List TreeNode) → AreLinks links → IsGrown p root best links tree_nodes
+        → IsGrown p root best (links ++ l ∷ []) tree_nodes
     grow_links links l tree_nodes ok grown = record {
       tree = grown.tree;
-      together = zip_weaker (IsSameNode p best links) (IsSameNode p best (links ++ l ∷ [])) (λ x e s. record {
+      together = zip_weaker (IsSameNode p root best links) (IsSameNode p root best (links ++ l ∷ [])) (λ x e s. record {
         node = s.node;
         known = s.known;
         link = omega (arith, s.link, length-append links (l ∷ []));
-        path = path_at-more links (l ∷ []) ok e.link s.link ∙ s.path;
+        path = path_at-more root links (l ∷ []) ok e.link s.link ∙ s.path;
         patterns = s.patterns;
-      }) (on_paths [] grown.tree) tree_nodes grown.together;
+      }) (on_paths root grown.tree) tree_nodes grown.together;
     }
 
     -- more is known about an open node, on its path
     pub grow_mark : (links : List Link) (before : List TreeNode) (e new : TreeNode) (after : List TreeNode)
-        → IsGrown p best links (before ++ e ∷ after) → is_open e.mark ≡ true → new.link ≡ e.link
-        → IsKnown p best (path_at links e.link) new.mark → (leaf : Leaf) → node_of p (path_at links e.link) new.mark ≡ node.Leaf leaf
-        → IsGrown p best links (before ++ new ∷ after)
+        → IsGrown p root best links (before ++ e ∷ after) → is_open e.mark ≡ true → new.link ≡ e.link
+        → IsKnown p best (path_at root links e.link) new.mark → (leaf : Leaf)
+        → node_of p (path_at root links e.link) new.mark ≡ node.Leaf leaf → IsGrown p root best links (before ++ new ∷ after)
     grow_mark links before e new after grown o same known leaf shown =
-        let R = IsSameNode p best links in
-        let w = zip_cut R (on_paths [] grown.tree) before e after grown.together in
+        let R = IsSameNode p root best links in
+        let w = zip_cut R (on_paths root grown.tree) before e after grown.together in
         let x = w.1 in
         let s = w.5 in
         let k = subst (λ q. IsKnown p best q new.mark) s.path known in
         let l = subst (λ q. node_of p q new.mark ≡ node.Leaf leaf) s.path shown in
         let here = w.3 ∙ ap (λ n. w.0 ++ on_path x.path n ∷ w.2) (s.node ∙ open_leaf p e.mark x.path o) in
-        let r = graft [] grown.tree w.0 x.path (best_leaf p x.path) w.2 here (Tip leaf) in
+        let r = graft root grown.tree w.0 x.path (best_leaf p x.path) w.2 here (Tip leaf) in
         record {
           tree = r.0;
           together =
@@ -145,7 +147,7 @@ module _ (p : Problem) where
                   node = sym l;
                   known = k;
                   link = subst (λ n. n ≤ length links) (sym same) s.link;
-                  path = ap (path_at links) same
+                  path = ap (path_at root links) same
                       ∙ s.path;
                   patterns = s.patterns;
                 },
@@ -155,29 +157,29 @@ module _ (p : Problem) where
 
     -- a node that was opened is split
     pub grow_split : (links : List Link) (before : List TreeNode) (e : TreeNode) (after : List TreeNode) (g : Pattern)
-        (d a b : TreeNode) → AreLinks links → IsGrown p best links (before ++ e ∷ after) → e.mark ≡ Opened g
-        → IsSplitInto links e g d a b → IsGrown p best (divided_links links e.link g) (before ++ d ∷ a ∷ b ∷ after)
+        (d a b : TreeNode) → AreLinks links → IsGrown p root best links (before ++ e ∷ after) → e.mark ≡ Opened g
+        → IsSplitInto links e g d a b → IsGrown p root best (divided_links links e.link g) (before ++ d ∷ a ∷ b ∷ after)
     grow_split links before e after g d a b ok grown opened new =
         let yes = link_of e.link g true in
         let no = link_of e.link g false in
         let links1 = links ++ yes ∷ [] in
         let links2 = links1 ++ no ∷ [] in
-        let first = zip_cut (IsSameNode p best links) (on_paths [] grown.tree) before e after grown.together in
+        let first = zip_cut (IsSameNode p root best links) (on_paths root grown.tree) before e after grown.together in
         let inside : e.link ≤ length links = first.5.link in
         let len1 = length-append links (yes ∷ []) in
         let len2 = length-append links1 (no ∷ []) in
         let ok1 = links_more links yes ok inside in
         let ok2 = links_more links1 no ok1 (omega arith) in
         let grown2 = grow_links links1 no (before ++ e ∷ after) ok1 (grow_links links yes (before ++ e ∷ after) ok grown) in
-        let R = IsSameNode p best links2 in
-        let w = zip_cut R (on_paths [] grown2.tree) before e after grown2.together in
+        let R = IsSameNode p root best links2 in
+        let w = zip_cut R (on_paths root grown2.tree) before e after grown2.together in
         let x = w.1 in
         let s = w.5 in
         let here = w.3 ∙ ap (λ n. w.0 ++ on_path x.path n ∷ w.2) (s.node ∙ ap (node_of p x.path) opened) in
         let known : IsSplitOn p x.path g = subst (IsKnown p best x.path) opened s.known in
         let yes' = best_leaf p (with_fact x.path g true) in
         let no' = best_leaf p (with_fact x.path g false) in
-        let r = graft [] grown2.tree w.0 x.path (best_leaf p x.path) w.2 here (Fork g (Tip yes') (Tip no')) in
+        let r = graft root grown2.tree w.0 x.path (best_leaf p x.path) w.2 here (Fork g (Tip yes') (Tip no')) in
         let at1 = ap (λ q. q ++ record { pattern = g; holds = true } ∷ []) s.path in
         let at2 = ap (λ q. q ++ record { pattern = g; holds = false } ∷ []) s.path in
         let get1 : slice_get links2 (length links) ≡ Some yes = at_first links1 (no ∷ []) (length links) (omega arith)
@@ -191,21 +193,21 @@ module _ (p : Problem) where
           node = sym (ap (node_of p x.path) new.divided);
           known = subst (IsKnown p best x.path) (sym new.divided) known;
           link = subst (λ n. n ≤ length links2) (sym new.same_link) s.link;
-          path = ap (path_at links2) new.same_link ∙ s.path;
+          path = ap (path_at root links2) new.same_link ∙ s.path;
           patterns = s.patterns;
         } in
         let one : R (on_path (with_fact x.path g true) (node.Leaf yes')) a = record {
           node = sym (ap (node_of p (with_fact x.path g true)) new.first);
           known = subst (IsKnown p best (with_fact x.path g true)) (sym new.first) tt;
           link = omega arith;
-          path = ap (path_at links2) place1 ∙ path_at-next links2 ok2 (length links) yes get1 ∙ at1;
+          path = ap (path_at root links2) place1 ∙ path_at-next root links2 ok2 (length links) yes get1 ∙ at1;
           patterns = patterns true;
         } in
         let two : R (on_path (with_fact x.path g false) (node.Leaf no')) b = record {
           node = sym (ap (node_of p (with_fact x.path g false)) new.second);
           known = subst (IsKnown p best (with_fact x.path g false)) (sym new.second) tt;
           link = omega arith;
-          path = ap (path_at links2) place2 ∙ path_at-next links2 ok2 (length links1) no get2 ∙ at2;
+          path = ap (path_at root links2) place2 ∙ path_at-next root links2 ok2 (length links1) no get2 ∙ at2;
           patterns = patterns false;
         } in
         record {
@@ -218,16 +220,17 @@ module _ (p : Problem) where
         }
 
   -- the tree that consists of the root
-  pub grow_root : (best : Option (List Cell)) (e : TreeNode) → e.mark ≡ Unopened → e.link ≡ 0 → IsGrown p best [] (e ∷ [])
-  grow_root best e m l = record {
-    tree = Tip (best_leaf p []);
+  pub grow_root : (best : Option (List Cell)) (e : TreeNode) → ArePatterns p root → e.mark ≡ Unopened → e.link ≡ 0
+      → IsGrown p root best [] (e ∷ [])
+  grow_root best e patterns m l = record {
+    tree = Tip (best_leaf p root);
     together = (
       record {
-        node = sym (ap (node_of p []) m);
-        known = subst (IsKnown p best []) (sym m) tt;
+        node = sym (ap (node_of p root) m);
+        known = subst (IsKnown p best root) (sym m) tt;
         link = omega (arith, l);
-        path = ap (path_at []) l;
-        patterns = All-nil (λ f. IsPattern p f.pattern);
+        path = ap (path_at root []) l ∙ append-nil root;
+        patterns = patterns;
       },
       tt,
     );
@@ -236,7 +239,7 @@ module _ (p : Problem) where
   -- ---- the end
 
   -- each split satisfies its condition
-  pub splits_well : (best : Option (List Cell)) (links : List Link) (x : OnPath) (e : TreeNode) → IsSameNode p best links x e
+  pub splits_well : (best : Option (List Cell)) (links : List Link) (x : OnPath) (e : TreeNode) → IsSameNode p root best links x e
       → SplitsWell p x
   splits_well best links x e s k is = by_mark e.mark s.node s.known
     where

@@ -48,11 +48,12 @@ abbrev pub IsShortNode : Node → Type 0
 IsShortNode (node.Split g) = ⊤
 IsShortNode (node.Leaf leaf) = IsShortLeaf leaf
 
--- A proof of the bound: its numbers are in the range of the instance, and the only limit of a file that it can exceed is that of its bytes.
-pub record IsSearched (p : Problem) (b : Bound) (tree : Tree) (nodes : List Node) : Type 0 where
+-- A proof of the bound on the root: its numbers are in the range of the instance, and the only limit of a file that it can exceed is that of its
+-- bytes.
+pub record IsSearched (p : Problem) (root : List Fact) (b : Bound) (tree : Tree) (nodes : List Node) : Type 0 where
   pub spelled : preorder tree ≡ nodes
-  pub derives : Derives p b [] tree
-  pub splits : All (SplitsWell p) (on_paths [] tree)
+  pub derives : Derives p b root tree
+  pub splits : All (SplitsWell p) (on_paths root tree)
   pub numbers : All (IsNodeOf p) nodes
   pub short : All IsShortNode nodes
   pub within : AreWithin b nodes

@@ -1,19 +1,22 @@
 //! The best timetable that a search has found.
 
-ghost use Rattle.std.specs.Prelude.{◌≡◌, IfOk, IfSome, OnOk, IsNone, List};
+ghost use Rattle.std.specs.Prelude.{◌≡◌, true, IfOk, IfSome, OnOk, IsNone, List};
 ghost use Rattle.tt_instance.specs.Problem.{Problem};
 ghost use Rattle.tt_instance.specs.declared.cell.Cell.{Cell};
 ghost use Rattle.tt_table.specs.Table.{IsTimetable};
 ghost use Rattle.tt_rules.specs.Score.{IsFeasible};
+ghost use Rattle.tt_path.specs.Facts.{Fits};
 ghost use Rattle.tt_search.specs.Improved.{IsNoWorse};
-ghost use Rattle.tt_branch.specs.Outcomes.{final_bound, BeginsWell, IsNoDearer};
-ghost use Rattle.tt_branch.specs.Inner.BestSoFar.{IsBestSoFar, table_of, IsCosted};
+ghost use Rattle.tt_branch.specs.Outcomes.{final_bound, BeginsWell, IsNoDearer, Keeps};
+ghost use Rattle.tt_branch.specs.Inner.BestSoFar.{IsBestSoFar, FitsRoot, table_of, IsCosted};
 
+use crate::fitting::is_fitting;
 use crate::improvement::Improvement;
 use crate::limit::FIRST_STEPS;
 use std::alloc::{AllocError, Global};
 use tt_instance::Instance;
 use tt_leaf::Bound;
+use tt_path::Fact;
 use tt_rules::score;
 use tt_search::{construct, descend, improve};
 use tt_table::Timetable;
@@ -76,16 +79,18 @@ pub struct Best {
     pub cost: u64,
 }
 
-/// Returns the timetable with its cost, if it breaks no hard rule.
-fn if_feasible(instance: &Instance<'_>, table: Timetable) -> Option<Best>
+/// Returns the timetable with its cost, if it breaks no hard rule and fits the root.
+fn if_feasible(instance: &Instance<'_>, root: &[Fact], table: Timetable) -> Option<Best>
     requires { IsTimetable instance.now table }
     ensures costed { IfSome result (λ b. IsCosted instance.now b) }
+    ensures fits { FitsRoot instance.now root.now result }
     ensures table { IfSome result (λ b. b.table ≡ table) }
-    ensures none { IsNone result → ¬ IsFeasible instance.now table }
-    ensures no_dearer { (t : List Cell) → IsNoWorse instance.now t table → IsFeasible instance.now t → IsNoDearer instance.now (table_of result) t }
+    ensures none { IsNone result → IsFeasible instance.now table → ¬ Fits instance.now table root.now }
+    ensures no_dearer { (t : List Cell) → IsNoWorse instance.now t table → IsFeasible instance.now t → Fits instance.now table root.now
+        → IsNoDearer instance.now (table_of result) t }
 {
     let counts = score(instance, &table);
-    if !counts.feasible() {
+    if !counts.feasible() || !is_fitting(instance, &table, root) {
         return None;
     }
     Some(Best {
@@ -133,16 +138,29 @@ fn is_cheaper(instance: &Instance<'_>, one: &Timetable, other: &Timetable) -> bo
     first.hard() < second.hard() || (first.hard() == second.hard() && first.cost() < second.cost())
 }
 
-/// Improves a timetable in turns, each from the start, until one reaches the goal or the search is to end; returns the best of all.
+/// Returns whether a timetable that was found is to replace the best one: it fits the root, and the best one doesn't or is worse.
+fn is_better(instance: &Instance<'_>, root: &[Fact], found: &Timetable, best: &Timetable) -> bool
+    requires found { IsTimetable instance.now found.now }
+    requires best { IsTimetable instance.now best.now }
+    ensures { result ≡ true → Fits instance.now found.now root.now }
+{
+    is_fitting(instance, found, root)
+        && (!is_fitting(instance, best, root) || is_cheaper(instance, found, best))
+}
+
+/// Improves a timetable in turns, each from the start, until one reaches the goal or the search is to end; returns the best of those that fit the
+/// root, or else the timetable itself.
 fn improve_to<W: Watch>(
     alloc: Global,
     instance: &Instance<'_>,
+    root: &[Fact],
     table: Timetable,
     improvement: Improvement,
     watch: &mut W,
 ) -> Result<Timetable, AllocError>
     requires { IsTimetable instance.now table }
-    ensures { IfOk result (IsNoWorse instance.now table) }
+    ensures no_worse { IfOk result (IsNoWorse instance.now table) }
+    ensures fits { Fits instance.now table root.now → IfOk result (λ t. Fits instance.now t root.now) }
 {
     let Improvement { seed, goal, turns } = improvement;
     let size = size_of(instance, &table);
@@ -161,29 +179,55 @@ fn improve_to<W: Watch>(
             steps_of(turn, size).min(turns.most_steps),
             watch,
         )?;
-        if is_cheaper(instance, &found, &best) {
+        if is_better(instance, root, &found, &best) {
             best = found;
         }
     }
     Ok(best)
 }
 
-/// Returns the timetable that a search begins with: the result of a descent from a constructed one, improved in this many turns
-/// or until it costs at most a goal or the search is to end, if it breaks no hard rule. The same seed gives the same timetable, unless the watch
-/// ends the search.
-pub fn first_best<W: Watch>(
+/// Returns the result of the improvement of a timetable, if it breaks no hard rule and fits the root.
+fn best_from<W: Watch>(
     alloc: Global,
     instance: &Instance<'_>,
+    root: &[Fact],
+    table: Timetable,
     improvement: Improvement,
     watch: &mut W,
 ) -> Result<Option<Best>, AllocError>
+    requires { IsTimetable instance.now table }
     ensures best { IfOk result (IsBestSoFar instance.now) }
-    ensures begun { IfOk result (λ best. BeginsWell instance.now (table_of best)) }
+    ensures fits { IfOk result (FitsRoot instance.now root.now) }
+    ensures kept { IfOk result (λ best. Keeps instance.now root.now (table_of best) table) }
 {
-    let table = construct(alloc, instance, improvement.seed)?;
-    let descent = descend(alloc, instance, table, FIRST_STEPS)?;
-    let improved = improve_to(alloc, instance, descent.table, improvement, watch)?;
-    Ok(if_feasible(instance, improved))
+    let improved = improve_to(alloc, instance, root, table, improvement, watch)?;
+    Ok(if_feasible(instance, root, improved))
+}
+
+/// Returns the timetable that a search begins with: the given one, or else the result of a descent from a constructed one, improved in this many turns
+/// or until it costs at most a goal or the search is to end, if it breaks no hard rule and fits the root. The same seed gives the same timetable,
+/// unless the watch ends the search.
+pub fn first_best<W: Watch>(
+    alloc: Global,
+    instance: &Instance<'_>,
+    root: &[Fact],
+    given: Option<Timetable>,
+    improvement: Improvement,
+    watch: &mut W,
+) -> Result<Option<Best>, AllocError>
+    requires { IfSome given (IsTimetable instance.now) }
+    ensures best { IfOk result (IsBestSoFar instance.now) }
+    ensures fits { IfOk result (FitsRoot instance.now root.now) }
+    ensures begun { IfOk result (λ best. BeginsWell instance.now root.now given (table_of best)) }
+{
+    match given {
+        Some(table) => best_from(alloc, instance, root, table, improvement, watch),
+        None => {
+            let table = construct(alloc, instance, improvement.seed)?;
+            let descent = descend(alloc, instance, table, FIRST_STEPS)?;
+            best_from(alloc, instance, root, descent.table, improvement, watch)
+        }
+    }
 }
 
 /// Returns the bound that closes a node: no timetable costs less than the best, or no timetable exists.

@@ -1,6 +1,7 @@
 //! Proofs on the way.
 
-ghost use Rattle.std.specs.Prelude.{◌≡◌, ◌≤◌, length};
+ghost use Rattle.std.specs.Prelude.{◌≡◌, ◌≤◌, ◌+◌, ◌*◌, length, OnOk};
+ghost use Rattle.tt_branch.specs.Inner.Links.{IsRooted};
 ghost use Rattle.tt_branch.specs.Inner.State.{IsUnderWay};
 ghost use Rattle.tt_branch.specs.declared.limit.TheConstants.{MAX_TREE};
 
@@ -8,7 +9,7 @@ use crate::nodes::{Written, write_nodes};
 use crate::search::Search;
 use std::alloc::{AllocError, Global};
 use tt_leaf::Bound;
-use tt_path::Path;
+use tt_path::{Fact, Path};
 use tt_proof_read::Node;
 use tt_proof_write::{WriteFault, write_proof};
 use tt_watch::Watch;
@@ -35,12 +36,15 @@ fn give<W: Watch>(
 pub fn give_if_asked<'i, P: Path<'i>, W: Watch>(
     alloc: Global,
     path: &mut P,
+    root: &[Fact],
     search: &Search,
     place: usize,
     watch: &mut W,
 ) -> Result<(), AllocError>
-    requires under_way { IsUnderWay (P.problem path.old) search.now }
-    requires at_most { length search.now.tree_nodes.items ≤ MAX_TREE }
+    requires rooted { IsRooted root.now (P.facts path.old) }
+    requires under_way { IsUnderWay (P.problem path.old) root.now search.now }
+    requires at_most { 2 * length root.now + length search.now.tree_nodes.items ≤ MAX_TREE }
+    ensures rooted { OnOk result (IsRooted root.now (P.facts path.new)) }
     ensures unchanged { P.problem path.new ≡ P.problem path.old }
 {
     // Brings the instance's limits into the proof.
@@ -52,6 +56,7 @@ pub fn give_if_asked<'i, P: Path<'i>, W: Watch>(
     let Written { nodes, least } = write_nodes(
         alloc,
         path,
+        root,
         search.links.as_slice(),
         search.tree_nodes.as_slice(),
         true,

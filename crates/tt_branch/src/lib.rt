@@ -3,6 +3,7 @@
 
 mod best;
 mod copying;
+mod fitting;
 mod improvement;
 mod keeping;
 mod laws;
@@ -20,4 +21,4 @@ mod watching;
 
 pub use laws::pinned_paths_leave_one_timetable;
 pub use limit::{FIRST_STEPS, MAX_OPENED};
-pub use solving::{Outcome, solve};
+pub use solving::{Outcome, Start, solve};

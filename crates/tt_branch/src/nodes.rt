@@ -1,10 +1,10 @@
 //! The proof made of a tree.
 
-ghost use Rattle.std.specs.Prelude.{◌≡◌, ◌≤◌, length, true, IfOk, All, IsTrue};
+ghost use Rattle.std.specs.Prelude.{◌≡◌, ◌≤◌, length, true, IfOk, OnOk, All, IsTrue};
 ghost use Rattle.tt_path.specs.Live.{least};
 ghost use Rattle.tt_proof_check.specs.Nodes.{IsNodeOf};
 ghost use Rattle.tt_branch.specs.Inner.Growing.{node_at, worth_at, nodes_of, worths_of};
-ghost use Rattle.tt_branch.specs.Inner.Links.{path_at, AreLinks};
+ghost use Rattle.tt_branch.specs.Inner.Links.{path_at, AreLinks, IsRooted};
 ghost use Rattle.tt_branch.specs.Proofs.{node_worth};
 ghost use Rattle.tt_branch.specs.Inner.Steps.{lower};
 ghost use Rattle.tt_branch.specs.Inner.Written.{IsReached, IsWritable, IsOnceNode};
@@ -17,7 +17,7 @@ use std::alloc::{AllocError, Global};
 use tt_leaf::Leaf;
 use tt_leaf_find::best_claims;
 use tt_leaf_rules::leaf_value;
-use tt_path::Path;
+use tt_path::{Fact, Path};
 use tt_proof_read::Node;
 
 /// The nodes of a proof in preorder, and the least value of a Cost leaf, if it was asked for.
@@ -31,19 +31,22 @@ pub struct Written {
 fn node_for<'i, P: Path<'i>>(
     alloc: Global,
     path: &mut P,
+    root: &[Fact],
     links: &[Link],
     tree_node: &TreeNode,
 ) -> Result<Node, AllocError>
+    requires rooted { IsRooted root.now (P.facts path.old) }
     requires links { AreLinks links.now }
-    requires reached { IsReached links.now tree_node.now.link }
-    ensures node { IfOk result (λ n. n ≡ node_at (P.problem path.old) links.now tree_node.now) }
+    requires reached { IsReached root.now links.now tree_node.now.link }
+    ensures node { IfOk result (λ n. n ≡ node_at (P.problem path.old) root.now links.now tree_node.now) }
+    ensures rooted { OnOk result (IsRooted root.now (P.facts path.new)) }
     ensures unchanged { P.problem path.new ≡ P.problem path.old }
 {
     match &tree_node.mark {
         NodeState::Split(pattern) => Ok(Node::Split(*pattern)),
         NodeState::Closed(leaf) => Ok(Node::Leaf(copy_leaf(alloc, leaf)?)),
         NodeState::Opened(_) | NodeState::Unopened => {
-            go_to(alloc, path, links, tree_node.link)?;
+            go_to(alloc, path, root, links, tree_node.link)?;
             Ok(Node::Leaf(best_claims(alloc, path)?))
         }
     }
@@ -53,15 +56,18 @@ fn node_for<'i, P: Path<'i>>(
 fn worth_of<'i, P: Path<'i>>(
     alloc: Global,
     path: &mut P,
+    root: &[Fact],
     links: &[Link],
     link: usize,
     node: &Node,
 ) -> Result<Option<u64>, AllocError>
+    requires rooted { IsRooted root.now (P.facts path.old) }
     requires links { AreLinks links.now }
-    requires reached { IsReached links.now link }
+    requires reached { IsReached root.now links.now link }
     requires numbers { IsNodeOf (P.problem path.old) node.now }
     requires once { IsOnceNode node.now }
-    ensures worth { IfOk result (λ w. w ≡ node_worth (P.problem path.old) (path_at links.now link) node.now) }
+    ensures worth { IfOk result (λ w. w ≡ node_worth (P.problem path.old) (path_at root.now links.now link) node.now) }
+    ensures rooted { OnOk result (IsRooted root.now (P.facts path.new)) }
     ensures unchanged { P.problem path.new ≡ P.problem path.old }
 {
     match node {
@@ -69,7 +75,7 @@ fn worth_of<'i, P: Path<'i>>(
             if !matches!(leaf, Leaf::Cost(_)) {
                 return Ok(None);
             }
-            go_to(alloc, path, links, link)?;
+            go_to(alloc, path, root, links, link)?;
             Ok(Some(leaf_value(path, leaf)))
         }
         Node::Split(_) => Ok(None),
@@ -90,14 +96,17 @@ fn lower(worth: Option<u64>, least: Option<u64>) -> Option<u64>
 pub fn write_nodes<'i, P: Path<'i>>(
     alloc: Global,
     path: &mut P,
+    root: &[Fact],
     links: &[Link],
     tree_nodes: &[TreeNode],
     valued: bool,
 ) -> Result<Written, AllocError>
+    requires rooted { IsRooted root.now (P.facts path.old) }
     requires links { AreLinks links.now }
-    requires each { All (IsWritable (P.problem path.old) links.now) tree_nodes.now }
-    ensures nodes { IfOk result (λ w. w.nodes.items ≡ nodes_of (P.problem path.old) links.now tree_nodes.now) }
-    ensures least { IfOk result (λ w. valued ≡ true → w.least ≡ least (worths_of (P.problem path.old) links.now tree_nodes.now)) }
+    requires each { All (IsWritable (P.problem path.old) root.now links.now) tree_nodes.now }
+    ensures nodes { IfOk result (λ w. w.nodes.items ≡ nodes_of (P.problem path.old) root.now links.now tree_nodes.now) }
+    ensures least { IfOk result (λ w. valued ≡ true → w.least ≡ least (worths_of (P.problem path.old) root.now links.now tree_nodes.now)) }
+    ensures rooted { OnOk result (IsRooted root.now (P.facts path.new)) }
     ensures unchanged { P.problem path.new ≡ P.problem path.old }
 {
     let mut nodes = Vec::new(alloc);
@@ -106,9 +115,10 @@ pub fn write_nodes<'i, P: Path<'i>>(
     while left > 0 {
         left -= 1;
         let tree_node = &tree_nodes[left];
-        let node = node_for(alloc, path, links, tree_node)?;
+        let node = node_for(alloc, path, root, links, tree_node)?;
         if valued {
-            least = lower(worth_of(alloc, path, links, tree_node.link, &node)?, least);
+            let worth = worth_of(alloc, path, root, links, tree_node.link, &node)?;
+            least = lower(worth, least);
         }
         nodes.push(node)?;
     }

@@ -3,8 +3,10 @@
 ghost use Rattle.std.specs.Prelude.{◌≡◌, ◌<◌, ◌≤◌, ◌+◌, ◌*◌, ◌⊎◌, length, true, IfOk, OnOk, IfSome, IsNone};
 ghost use Rattle.tt_branch.specs.Inner.Growing.{IsOpenAt, is_open, opened_in};
 ghost use Rattle.tt_branch.specs.Inner.BestSoFar.{Advances};
+ghost use Rattle.tt_branch.specs.Inner.Links.{IsRooted};
 ghost use Rattle.tt_branch.specs.Inner.State.{IsUnderWay, MakesWait, EndsAt};
-ghost use Rattle.tt_branch.specs.declared.limit.TheConstants.{MAX_OPENED, MAX_TREE};
+ghost use Rattle.tt_branch.specs.declared.limit.TheConstants.{MAX_TREE};
+ghost use Rattle.tt_path.specs.declared.path.TheConstants.{MAX_FACTS};
 
 use crate::keeping::give_if_asked;
 use crate::search::{Search, next_open, split};
@@ -12,7 +14,7 @@ use crate::tree_node::NodeState;
 use crate::visit::open_at;
 use crate::watching::show;
 use std::alloc::{AllocError, Global};
-use tt_path::{Path, Pattern};
+use tt_path::{Fact, Path, Pattern};
 use tt_watch::Watch;
 
 /// Splits a node if it was opened; returns the place of the node to open next: of two children, the one expected to have the lower value.
@@ -34,20 +36,23 @@ fn make_wait(search: &mut Search, place: usize) -> Result<usize, AllocError>
 fn open_next<'i, P: Path<'i>>(
     alloc: Global,
     path: &mut P,
+    root: &[Fact],
     search: &mut Search,
     place: usize,
 ) -> Result<(), AllocError>
-    requires under_way { IsUnderWay (P.problem path.old) search.old }
+    requires rooted { IsRooted root.now (P.facts path.old) }
+    requires under_way { IsUnderWay (P.problem path.old) root.now search.old }
     requires place { IsOpenAt search.old.tree_nodes.items place }
-    requires at_most { length search.old.tree_nodes.items ≤ MAX_TREE }
-    ensures under_way { OnOk result (IsUnderWay (P.problem path.old) search.new) }
-    ensures better { OnOk result (Advances (P.problem path.old) search.old.best search.new.best) }
+    requires at_most { 2 * length root.now + length search.old.tree_nodes.items ≤ MAX_TREE }
+    ensures rooted { OnOk result (IsRooted root.now (P.facts path.new)) }
+    ensures under_way { OnOk result (IsUnderWay (P.problem path.old) root.now search.new) }
+    ensures better { OnOk result (Advances (P.problem path.old) root.now search.old.best search.new.best) }
     ensures opened { OnOk result (opened_in search.new.tree_nodes.items ≡ opened_in search.old.tree_nodes.items + 1) }
     ensures many { OnOk result (length search.new.tree_nodes.items ≤ length search.old.tree_nodes.items + 2) }
     ensures unchanged { P.problem path.new ≡ P.problem path.old }
 {
     let next = make_wait(search, place)?;
-    open_at(alloc, path, search, next)
+    open_at(alloc, path, root, search, next)
 }
 
 /// The end of the rounds of a search.
@@ -63,17 +68,20 @@ pub struct Ending {
 pub fn grow<'i, P: Path<'i>, W: Watch>(
     alloc: Global,
     path: &mut P,
+    root: &[Fact],
     search: &mut Search,
     limit: u32,
     watch: &mut W,
 ) -> Result<Ending, AllocError>
-    requires under_way { IsUnderWay (P.problem path.old) search.old }
-    requires root { opened_in search.old.tree_nodes.items ≡ 1 }
+    requires rooted { IsRooted root.now (P.facts path.old) }
+    requires under_way { IsUnderWay (P.problem path.old) root.now search.old }
+    requires opened { opened_in search.old.tree_nodes.items ≡ 1 }
     requires alone { length search.old.tree_nodes.items ≡ 1 }
     requires positive { 1 ≤ limit }
-    requires at_most { limit ≤ MAX_OPENED }
-    ensures under_way { OnOk result (IsUnderWay (P.problem path.old) search.new) }
-    ensures better { OnOk result (Advances (P.problem path.old) search.old.best search.new.best) }
+    requires at_most { length root.now + limit ≤ MAX_FACTS }
+    ensures rooted { OnOk result (IsRooted root.now (P.facts path.new)) }
+    ensures under_way { OnOk result (IsUnderWay (P.problem path.old) root.now search.new) }
+    ensures better { OnOk result (Advances (P.problem path.old) root.now search.old.best search.new.best) }
     ensures ends { IfOk result (λ e. EndsAt e.opened search.new.tree_nodes.items e.finished) }
     ensures within { IfOk result (λ e. e.opened ≤ limit) }
     ensures all { IfOk result (λ e. (e.opened ≡ limit) ⊎ W.has_ended watch.new) }
@@ -93,8 +101,8 @@ pub fn grow<'i, P: Path<'i>, W: Watch>(
                 finished: false,
             });
         }
-        give_if_asked(alloc, path, search, place, watch)?;
-        open_next(alloc, path, search, place)?;
+        give_if_asked(alloc, path, root, search, place, watch)?;
+        open_next(alloc, path, root, search, place)?;
     }
     Ok(Ending {
         opened: limit,

@@ -1,10 +1,12 @@
 //! The state of a search: a tree that grows, and the best timetable.
 
-ghost use Rattle.std.specs.Prelude.{◌≡◌, ◌<◌, ◌+◌, [], ◌∷◌, ◌++◌, length, IfOk, OnOk, IfSome, IsNone, true, false, slice_set, vec_len};
+ghost use Rattle.std.specs.Prelude.{◌≡◌, ◌<◌, ◌+◌, [], ◌∷◌, ◌++◌, List, length, IfOk, OnOk, IfSome, IsNone, true, false, slice_set, vec_len};
 ghost use Rattle.std.specs.List.{list_any};
 ghost use Rattle.tt_instance.specs.Problem.{Problem};
+ghost use Rattle.tt_path.specs.declared.facts.Fact.{Fact};
+ghost use Rattle.tt_leaf_find.specs.Found.{ArePatterns};
 ghost use Rattle.tt_branch.specs.Inner.Growing.{IsOpenAt, HasMark, is_open, opened_in};
-ghost use Rattle.tt_branch.specs.Inner.BestSoFar.{IsBestSoFar};
+ghost use Rattle.tt_branch.specs.Inner.BestSoFar.{IsBestSoFar, FitsRoot};
 ghost use Rattle.tt_branch.specs.Inner.Links.{link_of};
 ghost use Rattle.tt_branch.specs.Inner.State.{IsUnderWay, IsSplitAt};
 
@@ -25,7 +27,8 @@ pub struct Search {
 impl Search {
     /// Creates a search with only the root, which waits.
     pub fn new(alloc: Global, best: Option<Best>) -> Result<Search, AllocError>
-        ensures under_way { IfOk result (λ s. (p : Problem) → IsBestSoFar p best → IsUnderWay p s) }
+        ensures under_way { IfOk result (λ s. (p : Problem) (root : List Fact) → ArePatterns p root → IsBestSoFar p best
+            → FitsRoot p root best → IsUnderWay p root s) }
         ensures best { IfOk result (λ s. s.best ≡ best) }
         ensures alone { IfOk result (λ s. length s.tree_nodes.items ≡ 1) }
         ensures unopened { IfOk result (λ s. opened_in s.tree_nodes.items ≡ 0) }

@@ -1,13 +1,13 @@
 //! Opening nodes.
 
-ghost use Rattle.std.specs.Prelude.{◌≡◌, ◌<◌, ◌≤◌, ◌+◌, length, true, IfOk, OnOk};
+ghost use Rattle.std.specs.Prelude.{◌≡◌, ◌<◌, ◌≤◌, ◌+◌, ◌*◌, length, true, IfOk, OnOk};
 ghost use Rattle.tt_instance.specs.Problem.{Problem};
 ghost use Rattle.tt_path.specs.declared.path.TheConstants.{MAX_FACTS};
 ghost use Rattle.tt_leaf_find.specs.Found.{ArePatterns};
 ghost use Rattle.tt_leaf_find.specs.Pinned.{IsPinnedDown, IsOpen};
 ghost use Rattle.tt_branch.specs.Inner.Growing.{IsKnown, IsSingle, HasMark, was_opened, opened_in};
 ghost use Rattle.tt_branch.specs.Inner.BestSoFar.{IsBestSoFar, table_of, Advances};
-ghost use Rattle.tt_branch.specs.Inner.Links.{path_at, AreLinks};
+ghost use Rattle.tt_branch.specs.Inner.Links.{path_at, AreLinks, IsRooted};
 ghost use Rattle.tt_branch.specs.Outcomes.{final_bound};
 ghost use Rattle.tt_branch.specs.Inner.State.{IsUnderWay};
 ghost use Rattle.tt_branch.specs.declared.limit.TheConstants.{MAX_TREE};
@@ -26,21 +26,24 @@ use tt_leaf_rules::leaf_value;
 use tt_path::{Fact, Path, PathFault, Pattern};
 use tt_rules::score;
 
-/// Replaces the facts of a path by those of a node.
+/// Replaces the facts of a path by those of a node; those of the root stay.
 pub fn go_to<'i, P: Path<'i>>(
     alloc: Global,
     path: &mut P,
+    root: &[Fact],
     links: &[Link],
     place: usize,
 ) -> Result<(), AllocError>
+    requires rooted { IsRooted root.now (P.facts path.old) }
     requires links { AreLinks links.now }
     requires place { place ≤ length links.now }
-    requires depth { length (path_at links.now place) ≤ MAX_FACTS }
-    ensures there { OnOk result (P.facts path.new ≡ path_at links.now place) }
+    requires depth { length (path_at root.now links.now place) ≤ MAX_FACTS }
+    ensures there { OnOk result (P.facts path.new ≡ path_at root.now links.now place) }
+    ensures rooted { OnOk result (IsRooted root.now (P.facts path.new)) }
     ensures unchanged { P.problem path.new ≡ P.problem path.old }
 {
     let facts = facts_to(alloc, links, place)?;
-    match move_to(path, facts.as_slice()) {
+    match move_to(path, root.len() as u32, facts.as_slice()) {
         Ok(()) => Ok(()),
         Err(PathFault::OutOfMemory) => Err(AllocError),
         Err(PathFault::TooDeep) => unreachable!(),
@@ -63,7 +66,7 @@ fn take_live<'i, P: Path<'i>>(
     requires pinned { IsPinnedDown (P.problem path.now) (P.facts path.now) }
     requires unclosed { IsOpen (P.problem path.now) (P.facts path.now) (final_bound (P.problem path.now) (table_of best.old)) }
     ensures known { IfOk result (λ leaf. IsKnown (P.problem path.now) (table_of best.new) (P.facts path.now) (NodeState.Closed leaf)) }
-    ensures better { OnOk result (Advances (P.problem path.now) best.old best.new) }
+    ensures better { OnOk result (Advances (P.problem path.now) (P.facts path.now) best.old best.new) }
 {
     // Brings the instance's limits into the proof.
     prove!(path.instance().days() <= 64);
@@ -102,7 +105,7 @@ fn open<'i, P: Path<'i>>(
     ensures known { IfOk result (λ o. IsKnown (P.problem path.now) (table_of best.new) (P.facts path.now) o.mark) }
     ensures opened { IfOk result (λ o. was_opened o.mark ≡ true) }
     ensures single { IfOk result (λ o. IsSingle o.mark) }
-    ensures better { OnOk result (Advances (P.problem path.now) best.old best.new) }
+    ensures better { OnOk result (Advances (P.problem path.now) (P.facts path.now) best.old best.new) }
 {
     let bound = bound_of(best);
     if let Some(leaf) = find_leaf(alloc, path, bound)? {
@@ -126,7 +129,8 @@ fn rise<'i, P: Path<'i>>(
     fact: Fact,
     points: u64,
 ) -> Result<u64, AllocError>
-    ensures { P.problem path.new ≡ P.problem path.old }
+    ensures facts { OnOk result (P.facts path.new ≡ P.facts path.old) }
+    ensures unchanged { P.problem path.new ≡ P.problem path.old }
 {
     match path.push(fact) {
         Ok(()) => {}
@@ -145,7 +149,8 @@ fn rises_of<'i, P: Path<'i>>(
     split: Option<Pattern>,
     points: u64,
 ) -> Result<ChildGains, AllocError>
-    ensures { P.problem path.new ≡ P.problem path.old }
+    ensures facts { OnOk result (P.facts path.new ≡ P.facts path.old) }
+    ensures unchanged { P.problem path.new ≡ P.problem path.old }
 {
     let Some(pattern) = split else {
         return Ok(ChildGains::NONE);
@@ -167,20 +172,23 @@ fn rises_of<'i, P: Path<'i>>(
 pub fn open_at<'i, P: Path<'i>>(
     alloc: Global,
     path: &mut P,
+    root: &[Fact],
     search: &mut Search,
     place: usize,
 ) -> Result<(), AllocError>
-    requires under_way { IsUnderWay (P.problem path.old) search.old }
+    requires rooted { IsRooted root.now (P.facts path.old) }
+    requires under_way { IsUnderWay (P.problem path.old) root.now search.old }
     requires waiting { HasMark search.old.tree_nodes.items place NodeState.Unopened }
-    requires at_most { length search.old.tree_nodes.items ≤ MAX_TREE + 2 }
-    ensures under_way { OnOk result (IsUnderWay (P.problem path.old) search.new) }
-    ensures better { OnOk result (Advances (P.problem path.old) search.old.best search.new.best) }
+    requires at_most { 2 * length root.now + length search.old.tree_nodes.items ≤ MAX_TREE + 2 }
+    ensures rooted { OnOk result (IsRooted root.now (P.facts path.new)) }
+    ensures under_way { OnOk result (IsUnderWay (P.problem path.old) root.now search.new) }
+    ensures better { OnOk result (Advances (P.problem path.old) root.now search.old.best search.new.best) }
     ensures opened { OnOk result (opened_in search.new.tree_nodes.items ≡ opened_in search.old.tree_nodes.items + 1) }
     ensures many { OnOk result (length search.new.tree_nodes.items ≡ length search.old.tree_nodes.items) }
     ensures unchanged { P.problem path.new ≡ P.problem path.old }
 {
     let link = search.tree_nodes[place].link;
-    go_to(alloc, path, search.links.as_slice(), link)?;
+    go_to(alloc, path, root, search.links.as_slice(), link)?;
     let Opening { mark, key } = open(alloc, path, &mut search.best)?;
     let rises = rises_of(alloc, path, mark.pattern(), key)?;
     let tree_node = TreeNode {

@@ -8,7 +8,6 @@ use Rattle.tt_table.specs.declared.fault.SolutionFault.{SolutionFault}
 use Rattle.tt_rules.specs.Score.{IsFeasible, cost}
 use Rattle.tt_wishes.specs.Wishes.{broken_wishes}
 use Rattle.tt_wishes.specs.declared.wish.Wish.{Wish}
-use Rattle.tt_wishes_narrow.specs.Narrowed.{narrowed}
 use Rattle.tt_leaf.specs.declared.leaf.Bound.{Bound}
 use Rattle.tt_leaf.specs.declared.leaf.Bound.TheVariants.{AtLeast}
 use Rattle.tt_page.specs.Pages.{page_text}
@@ -16,7 +15,6 @@ use Rattle.tt_page.specs.Proofs.{kept_of}
 use Rattle.tt_page_text.specs.Labelled.{Labelled}
 use Rattle.tt_page_text.specs.declared.fault.LabelsFault.{LabelsFault}
 use Rattle.tt_page_text.specs.declared.fault.LabelsFault.TheVariants as labels
-use Rattle.tt_proof_sum.specs.Sums.{IsSum}
 use Rattle.tt_parts.specs.Found.{texts_of}
 use Rattle.tt_call_answers.specs.Lines.{best_line, none_line}
 use Rattle.tt_call_answers.specs.declared.fault.AppFault.TheVariants as app
@@ -25,7 +23,7 @@ use Rattle.tt_call_names.specs.declared.names.PageNames.{PageNames}
 use Rattle.tt_call_searches.specs.Best.{ShowsPage}
 use Rattle.tt_call_searches.specs.Given.{FailsGiven, SpellsGiven}
 use Rattle.tt_call_searches.specs.declared.calls.best.BestAnswer.{BestAnswer}
-use Rattle.tt_call_kept.specs.Kept.{HoldsOfKept, IsFileRefusal, SpellsKept, kept_line}
+use Rattle.tt_call_kept.specs.Kept.{HoldsOfKept, IsFileRefusal, IsSumKept, SpellsKept, kept_line}
 use Rattle.tt_call_kept.specs.declared.fault.KeptFault.{KeptFault}
 use Rattle.tt_call_kept.specs.declared.fault.KeptFault.TheVariants as fault
 use Rattle.tt_call_kept.specs.declared.files.KeptFiles.{KeptFiles}
@@ -36,8 +34,8 @@ BreaksNothing p ws t = IsFeasible p t × (broken_wishes t ws ≡ 0)
 
 -- ---- answers
 
--- The solution breaks neither a hard rule nor a wish, and its cost is the one in the line. The proofs add up to the bound in the line for the
--- narrowed instance, and every timetable that breaks neither costs at least the bound. The page shows the timetable and the bound, with these
+-- The solution breaks neither a hard rule nor a wish, and its cost is the one in the line. The proofs add up to the bound in the line under the
+-- wishes, and every timetable that breaks neither costs at least the bound. The page shows the timetable and the bound, with these
 -- labels and in this style, unless it would be too large.
 pub record IsBestKeptFound (p : Problem) (ws : List Wish) (labels : Labelled) (style : List ℕ) (a : BestAnswer) : Type 0 where
   pub table : List Cell
@@ -47,7 +45,7 @@ pub record IsBestKeptFound (p : Problem) (ws : List Wish) (labels : Labelled) (s
   pub solved : SpellsTable p solution table
   pub file : IsSomeAnd a.table (λ v. v.items ≡ solution)
   pub bound : ℕ
-  pub sum : IsSum (narrowed p ws) (texts_of a.proofs.items) (AtLeast bound)
+  pub sum : IsSumKept p ws (texts_of a.proofs.items) (AtLeast bound)
   pub holds : HoldsOfKept p ws (AtLeast bound)
   pub within : bound ≤ cost p table
   pub page : ShowsPage a.page (page_text p table labels (kept_of (AtLeast bound)) style)
@@ -55,7 +53,7 @@ pub record IsBestKeptFound (p : Problem) (ws : List Wish) (labels : Labelled) (s
   pub text : a.out.items ≡ best_line (cost p table) bound ++ kept_line (length ws)
   pub status : a.status ≡ 0
 
--- The answer has no timetable that breaks neither a hard rule nor a wish. The proofs add up to the bound in the line for the narrowed instance,
+-- The answer has no timetable that breaks neither a hard rule nor a wish. The proofs add up to the bound in the line under the wishes,
 -- and it holds of every timetable that breaks neither. There is a timetable that breaks some, and the page shows it and the bound, with these
 -- labels and in this style, unless it would be too large.
 pub record IsNoneKept (p : Problem) (ws : List Wish) (labels : Labelled) (style : List ℕ) (a : BestAnswer) : Type 0 where
@@ -64,7 +62,7 @@ pub record IsNoneKept (p : Problem) (ws : List Wish) (labels : Labelled) (style 
   pub broken : IsFeasible p table → broken_wishes table ws ≡ 0 → ⊥
   pub partial : IsSomeAnd a.partial (λ v. v.items ≡ solution_text p table)
   pub bound : Bound
-  pub sum : IsSum (narrowed p ws) (texts_of a.proofs.items) bound
+  pub sum : IsSumKept p ws (texts_of a.proofs.items) bound
   pub holds : HoldsOfKept p ws bound
   pub page : ShowsPage a.page (page_text p table labels (kept_of bound) style)
   pub no_file : a.table ≡ None

@@ -5,8 +5,8 @@ ghost use Rattle.tt_table.specs.Table.{IsTimetable};
 ghost use Rattle.tt_rules.specs.Score.{cost};
 ghost use Rattle.tt_page.specs.Pages.{page_text};
 ghost use Rattle.tt_page.specs.Proofs.{kept_of};
-ghost use Rattle.tt_parts.specs.Found.{AreFound};
-ghost use Rattle.tt_best.specs.Weeks.{IsWeek};
+ghost use Rattle.tt_parts.specs.Found.{AreFoundOn};
+ghost use Rattle.tt_best.specs.Weeks.{IsWeekOn};
 ghost use Rattle.tt_wishes_best.specs.Kept.{IsNarrowing};
 ghost use Rattle.tt_call_answers.specs.Lines.{best_line, none_line};
 ghost use Rattle.tt_call_searches.specs.Best.{ShowsPage};
@@ -92,7 +92,7 @@ fn found_answer(
 ) -> Result<BestAnswer, AllocError>
     requires narrow { IsNarrowing wishing }
     requires unbroken { BreaksNothing wishing.instance.now wishing.wishes.now table.now }
-    requires parts { AreFound wishing.narrow.now parts.now }
+    requires parts { AreFoundOn wishing.narrow.now wishing.root.now parts.now }
     ensures { IfOk result (IsBestKeptFound wishing.entry.instance.now wishing.entry.wishes.now look.now.labels.now look.now.style.now) }
 {
     let Bound::AtLeast(points) = parts.bound else {
@@ -120,7 +120,7 @@ fn missing_answer(
     requires narrow { IsNarrowing wishing }
     requires table { IsTimetable wishing.instance.now table.now }
     requires broken { ¬ BreaksNothing wishing.instance.now wishing.wishes.now table.now }
-    requires parts { AreFound wishing.narrow.now parts.now }
+    requires parts { AreFoundOn wishing.narrow.now wishing.root.now parts.now }
     ensures { IfOk result (IsNoneKept wishing.entry.instance.now wishing.entry.wishes.now look.now.labels.now look.now.style.now) }
 {
     Ok(BestAnswer {
@@ -142,7 +142,7 @@ pub fn answer_of(
     look: &Look<'_>,
 ) -> Result<BestAnswer, AllocError>
     requires narrow { IsNarrowing wishing }
-    requires week { IsWeek wishing.narrow.now week.now }
+    requires week { IsWeekOn wishing.narrow.now wishing.root.now week.now }
     ensures { IfOk result (IsBestKeptOf wishing.entry.instance.now wishing.entry.wishes.now look.now.labels.now look.now.style.now) }
 {
     let Week { table, parts } = week;

@@ -41,6 +41,7 @@ pub fn best_kept<W: WatchBest>(
     let Read {
         instance,
         narrow,
+        root,
         wishes,
     } = read_kept(alloc, files)?;
     let table = read_start(alloc, &instance, start)?;
@@ -52,6 +53,7 @@ pub fn best_kept<W: WatchBest>(
     let wishing = Wishing {
         instance: &instance,
         narrow: &narrow,
+        root: &root,
         wishes: &wishes,
     };
     let rounds = Rounds {

@@ -15,15 +15,17 @@ use tt_call_searches::read_given;
 use tt_instance::Instance;
 use tt_instance_read::read_instance;
 use tt_page_text::Labels;
+use tt_path::Fact;
 use tt_table::Timetable;
-use tt_wishes::{Wish, read_wishes};
+use tt_wishes::{Wish, list_root, read_wishes};
 use tt_wishes_narrow::narrow;
 
-/// An instance, wishes, and the instance that they narrow.
+/// An instance, wishes, the instance that they narrow, and the facts that they put at the root of its trees.
 #[derive(Drop)]
 pub struct Read<'a> {
     pub instance: Instance<'a>,
     pub narrow: Instance<'a>,
+    pub root: Vec<Fact>,
     pub wishes: Vec<Wish>,
 }
 
@@ -37,9 +39,11 @@ pub fn read_kept<'a>(alloc: Global, files: KeptFiles<'a>) -> Result<Read<'a>, Ke
     let wishes = read_wishes(alloc, &instance, files.wishes)?;
     let again = read_instance(alloc, files.instance)?;
     let narrow = narrow(alloc, again, &wishes)?;
+    let root = list_root(alloc, &narrow, &wishes)?;
     Ok(Read {
         instance,
         narrow,
+        root,
         wishes,
     })
 }

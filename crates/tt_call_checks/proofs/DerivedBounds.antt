@@ -1,5 +1,5 @@
 -- The answer of `bound`, from the results of its steps.
-use Rattle.std.proofs.Common.{◌≡◌, ℕ, List, Option, Some, None, Result, Ok, Err, refl, subst, inl, inr}
+use Rattle.std.proofs.Common.{◌≡◌, ℕ, List, [], Option, Some, None, Result, Ok, Err, refl, subst, inl, inr}
 use Rattle.std.specs.Prelude.{IfSome}
 use Rattle.tt_instance.specs.Problem.{Problem}
 use Rattle.tt_instance_read.specs.Reading.{instance_of, Fails}
@@ -37,9 +37,9 @@ reported (Some bytes) P h = h bytes refl
 
 -- an error of the proof is reported
 pub proof_tells : (i : List ℕ) (p : Problem) (q : Option (List ℕ)) (s : Stop CheckFault) → Spells i p
-    → OnFault s (λ f. (bytes : List ℕ) → q ≡ Some bytes → IsProofFault p (stream_of bytes) f) → IsBoundRefusal i q (fault_from_check s)
+    → OnFault s (λ f. (bytes : List ℕ) → q ≡ Some bytes → IsProofFault p [] (stream_of bytes) f) → IsBoundRefusal i q (fault_from_check s)
 proof_tells i p q (Fault f) spells h =
-    record { problem = p; spelled = spells; fails = reported q (λ bytes. IsProofFault p (stream_of bytes) f) h }
+    record { problem = p; spelled = spells; fails = reported q (λ bytes. IsProofFault p [] (stream_of bytes) f) h }
 proof_tells i p q ReadFailed spells h = (p, spells)
 proof_tells i p q OutOfMemory spells h = tt
 
@@ -59,18 +59,18 @@ pub ok_bound : (c b : Bound) → bound_is c ≡ bound_is b → c ≡ b
 ok_bound c b e = cc
 
 -- a bound that is derived on the instance that the bytes spell is derived on the instance that was read
-pub proved_here : (i bytes : List ℕ) (p read : Problem) (b : Bound) → Spells i p → Spells i read → IsProved p bytes b
-    → IsProved read bytes b
-proved_here i bytes p read b spells found h = subst (λ (q : Problem). IsProved q bytes b) (spelled_once i p read spells found) h
+pub proved_here : (i bytes : List ℕ) (p read : Problem) (b : Bound) → Spells i p → Spells i read → IsProved p [] bytes b
+    → IsProved read [] bytes b
+proved_here i bytes p read b spells found h = subst (λ (q : Problem). IsProved q [] bytes b) (spelled_once i p read spells found) h
 
 pub bounded : (i : List ℕ) (p : Problem) (q : Option (List ℕ)) (a : Answer) (b : Bound) → Spells i p
-    → ((bytes : List ℕ) → q ≡ Some bytes → IsProved p bytes b) → HoldsOfAll p b → IsBoundAnswer a b → IsBounded i q a
+    → ((bytes : List ℕ) → q ≡ Some bytes → IsProved p [] bytes b) → HoldsOfAll p b → IsBoundAnswer a b → IsBounded i q a
 bounded i p q a b spells proved holds answer =
     record {
       problem = p;
       spelled = spells;
       bound = b;
-      proved = reported q (λ bytes. IsProved p bytes b) proved;
+      proved = reported q (λ bytes. IsProved p [] bytes b) proved;
       holds = holds;
       answer = answer;
     }

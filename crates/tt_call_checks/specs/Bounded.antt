@@ -1,5 +1,5 @@
 -- The answer of `bound` for the bytes of an instance and of a proof.
-use Rattle.std.specs.Prelude.{◌≡◌, ℕ, ◌⊎◌, List, Option, Result, Ok, Err, IfSome, ⊤}
+use Rattle.std.specs.Prelude.{◌≡◌, ℕ, ◌⊎◌, List, [], Option, Result, Ok, Err, IfSome, ⊤}
 use Rattle.tt_instance.specs.Problem.{Problem}
 use Rattle.tt_instance_read.specs.Reading.{instance_of}
 use Rattle.tt_instance.specs.Spelling.{Spells}
@@ -24,7 +24,7 @@ pub record IsBounded (instance : List ℕ) (proof : Option (List ℕ)) (a : Answ
   pub problem : Problem
   pub spelled : Spells instance problem
   pub bound : Bound
-  pub proved : IfSome proof (λ bytes. IsProved problem bytes bound)
+  pub proved : IfSome proof (λ bytes. IsProved problem [] bytes bound)
   pub holds : HoldsOfAll problem bound
   pub answer : IsBoundAnswer a bound
 
@@ -32,7 +32,7 @@ pub record IsBounded (instance : List ℕ) (proof : Option (List ℕ)) (a : Answ
 pub record FailsAlone (instance : List ℕ) (proof : Option (List ℕ)) (f : CheckFault) : Type 0 where
   pub problem : Problem
   pub spelled : Spells instance problem
-  pub fails : IfSome proof (λ bytes. IsProofFault problem (stream_of bytes) f)
+  pub fails : IfSome proof (λ bytes. IsProofFault problem [] (stream_of bytes) f)
 
 -- the bytes spell an instance
 abbrev pub IsSpelled : List ℕ → Type 0

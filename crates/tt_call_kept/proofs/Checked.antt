@@ -6,8 +6,10 @@ use Rattle.tt_rules.specs.Score.{IsFeasible, IsScore, cost, hard}
 use Rattle.tt_rules.specs.declared.counts.Score.{Score}
 use Rattle.tt_rules.proofs.Scores.{cost_is, feasible_is, hard_is}
 use Rattle.tt_leaf.specs.declared.leaf.Bound.TheVariants.{AtLeast}
-use Rattle.tt_proof_check.specs.Derives.{HoldsOfAll}
-use Rattle.tt_proof_sum.specs.Sums.{IsSum}
+use Rattle.tt_path.specs.declared.facts.Fact.{Fact}
+use Rattle.tt_proof_check.specs.Derives.{HoldsOn}
+use Rattle.tt_proof_sum.specs.Sums.{IsSumOn}
+use Rattle.tt_wishes.specs.Facts.{root_of}
 use Rattle.tt_wishes.specs.Wishes.{broken_wishes}
 use Rattle.tt_wishes.specs.declared.wish.Wish.{Wish}
 use Rattle.tt_wishes_narrow.specs.Narrowed.{narrowed}
@@ -17,8 +19,7 @@ use Rattle.tt_call_kept.specs.Kept.{IsBrokenKept, IsTextAnswer, IsYesKept, Spell
 use Rattle.tt_call_kept.specs.declared.files.KeptFiles.{KeptFiles}
 use Rattle.tt_table.specs.Spelling.{SpellsTable}
 use Rattle.tt_proof_check.proofs.Files.{one_table}
-use Rattle.tt_call_kept.proofs.Holding.{holds_of_narrowed}
-use Rattle.tt_call_kept.proofs.Summed.{spelled_kept_once}
+use Rattle.tt_call_kept.proofs.Summed.{AreMade, made_holds, made_sum, spelled_kept_once}
 
 abbrev pub broken_by : Score → ℕ
 broken_by s = s.lectures + s.conflicts + s.availability + s.room_occupancy
@@ -67,10 +68,11 @@ module _ (f : KeptFiles) (s : List ℕ) (p : Problem) (t : List Cell) (ws : List
   pub unbroken : IsFeasible p t → broken_by score ≡ 0
   unbroken ok = (feasible_is p t score spelled.both.solved.in_range is).1 ok
 
-  pub yes_kept : (gives : List (List ℕ) → Type 0) (narrow : Problem) (b n c : ℕ) (a : Answer) → narrow ≡ narrowed p ws → IsFeasible p t
-      → broken_wishes t ws ≡ 0 → n ≡ length ws → c ≡ costs_of score → ((proofs : List (List ℕ)) → gives proofs → IsSum narrow proofs (AtLeast b))
-      → HoldsOfAll narrow (AtLeast b) → IsTextAnswer (yes_line c b ++ kept_line n) 0 a → IsYesKept f s gives a
-  yes_kept gives narrow b n c a same ok none count costs sum holds answer = record {
+  pub yes_kept : (gives : List (List ℕ) → Type 0) (narrow : Problem) (root : List Fact) (b n c : ℕ) (a : Answer) → narrow ≡ narrowed p ws
+      → root ≡ root_of narrow ws → IsFeasible p t → broken_wishes t ws ≡ 0 → n ≡ length ws → c ≡ costs_of score
+      → ((proofs : List (List ℕ)) → gives proofs → IsSumOn narrow root proofs (AtLeast b)) → HoldsOn narrow (AtLeast b) root
+      → IsTextAnswer (yes_line c b ++ kept_line n) 0 a → IsYesKept f s gives a
+  yes_kept gives narrow root b n c a same root_is ok none count costs sum holds answer = record {
     problem = p;
     table = t;
     listed = ws;
@@ -78,8 +80,8 @@ module _ (f : KeptFiles) (s : List ℕ) (p : Problem) (t : List Cell) (ws : List
     feasible = ok;
     kept = none;
     bound = b;
-    sum = λ proofs given. subst (λ (q : Problem). IsSum q proofs (AtLeast b)) same (sum proofs given);
-    holds = holds_of_narrowed p narrow ws (AtLeast b) same holds;
+    sum = λ proofs given. made_sum narrow root p ws proofs (AtLeast b) same root_is (sum proofs given);
+    holds = made_holds narrow root p ws (AtLeast b) same root_is holds;
     answer = subst (λ (k : ℕ). IsTextAnswer (yes_line (cost p t) b ++ kept_line k) 0 a) count
         (subst (λ (k : ℕ). IsTextAnswer (yes_line k b ++ kept_line n) 0 a) (costs ∙ cost_is p t score is) answer);
   }
@@ -92,18 +94,21 @@ module _ (f : KeptFiles) (s : List ℕ) (p : Problem) (t : List Cell) (ws : List
       let here : IsFeasible p t × (broken_wishes t ws ≡ 0) = rw (e.problem, e.table, e.listed) (ok, none) in
       omega (arith, some, count, here.1, unbroken here.0)
 
-  -- the cost, the instance that the wishes narrow, and their number, for what the bytes spell
-  pub record Spelled (narrow : Problem) (n c : ℕ) (q : Problem) (u : List Cell) (vs : List Wish) : Type 0 where
-    pub narrowed_is : narrow ≡ narrowed q vs
-    pub count : n ≡ length vs
+  -- what is made of the instance and the wishes, and the cost, for what the bytes spell
+  pub record Spelled (narrow : Problem) (root : List Fact) (n c : ℕ) (q : Problem) (u : List Cell) (vs : List Wish) : Type 0 where
+    pub made : AreMade narrow root n q vs
     pub costs : c ≡ cost q u
 
-  pub spelled_are : (narrow : Problem) (n c : ℕ) (q : Problem) (u : List Cell) (vs : List Wish) → narrow ≡ narrowed p ws → n ≡ length ws
-      → c ≡ costs_of score → SpellsAll f s q u vs → Spelled narrow n c q u vs
-  spelled_are narrow n c q u vs same count costs all =
+  pub spelled_are : (narrow : Problem) (root : List Fact) (n c : ℕ) (q : Problem) (u : List Cell) (vs : List Wish) → narrow ≡ narrowed p ws
+      → root ≡ root_of narrow ws → n ≡ length ws → c ≡ costs_of score → SpellsAll f s q u vs → Spelled narrow root n c q u vs
+  spelled_are narrow root n c q u vs same root_is count costs all =
       let e = one_of_all f s p q t u ws vs spelled all in
+      let here : narrow ≡ narrowed q vs = same ∙ rw (e.problem, e.listed) refl in
       record {
-        narrowed_is = same ∙ rw (e.problem, e.listed) refl;
-        count = count ∙ ap length e.listed;
+        made = record {
+          narrowed_is = here;
+          root_is = root_is ∙ ap (λ r. root_of r ws) here ∙ ap (root_of (narrowed q vs)) e.listed;
+          count = count ∙ ap length e.listed;
+        };
         costs = costs ∙ cost_is p t score is ∙ rw (e.problem, e.table) refl;
       }

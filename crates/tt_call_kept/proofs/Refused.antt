@@ -17,7 +17,8 @@ use Rattle.tt_wishes.specs.declared.fault.WishesFault.TheVariants as wishes
 use Rattle.tt_wishes.specs.declared.wish.Wish.{Wish}
 use Rattle.tt_wishes.proofs.RowLaws.{wishes_read}
 use Rattle.tt_wishes_narrow.specs.Narrowed.{narrowed}
-use Rattle.tt_proof_sum.specs.Faults.{IsSumStop}
+use Rattle.tt_wishes.specs.Facts.{root_of}
+use Rattle.tt_proof_sum.specs.Faults.{IsSumStopOn}
 use Rattle.tt_proof_sum.specs.declared.fault.FileFault.{FileFault}
 use Rattle.tt_proof_sum.specs.declared.fault.SumStop.{SumStop}
 use Rattle.tt_call_answers.specs.FaultMaps.{fault_at_file, fault_from_instance, fault_from_solution, fault_from_sum}
@@ -59,11 +60,11 @@ before_proofs f gives e h = h
 
 -- a sum that was stopped is reported
 pub tells_sum : (f : KeptFiles) (p : Problem) (ws : List Wish) (gives : List (List ℕ) → Type 0) (s : SumStop) → SpellsKept f p ws
-    → ((proofs : List (List ℕ)) → gives proofs → IsSumStop (narrowed p ws) proofs s.file s.stop)
+    → ((proofs : List (List ℕ)) → gives proofs → IsSumStopOn (narrowed p ws) (root_of (narrowed p ws) ws) proofs s.file s.stop)
     → IsSumRefusal f gives (fault.Call (fault_from_sum s))
 tells_sum f p ws gives s spelled h = on s.file s.stop h
   where
-    on : (n : ℕ) (x : Stop FileFault) → ((proofs : List (List ℕ)) → gives proofs → IsSumStop (narrowed p ws) proofs n x)
+    on : (n : ℕ) (x : Stop FileFault) → ((proofs : List (List ℕ)) → gives proofs → IsSumStopOn (narrowed p ws) (root_of (narrowed p ws) ws) proofs n x)
         → IsSumRefusal f gives (fault.Call (fault_at_file n x))
     on n (Fault e) h = record { problem = p; listed = ws; spelled = spelled; fails = h }
     on n ReadFailed h = record { problem = p; listed = ws; spelled = spelled; fails = h }

@@ -8,6 +8,7 @@ use Rattle.tt_instance.specs.declared.cell.Cell.{Cell}
 use Rattle.tt_instance_read.specs.Reading.{instance_of}
 use Rattle.tt_table.specs.Spelling.{SpellsBoth}
 use Rattle.tt_rules.specs.Score.{IsFeasible, cost, hard}
+use Rattle.tt_wishes.specs.Facts.{root_of}
 use Rattle.tt_wishes.specs.Reading.{wishes_of}
 use Rattle.tt_wishes.specs.Spelling.{SpellsWishes}
 use Rattle.tt_wishes.specs.Wishes.{broken_wishes}
@@ -19,8 +20,9 @@ use Rattle.tt_leaf.specs.declared.leaf.Bound.{Bound}
 use Rattle.tt_leaf.specs.declared.leaf.Bound.TheVariants.{AtLeast}
 use Rattle.tt_leaf_rules.specs.Bounds.{Respects}
 use Rattle.tt_proof_check.specs.Verdicts.{FailsSolution}
-use Rattle.tt_proof_sum.specs.Faults.{IsSumStop}
-use Rattle.tt_proof_sum.specs.Sums.{IsSum}
+use Rattle.tt_path.specs.declared.facts.Fact.{Fact}
+use Rattle.tt_proof_sum.specs.Faults.{IsSumStopOn}
+use Rattle.tt_proof_sum.specs.Sums.{IsSumOn}
 use Rattle.tt_proof_sum.specs.declared.fault.FileFault.{FileFault}
 use Rattle.tt_call_answers.specs.Lines.{yes_line, broken_line, bound_line, count_line}
 use Rattle.tt_call_answers.specs.Refusals.{IsSilentRefusal}
@@ -41,12 +43,17 @@ pub record SpellsKept (f : KeptFiles) (p : Problem) (ws : List Wish) : Type 0 wh
   pub instance_is : Spells f.instance.now p
   pub wishes_are : SpellsWishes p f.wishes.now ws
 
--- The instance is the one that the wishes narrow, of which there are so many.
-pub record IsNarrowed (f : KeptFiles) (narrow : Problem) (n : ℕ) : Type 0 where
+-- The proofs derive the bound together for the narrowed instance, each tree with the facts of the wishes at its root.
+abbrev pub IsSumKept : Problem → List Wish → List (List ℕ) → Bound → Type 0
+IsSumKept p ws proofs b = IsSumOn (narrowed p ws) (root_of (narrowed p ws) ws) proofs b
+
+-- The instance is the one that the wishes narrow, of which there are so many, and the root has their facts.
+pub record IsNarrowed (f : KeptFiles) (narrow : Problem) (root : List Fact) (n : ℕ) : Type 0 where
   pub problem : Problem
   pub listed : List Wish
   pub spelled : SpellsKept f problem listed
   pub is : narrow ≡ narrowed problem listed
+  pub root_is : root ≡ root_of narrow listed
   pub count : n ≡ length listed
 
 -- ---- answers
@@ -66,13 +73,13 @@ kept_line n = count_line (codes "kept") n
 abbrev pub IsKeptAnswer : Bound → ℕ → Answer → Type 0
 IsKeptAnswer b n a = IsTextAnswer (bound_line b ++ kept_line n) 0 a
 
--- The proofs derive the bound together for the narrowed instance, and it holds of the timetables that keep the wishes.
+-- The proofs derive the bound together under the wishes, and it holds of the timetables that keep them.
 pub record IsSummedKept (f : KeptFiles) (gives : List (List ℕ) → Type 0) (a : Answer) : Type 0 where
   pub problem : Problem
   pub listed : List Wish
   pub spelled : SpellsKept f problem listed
   pub bound : Bound
-  pub sum : (proofs : List (List ℕ)) → gives proofs → IsSum (narrowed problem listed) proofs bound
+  pub sum : (proofs : List (List ℕ)) → gives proofs → IsSumKept problem listed proofs bound
   pub holds : HoldsOfKept problem listed bound
   pub answer : IsKeptAnswer bound (length listed) a
 
@@ -81,7 +88,7 @@ pub record SpellsAll (f : KeptFiles) (solution : List ℕ) (p : Problem) (t : Li
   pub kept : SpellsKept f p ws
   pub both : SpellsBoth f.instance.now solution p t
 
--- The solution breaks no hard rule and no wish, and the answer has its cost and the bound that the proofs derive together for the narrowed instance.
+-- The solution breaks no hard rule and no wish, and the answer has its cost and the bound that the proofs derive together under the wishes.
 -- The bound holds of the timetables that keep the wishes.
 pub record IsYesKept (f : KeptFiles) (solution : List ℕ) (gives : List (List ℕ) → Type 0) (a : Answer) : Type 0 where
   pub problem : Problem
@@ -91,7 +98,7 @@ pub record IsYesKept (f : KeptFiles) (solution : List ℕ) (gives : List (List �
   pub feasible : IsFeasible problem table
   pub kept : broken_wishes table listed ≡ 0
   pub bound : ℕ
-  pub sum : (proofs : List (List ℕ)) → gives proofs → IsSum (narrowed problem listed) proofs (AtLeast bound)
+  pub sum : (proofs : List (List ℕ)) → gives proofs → IsSumKept problem listed proofs (AtLeast bound)
   pub holds : HoldsOfKept problem listed (AtLeast bound)
   pub answer : IsTextAnswer (yes_line (cost problem table) bound ++ kept_line (length listed)) 0 a
 
@@ -125,12 +132,12 @@ pub record FailsWishes (f : KeptFiles) (e : WishesFault) : Type 0 where
   pub spelled : Spells f.instance.now problem
   pub fails : wishes_of problem f.wishes.now ≡ Err e
 
--- Instance and wishes are spelled, and the sum of the proofs is stopped at this file for the narrowed instance.
+-- Instance and wishes are spelled, and the sum of the proofs under the wishes is stopped at this file.
 pub record FailsSum (f : KeptFiles) (gives : List (List ℕ) → Type 0) (n : ℕ) (stop : Stop FileFault) : Type 0 where
   pub problem : Problem
   pub listed : List Wish
   pub spelled : SpellsKept f problem listed
-  pub fails : (proofs : List (List ℕ)) → gives proofs → IsSumStop (narrowed problem listed) proofs n stop
+  pub fails : (proofs : List (List ℕ)) → gives proofs → IsSumStopOn (narrowed problem listed) (root_of (narrowed problem listed) listed) proofs n stop
 
 -- A refusal reports the first error of a file: the instance's, then that of the wishes.
 abbrev pub IsFileRefusal : KeptFiles → KeptFault → Type 0

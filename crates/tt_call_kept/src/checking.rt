@@ -7,11 +7,9 @@ ghost use Rattle.tt_leaf.specs.declared.leaf.Bound.TheVariants.{AtLeast};
 ghost use Rattle.tt_rules.specs.Score.{IsFeasible, cost};
 ghost use Rattle.tt_wishes.specs.Wishes.{broken_wishes};
 ghost use Rattle.tt_wishes.specs.declared.wish.Wish.{Wish};
-ghost use Rattle.tt_wishes_narrow.specs.Narrowed.{narrowed};
 ghost use Rattle.tt_proof_sum.specs.Added.{Give};
 ghost use Rattle.tt_proof_sum.specs.Faults.{all_points};
-ghost use Rattle.tt_proof_sum.specs.Sums.{IsSum};
-ghost use Rattle.tt_call_kept.specs.Kept.{AnswersYes, IsCheckedKept, IsCheckRefusal, SpellsAll};
+ghost use Rattle.tt_call_kept.specs.Kept.{AnswersYes, IsCheckedKept, IsCheckRefusal, IsSumKept, SpellsAll};
 
 use crate::answer::{broken_answer, yes_answer};
 use crate::fault::KeptFault;
@@ -23,7 +21,7 @@ use tt_instance_read::read_instance;
 use tt_rules::score;
 use tt_table::read_solution;
 use tt_text_peek::Peek;
-use tt_wishes::{broken_wishes, read_wishes};
+use tt_wishes::{broken_wishes, list_root, read_wishes};
 use tt_wishes_narrow::narrow;
 
 /// Checks whether a solution breaks no hard rule and no wish, and returns its cost and the sum of the lower bounds that proofs derive for the
@@ -41,7 +39,7 @@ pub fn check_kept<R: Peek>(
     // If the solution breaks nothing and the proofs have a sum below 2^64, the answer is `yes` with this sum, unless the refusal says nothing about the
     // bytes.
     ensures yes { (p : Problem) (t : List Cell) (ws : List Wish) (bytes : List (List ℕ)) (b : ℕ) → SpellsAll files.entry solution.now p t ws →
-        IsFeasible p t → broken_wishes t ws ≡ 0 → Give R.remaining proofs.old bytes → (h : IsSum (narrowed p ws) bytes (AtLeast b)) →
+        IsFeasible p t → broken_wishes t ws ≡ 0 → Give R.remaining proofs.old bytes → (h : IsSumKept p ws bytes (AtLeast b)) →
         all_points h.parts < 2 ^ 64 → AnswersYes result (cost p t) b (length ws) }
 {
     let instance = read_instance(alloc, files.instance)?;
@@ -54,6 +52,7 @@ pub fn check_kept<R: Peek>(
     }
     let count = wishes.len() as u64;
     let narrow = narrow(alloc, instance, &wishes)?;
-    let bound = summed_bound(alloc, &narrow, &table, proofs)?;
+    let root = list_root(alloc, &narrow, &wishes)?;
+    let bound = summed_bound(alloc, &narrow, &root, &table, proofs)?;
     Ok(yes_answer(alloc, score.cost(), bound, count)?)
 }

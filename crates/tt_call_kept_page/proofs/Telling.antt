@@ -23,12 +23,12 @@ use Rattle.tt_page_text.specs.Labelled.{Labelled}
 use Rattle.tt_page_text.specs.Labels.{is_environmental}
 use Rattle.tt_page_text.specs.declared.fault.LabelsFault.{LabelsFault}
 use Rattle.tt_page_text.specs.declared.fault.LabelsFault.TheVariants as labels
-use Rattle.tt_proof_sum.specs.Sums.{IsSum}
 use Rattle.tt_stop.specs.declared.stop.Stop.{Stop}
 use Rattle.tt_stop.specs.declared.stop.Stop.TheVariants.{Fault, ReadFailed, OutOfMemory}
-use Rattle.tt_proof_sum.specs.Faults.{IsSumStop}
+use Rattle.tt_proof_sum.specs.Faults.{IsSumStopOn}
 use Rattle.tt_proof_sum.specs.declared.fault.FileFault.{FileFault}
 use Rattle.tt_proof_sum.specs.declared.fault.SumStop.{SumStop}
+use Rattle.tt_wishes.specs.Facts.{root_of}
 use Rattle.tt_wishes.specs.Reading.{wishes_of, Fails as FailsWishesText}
 use Rattle.tt_wishes.specs.Spelling.{SpellsWishes}
 use Rattle.tt_wishes.specs.declared.fault.WishesFault.{WishesFault}
@@ -36,7 +36,7 @@ use Rattle.tt_wishes.specs.declared.fault.WishesFault.TheVariants as wishes
 use Rattle.tt_wishes.specs.declared.wish.Wish.{Wish}
 use Rattle.tt_wishes_narrow.specs.Narrowed.{narrowed}
 use Rattle.tt_call_answers.specs.FaultMaps.{fault_at_file, fault_from_instance, fault_from_labels, fault_from_page, fault_from_solution, fault_from_sum}
-use Rattle.tt_call_kept.specs.Kept.{fault_from_wishes}
+use Rattle.tt_call_kept.specs.Kept.{IsSumKept, fault_from_wishes}
 use Rattle.tt_call_kept.specs.declared.fault.KeptFault.TheVariants as fault
 use Rattle.tt_call_names.specs.Names.{labels_for}
 use Rattle.tt_call_kept_page.specs.Paged.{IsKeptPageRefusal}
@@ -68,11 +68,11 @@ module _ (a : PageTexts) (gives : List (List ℕ) → Type 0) (before after : Op
 
     -- a sum that was stopped is reported
     pub tells_sum : (ws : List Wish) (s : SumStop) → SpellsWishes p a.files.wishes.now ws
-        → ((proofs : List (List ℕ)) → gives proofs → IsSumStop (narrowed p ws) proofs s.file s.stop)
+        → ((proofs : List (List ℕ)) → gives proofs → IsSumStopOn (narrowed p ws) (root_of (narrowed p ws) ws) proofs s.file s.stop)
         → IsKeptPageRefusal a gives before after (fault.Call (fault_from_sum s))
     tells_sum ws s wished h = on s.file s.stop h
       where
-        on : (n : ℕ) (x : Stop FileFault) → ((proofs : List (List ℕ)) → gives proofs → IsSumStop (narrowed p ws) proofs n x)
+        on : (n : ℕ) (x : Stop FileFault) → ((proofs : List (List ℕ)) → gives proofs → IsSumStopOn (narrowed p ws) (root_of (narrowed p ws) ws) proofs n x)
             → IsKeptPageRefusal a gives before after (fault.Call (fault_at_file n x))
         on n (Fault e) h =
             record { problem = p; listed = ws; spelled = record { instance_is = spelled; wishes_are = wished }; fails = h }
@@ -90,7 +90,7 @@ module _ (a : PageTexts) (gives : List (List ℕ) → Type 0) (before after : Op
 
     -- an error of the page's output is reported
     pub tells_output : (l : Labelled) (ws : List Wish) (b : Bound) (e : PageFault) → labels_for p a.names ≡ Ok l
-        → SpellsWishes p a.files.wishes.now ws → ((proofs : List (List ℕ)) → gives proofs → IsSum (narrowed p ws) proofs b)
+        → SpellsWishes p a.files.wishes.now ws → ((proofs : List (List ℕ)) → gives proofs → IsSumKept p ws proofs b)
         → (e ≡ page.Write → TakesPart before after (page_text p t l (kept_of b) a.style.now))
         → ExplainsSize e (page_text p t l (kept_of b) a.style.now)
         → IsKeptPageRefusal a gives before after (fault.Call (fault_from_page e))

@@ -6,24 +6,22 @@ use Rattle.tt_leaf.specs.declared.leaf.Bound.{Bound}
 use Rattle.tt_page.specs.Proofs.{kept_of}
 use Rattle.tt_page_text.specs.declared.fault.LabelsFault.TheVariants as labels
 use Rattle.tt_proof_check.specs.Verdicts.{FailsSolution}
-use Rattle.tt_proof_sum.specs.Sums.{IsSum}
 use Rattle.tt_wishes.specs.Spelling.{SpellsWishes}
 use Rattle.tt_wishes.specs.declared.wish.Wish.{Wish}
-use Rattle.tt_wishes_narrow.specs.Narrowed.{narrowed}
 use Rattle.tt_call_answers.specs.declared.fault.AppFault.TheVariants as app
-use Rattle.tt_call_kept.specs.Kept.{FailsSum, FailsWishes, HoldsOfKept}
+use Rattle.tt_call_kept.specs.Kept.{FailsSum, FailsWishes, HoldsOfKept, IsSumKept}
 use Rattle.tt_call_kept.specs.declared.fault.KeptFault.{KeptFault}
 use Rattle.tt_call_kept.specs.declared.fault.KeptFault.TheVariants as fault
 use Rattle.tt_call_texts.specs.Paged.{FailsNames, IsPutPartlyWith, IsPutWith, IsTooLargeWith, proved_text}
 use Rattle.tt_call_kept_page.specs.declared.paging.PageTexts.{PageTexts}
 
--- The page was written with the bound that the proofs derive together for the narrowed instance, and it holds of the timetables that keep the wishes.
+-- The page was written with the bound that the proofs derive together under the wishes, and it holds of the timetables that keep them.
 pub record IsKeptPaged (a : PageTexts) (gives : List (List ℕ) → Type 0) (before after : Option (List ℕ)) (status : ℕ) : Type 0 where
   pub bound : Bound
   pub paged : IsPutWith (proved_text (kept_of bound) a.style.now) a.files.instance.now a.solution.now a.names before after status
   pub listed : List Wish
   pub spelled : SpellsWishes paged.problem a.files.wishes.now listed
-  pub sum : (proofs : List (List ℕ)) → gives proofs → IsSum (narrowed paged.problem listed) proofs bound
+  pub sum : (proofs : List (List ℕ)) → gives proofs → IsSumKept paged.problem listed proofs bound
   pub holds : HoldsOfKept paged.problem listed bound
 
 -- A write failed on the way.
@@ -32,7 +30,7 @@ pub record IsKeptPagedPartly (a : PageTexts) (gives : List (List ℕ) → Type 0
   pub paged : IsPutPartlyWith (proved_text (kept_of bound) a.style.now) a.files.instance.now a.solution.now a.names before after
   pub listed : List Wish
   pub spelled : SpellsWishes paged.problem a.files.wishes.now listed
-  pub sum : (proofs : List (List ℕ)) → gives proofs → IsSum (narrowed paged.problem listed) proofs bound
+  pub sum : (proofs : List (List ℕ)) → gives proofs → IsSumKept paged.problem listed proofs bound
 
 -- The page with this bound is too large.
 pub record IsKeptPageTooLarge (a : PageTexts) (gives : List (List ℕ) → Type 0) : Type 0 where
@@ -40,7 +38,7 @@ pub record IsKeptPageTooLarge (a : PageTexts) (gives : List (List ℕ) → Type 
   pub paged : IsTooLargeWith (proved_text (kept_of bound) a.style.now) a.files.instance.now a.solution.now a.names
   pub listed : List Wish
   pub spelled : SpellsWishes paged.problem a.files.wishes.now listed
-  pub sum : (proofs : List (List ℕ)) → gives proofs → IsSum (narrowed paged.problem listed) proofs bound
+  pub sum : (proofs : List (List ℕ)) → gives proofs → IsSumKept paged.problem listed proofs bound
 
 -- A refusal reports the first error: the instance's, then the solution's, then the names', then that of the wishes, then that of the first proof that is
 -- refused, then that the page is too large, then that of a write.

@@ -9,11 +9,11 @@ use tt_call_kept::{KeptFault, KeptFiles};
 use tt_call_names::{PageNames, labels_for};
 use tt_instance_read::read_instance;
 use tt_page::{Look, Proved, Shown};
-use tt_proof_sum::sum_proofs;
+use tt_proof_sum::sum_proofs_on;
 use tt_table::read_solution;
 use tt_text::Sink;
 use tt_text_peek::Peek;
-use tt_wishes::read_wishes;
+use tt_wishes::{list_root, read_wishes};
 use tt_wishes_narrow::narrow;
 
 /// What a page is made of.
@@ -50,7 +50,8 @@ pub fn kept_page<R: Peek, W: Sink>(
     let wishes = read_wishes(alloc, &instance, files.wishes)?;
     let again = read_instance(alloc, files.instance)?;
     let narrow = narrow(alloc, again, &wishes)?;
-    let bound = sum_proofs(alloc, &narrow, proofs)?;
+    let root = list_root(alloc, &narrow, &wishes)?;
+    let bound = sum_proofs_on(alloc, &narrow, &root, proofs)?;
     let proved = Proved::kept(bound);
     let look = Look {
         labels: &labels,

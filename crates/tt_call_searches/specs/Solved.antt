@@ -1,5 +1,5 @@
 -- The answer of `solve` for the bytes of an instance.
-use Rattle.std.specs.Prelude.{◌≡◌, ℕ, ◌⊎◌, Bool, List, Option, Some, None, Err, All, if◌then◌else◌, is_some, IsSomeAnd, ⊤}
+use Rattle.std.specs.Prelude.{◌≡◌, ℕ, ◌⊎◌, Bool, List, [], Option, Some, None, Err, All, if◌then◌else◌, is_some, IsSomeAnd, ⊤}
 use Rattle.tt_instance.specs.Problem.{Problem}
 use Rattle.tt_instance_read.specs.Reading.{instance_of}
 use Rattle.tt_instance.specs.Spelling.{Spells}
@@ -52,7 +52,7 @@ pub record IsSolved (instance : List ℕ) (limit : ℕ) (ended : Type 0) (a : An
   pub bound : Bound
   pub nodes : List Node
   pub finished : Bool
-  pub outcome : IsOutcomeUntil problem limit ended best bound nodes finished
+  pub outcome : IsOutcomeUntil problem [] None limit ended best bound nodes finished
   pub answer : IsSearchAnswer problem best bound nodes finished a
 
 -- the proof of such a search is larger than a file may be
@@ -63,7 +63,7 @@ pub record IsTooLarge (instance : List ℕ) (limit : ℕ) (ended : Type 0) : Typ
   pub bound : Bound
   pub nodes : List Node
   pub finished : Bool
-  pub outcome : IsOutcomeUntil problem limit ended best bound nodes finished
+  pub outcome : IsOutcomeUntil problem [] None limit ended best bound nodes finished
   pub large : IsOverLong bound nodes
 
 -- a refusal reports the instance's error, or that the proof is too large

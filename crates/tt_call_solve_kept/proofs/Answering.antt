@@ -4,6 +4,8 @@ use Rattle.std.specs.Prelude.{IfSome, IsSomeAnd, MatchOption, Vec}
 use Rattle.tt_instance.specs.Problem.{Problem}
 use Rattle.tt_instance.specs.declared.cell.Cell.{Cell}
 use Rattle.tt_table.specs.Table.{IsTimetable}
+use Rattle.tt_path.specs.declared.facts.Fact.{Fact}
+use Rattle.tt_wishes.specs.Facts.{root_of}
 use Rattle.tt_wishes.specs.declared.wish.Wish.{Wish}
 use Rattle.tt_wishes_narrow.specs.Narrowed.{narrowed}
 use Rattle.tt_leaf.specs.declared.leaf.Bound.{Bound}
@@ -15,6 +17,8 @@ use Rattle.tt_call_kept.specs.Kept.{IsFileRefusal}
 use Rattle.tt_call_kept.specs.declared.fault.KeptFault.{KeptFault}
 use Rattle.tt_call_kept.specs.declared.fault.KeptFault.TheVariants as fault
 use Rattle.tt_call_kept.specs.declared.files.KeptFiles.{KeptFiles}
+use Rattle.tt_wishes_best.specs.Kept.{IsNarrowing}
+use Rattle.tt_wishes_best.specs.declared.wishing.Wishing.{Wishing}
 use Rattle.tt_call_solve_kept.specs.SolvedKept.{IsKeptTable, IsSolveKeptRefusal}
 
 -- a timetable that is kept is one of the instance
@@ -28,12 +32,15 @@ pub tells_files : (f : KeptFiles) (limit : ℕ) (ended : Type 0) (e : KeptFault)
 tells_files f limit ended (fault.Call app.ProofTooLarge) h = absurd h
 tells_files f limit ended e h = h
 
--- a search in the instance that the wishes narrow
-pub outcome_there : (p n : Problem) (ws : List Wish) (limit : ℕ) (ended : Type 0) (best : Option (List Cell)) (b : Bound) (nodes : List Node)
-    (finished : Bool) → n ≡ narrowed p ws → IsOutcomeUntil n limit ended best b nodes finished
-    → IsOutcomeUntil (narrowed p ws) limit ended best b nodes finished
-outcome_there p n ws limit ended best b nodes finished is outcome =
-    subst (λ (q : Problem). IsOutcomeUntil q limit ended best b nodes finished) is outcome
+-- a search in the instance that the wishes narrow, below their root
+pub outcome_there : (w : Wishing) (first : List Cell) (here limit : ℕ) (ended : Type 0) (best : Option (List Cell)) (b : Bound) (nodes : List Node)
+    (finished : Bool) → IsNarrowing w → here ≡ limit → IsOutcomeUntil w.narrow.now w.root.now (Some first) here ended best b nodes finished
+    → IsOutcomeUntil (narrowed w.instance.now w.wishes.now) (root_of (narrowed w.instance.now w.wishes.now) w.wishes.now) (Some first) limit ended best b
+    nodes finished
+outcome_there w first here limit ended best b nodes finished is same outcome =
+    subst (λ (q : Problem). IsOutcomeUntil q (root_of q w.wishes.now) (Some first) limit ended best b nodes finished) is.is
+    (subst (λ (r : List Fact). IsOutcomeUntil w.narrow.now r (Some first) limit ended best b nodes finished) is.root_is
+    (subst (λ (n : ℕ). IsOutcomeUntil w.narrow.now w.root.now (Some first) n ended best b nodes finished) same outcome))
 
 -- a proof without a text is too large
 pub over_long : {A : Type 0} (b : Bound) (nodes here : List Node) (text : Option (Vec ℕ A)) → here ≡ nodes → text ≡ None

@@ -4,6 +4,7 @@ use Rattle.tt_instance.specs.Problem.{Problem}
 use Rattle.tt_instance.specs.declared.cell.Cell.{Cell}
 use Rattle.tt_table.specs.Spelling.{solution_text}
 use Rattle.tt_table.specs.Table.{IsTimetable}
+use Rattle.tt_wishes.specs.Facts.{root_of}
 use Rattle.tt_wishes.specs.declared.wish.Wish.{Wish}
 use Rattle.tt_wishes_narrow.specs.Narrowed.{narrowed}
 use Rattle.tt_wishes_best.specs.Kept.{IsNoWorseThan}
@@ -34,15 +35,17 @@ pub record IsShown (p : Problem) (ws : List Wish) (t : List Cell) (b : Bound) (f
   pub status : a.status ≡ (if is_some kept then 0 else 1)
   pub table : IsSomeAnd a.table (λ v. v.items ≡ solution_text p t)
 
--- The answer shows a timetable that is no worse under the wishes than the best one of a search by a tree in the narrowed instance. The search opens
--- at most this many nodes; it opens all of them, unless each is closed before or the search was ended. The proof is its, and its bound holds of every
+-- The answer shows a timetable that is no worse under the wishes than the best one of a search by a tree in the narrowed instance, below the root of
+-- the wishes, which begins with some timetable. The search opens at most this many nodes; it opens all of them, unless each is closed before or the search was
+-- ended. The proof is its, and its bound holds of every
 -- timetable that breaks neither a hard rule nor a wish.
 pub record IsSolvedKeptOf (p : Problem) (ws : List Wish) (limit : ℕ) (ended : Type 0) (a : Answer) : Type 0 where
   pub best : Option (List Cell)
   pub bound : Bound
   pub nodes : List Node
   pub finished : Bool
-  pub outcome : IsOutcomeUntil (narrowed p ws) limit ended best bound nodes finished
+  pub first : List Cell
+  pub outcome : IsOutcomeUntil (narrowed p ws) (root_of (narrowed p ws) ws) (Some first) limit ended best bound nodes finished
   pub holds : HoldsOfKept p ws bound
   pub table : List Cell
   pub fits : IsTimetable p table
@@ -63,7 +66,8 @@ pub record IsTooLargeOf (p : Problem) (ws : List Wish) (limit : ℕ) (ended : Ty
   pub bound : Bound
   pub nodes : List Node
   pub finished : Bool
-  pub outcome : IsOutcomeUntil (narrowed p ws) limit ended best bound nodes finished
+  pub first : List Cell
+  pub outcome : IsOutcomeUntil (narrowed p ws) (root_of (narrowed p ws) ws) (Some first) limit ended best bound nodes finished
   pub large : IsOverLong bound nodes
 
 -- The proof of such a search for the spelled instance and wishes is too large.

@@ -1,7 +1,8 @@
 //! The call `solve_kept`.
 
-ghost use Rattle.std.specs.Prelude.{◌≤◌, IfOk, IfErr};
+ghost use Rattle.std.specs.Prelude.{◌≤◌, min, IfOk, IfErr};
 ghost use Rattle.tt_branch.specs.declared.limit.TheConstants.{MAX_OPENED};
+ghost use Rattle.tt_wishes_best.specs.declared.limit.TheConstants.{MAX_KEPT};
 ghost use Rattle.tt_call_solve_kept.specs.SolvedKept.{IsSolvedKept, IsSolveKeptRefusal};
 
 use crate::searching::search_kept;
@@ -24,20 +25,23 @@ pub fn solve_kept<W: Watch>(
 ) -> Result<Answer, KeptFault>
     requires positive { 1 ≤ tree.nodes }
     requires at_most { tree.nodes ≤ MAX_OPENED }
-    // The proof derives its bound in the narrowed instance, and it holds of the timetables that keep the wishes. A timetable with a cost in the line
-    // breaks neither a hard rule nor a wish. Unless the watch has ended the search, all nodes are opened, or each is closed.
-    ensures found { IfOk result (IsSolvedKept files.entry tree.nodes (W.has_ended watch.new)) }
+    // The proof derives its bound in the narrowed instance below the root of the wishes, and it holds of the timetables that keep them. A timetable with
+    // a cost in the line breaks neither a hard rule nor a wish. Unless the watch has ended the search, all nodes are opened, at most 32,768, or each is
+    // closed.
+    ensures found { IfOk result (IsSolvedKept files.entry (min tree.nodes MAX_KEPT) (W.has_ended watch.new)) }
     // A refusal reports the first error.
-    ensures fault { IfErr result (IsSolveKeptRefusal files.entry tree.nodes (W.has_ended watch.new)) }
+    ensures fault { IfErr result (IsSolveKeptRefusal files.entry (min tree.nodes MAX_KEPT) (W.has_ended watch.new)) }
 {
     let Read {
         instance,
         narrow,
+        root,
         wishes,
     } = read_kept(alloc, files)?;
     let wishing = Wishing {
         instance: &instance,
         narrow: &narrow,
+        root: &root,
         wishes: &wishes,
     };
     search_kept(alloc, wishing, tree, watch)

@@ -1,8 +1,9 @@
 //! Searching for proofs over disjoint targets.
 
-ghost use Rattle.std.specs.Prelude.{IfNone, IfOk, IfSome};
+ghost use Rattle.std.specs.Prelude.{IfNone, IfOk, IfSome, List};
 ghost use Rattle.tt_instance.specs.Problem.{Problem};
-ghost use Rattle.tt_parts.specs.Found.{AreFound, AreRefused, texts_of};
+ghost use Rattle.tt_path.specs.declared.facts.Fact.{Fact};
+ghost use Rattle.tt_parts.specs.Found.{AreFoundOn, AreRefusedOn, texts_of};
 
 use crate::known::{cost_of, is_greatest};
 use crate::prices::find_priced;
@@ -14,6 +15,7 @@ use std::alloc::{AllocError, Global};
 use tt_instance::Instance;
 use tt_leaf::Bound;
 use tt_parts_groups::{GroupSearch, KnownProof, find_groups, write_all};
+use tt_path::Fact;
 use tt_table::Entry;
 use tt_watch::Watch;
 
@@ -41,7 +43,7 @@ pub struct Parts {
 impl Parts {
     /// Returns no proofs, whose bound is 0.
     pub fn none(alloc: Global) -> Parts
-        ensures { (p : Problem) → AreFound p result }
+        ensures { (p : Problem) (root : List Fact) → AreFoundOn p root result }
     {
         Parts {
             proofs: Vec::new(alloc),
@@ -50,17 +52,18 @@ impl Parts {
     }
 }
 
-/// Returns proofs with the sum of their bounds, if each is right and no two claim the same target, and `None` otherwise, or if the check of a
-/// claim isn't finished.
+/// Returns proofs with the sum of their bounds, if each is right, with these facts at the roots of trees, and no two claim the same target, and
+/// `None` otherwise, or if the check of a claim isn't finished.
 pub fn add_up(
     alloc: Global,
     instance: &Instance<'_>,
+    root: &[Fact],
     proofs: Vec<Vec<u8>>,
 ) -> Result<Option<Parts>, AllocError>
-    ensures found { IfOk result (λ found. IfSome found (AreFound instance.now)) }
-    ensures none { IfOk result (λ found. IfNone found (AreRefused instance.now (texts_of proofs.items))) }
+    ensures found { IfOk result (λ found. IfSome found (AreFoundOn instance.now root.now)) }
+    ensures none { IfOk result (λ found. IfNone found (AreRefusedOn instance.now root.now (texts_of proofs.items))) }
 {
-    let Some(bound) = sum_of(alloc, instance, proofs.as_slice())? else {
+    let Some(bound) = sum_of(alloc, instance, root, proofs.as_slice())? else {
         return Ok(None);
     };
     Ok(Some(Parts { proofs, bound }))
@@ -70,11 +73,12 @@ pub fn add_up(
 fn find_texts<W: Watch>(
     alloc: Global,
     instance: &Instance<'_>,
+    root: &[Fact],
     effort: Effort,
     guide: &[Entry],
     watch: &mut W,
 ) -> Result<Vec<Vec<u8>>, AllocError> {
-    let rooms = find_rooms(alloc, instance)?;
+    let rooms = find_rooms(alloc, instance, root)?;
     let known = rooms.as_ref().map(|rooms| KnownProof {
         text: &rooms.text,
         points: rooms.points,
@@ -92,11 +96,12 @@ fn find_texts<W: Watch>(
 fn sum_or_none(
     alloc: Global,
     instance: &Instance<'_>,
+    root: &[Fact],
     proofs: &[Vec<u8>],
 ) -> Result<Parts, AllocError>
-    ensures { IfOk result (AreFound instance.now) }
+    ensures { IfOk result (AreFoundOn instance.now root.now) }
 {
-    match add_up_or_best(alloc, instance, proofs)? {
+    match add_up_or_best(alloc, instance, root, proofs)? {
         Some(parts) => Ok(parts),
         None => Ok(Parts::none(alloc)),
     }
@@ -106,63 +111,67 @@ fn sum_or_none(
 fn find_by_groups<W: Watch>(
     alloc: Global,
     instance: &Instance<'_>,
+    root: &[Fact],
     effort: Effort,
     guide: &[Entry],
     watch: &mut W,
 ) -> Result<Parts, AllocError>
-    ensures { IfOk result (AreFound instance.now) }
+    ensures { IfOk result (AreFoundOn instance.now root.now) }
 {
-    let proofs = find_texts(alloc, instance, effort, guide, watch)?;
-    sum_or_none(alloc, instance, &proofs)
+    let proofs = find_texts(alloc, instance, root, effort, guide, watch)?;
+    sum_or_none(alloc, instance, root, &proofs)
 }
 
 /// Searches for a file of groups with prices. `known` is the cost of a known timetable.
 fn find_by_prices<W: Watch>(
     alloc: Global,
     instance: &Instance<'_>,
+    root: &[Fact],
     effort: Effort,
     known: Option<u64>,
     watch: &mut W,
 ) -> Result<Parts, AllocError>
-    ensures { IfOk result (AreFound instance.now) }
+    ensures { IfOk result (AreFoundOn instance.now root.now) }
 {
     let mut proofs = Vec::new(alloc);
     if let Some(text) = find_priced(alloc, instance, effort, known, watch)? {
         proofs.push(text)?;
     }
-    sum_or_none(alloc, instance, &proofs)
+    sum_or_none(alloc, instance, root, &proofs)
 }
 
 /// Searches for proofs that claim distinct targets: claims about groups, and one proof about the rooms, which is a tree of one leaf or a file of
-/// rents; or one file of groups with prices, if that proves more. The entries are those of a known timetable, or none: a group is not tried if
+/// rents; or one file of groups with prices, if that proves more. The tree has the facts of the root above it. The entries are those of a known timetable, or none: a group is not tried if
 /// its value would have to be above its cost in that timetable, and nothing is tried after a bound that is the timetable's cost. A part of the
 /// search for groups comes first, then the search for prices, and then the whole search for groups, if prices don't prove far more. The watch
 /// may end the search, and take proofs on the way. It makes no promise about how much it finds and how long it takes.
 pub fn find_parts<W: Watch>(
     alloc: Global,
     instance: &Instance<'_>,
+    root: &[Fact],
     effort: Effort,
     guide: &[Entry],
     watch: &mut W,
 ) -> Result<Parts, AllocError>
-    // Each proof is a right file of its kind, no target is claimed by two, and the bound is the sum, which holds for every feasible timetable.
-    ensures { IfOk result (AreFound instance.now) }
+    // Each proof is a right file of its kind, no target is claimed by two, and the bound is the sum, which holds for every feasible timetable that
+    // fits the root.
+    ensures { IfOk result (AreFoundOn instance.now root.now) }
 {
     let known = cost_of(alloc, instance, guide)?;
     let first = Effort {
         nodes: effort.nodes / FIRST_PART,
         seed: effort.seed,
     };
-    let parts = find_by_groups(alloc, instance, first, guide, watch)?;
+    let parts = find_by_groups(alloc, instance, root, first, guide, watch)?;
     let before = parts.bound;
     if is_greatest(before, known) || watch.is_over() {
         return Ok(parts);
     }
-    let priced = find_by_prices(alloc, instance, effort, known, watch)?;
+    let priced = find_by_prices(alloc, instance, root, effort, known, watch)?;
     let best = better_of(parts, priced);
     if is_greatest(best.bound, known) || is_far_above(best.bound, before) || watch.is_over() {
         return Ok(best);
     }
-    let groups = find_by_groups(alloc, instance, effort, guide, watch)?;
+    let groups = find_by_groups(alloc, instance, root, effort, guide, watch)?;
     Ok(better_of(best, groups))
 }

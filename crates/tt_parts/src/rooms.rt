@@ -9,7 +9,7 @@ use tt_leaf::{Bound, Claim, ClaimList, Leaf};
 use tt_leaf_find::best_claims;
 use tt_leaf_rules::claim_value;
 use tt_parts_rents::find_rents;
-use tt_path::Path;
+use tt_path::{Fact, Path, PathFault};
 use tt_path_trail::TrailPath;
 use tt_proof_read::Node;
 use tt_proof_write::{WriteFault, write_proof};
@@ -52,9 +52,32 @@ pub struct RoomsProof {
     pub points: u64,
 }
 
-/// Returns a proof of one leaf, which prices the seats that the rooms lack; `None` if its value would be 0.
-fn find_leaf(alloc: Global, instance: &Instance<'_>) -> Result<Option<RoomsProof>, AllocError> {
-    let path = TrailPath::new(alloc, instance)?;
+/// Returns the path with these facts; `None` if they are too many.
+fn path_of<'p, 'i>(
+    alloc: Global,
+    instance: &'p Instance<'i>,
+    root: &[Fact],
+) -> Result<Option<TrailPath<'p, 'i>>, AllocError> {
+    let mut path = TrailPath::new(alloc, instance)?;
+    for fact in root {
+        match path.push(*fact) {
+            Ok(()) => {}
+            Err(PathFault::TooDeep) => return Ok(None),
+            Err(PathFault::OutOfMemory) => return Err(AllocError),
+        }
+    }
+    Ok(Some(path))
+}
+
+/// Returns a proof of one leaf below a root, which prices the seats that the rooms lack; `None` if its value would be 0.
+fn find_leaf(
+    alloc: Global,
+    instance: &Instance<'_>,
+    root: &[Fact],
+) -> Result<Option<RoomsProof>, AllocError> {
+    let Some(path) = path_of(alloc, instance, root)? else {
+        return Ok(None);
+    };
     let Leaf::Cost(claims) = best_claims(alloc, &path)? else {
         return Ok(None);
     };
@@ -77,12 +100,13 @@ fn points_of(proof: Option<&RoomsProof>) -> u64 {
     proof.map_or(0, |proof| proof.points)
 }
 
-/// Returns a proof about the rooms: one leaf, or a file of rents if that proves more. It is `None` if neither proves a point.
+/// Returns a proof about the rooms: one leaf below the root, or a file of rents if that proves more. It is `None` if neither proves a point.
 pub fn find_rooms(
     alloc: Global,
     instance: &Instance<'_>,
+    root: &[Fact],
 ) -> Result<Option<RoomsProof>, AllocError> {
-    let leaf = find_leaf(alloc, instance)?;
+    let leaf = find_leaf(alloc, instance, root)?;
     let rents = find_rents(alloc, instance)?.map(|rents| RoomsProof {
         text: rents.text,
         points: rents.points,

@@ -1,14 +1,15 @@
 //! Checking proofs together.
 
 ghost use Rattle.std.specs.Prelude.{◌≡◌, IfNone, IfOk, IfSome, None, OnOk};
-ghost use Rattle.tt_proof_check.specs.Derives.{HoldsOfAll};
-ghost use Rattle.tt_proof_sum.specs.Sums.{IsSum};
-ghost use Rattle.tt_parts.specs.Found.{AreRefused, texts_of};
+ghost use Rattle.tt_proof_check.specs.Derives.{HoldsOn};
+ghost use Rattle.tt_proof_sum.specs.Sums.{IsSumOn};
+ghost use Rattle.tt_parts.specs.Found.{AreRefusedOn, texts_of};
 
 use std::alloc::{AllocError, Global};
 use tt_instance::Instance;
 use tt_leaf::Bound;
-use tt_proof_sum::{SumStop, sum_proofs};
+use tt_path::Fact;
+use tt_proof_sum::{SumStop, sum_proofs_on};
 use tt_stop::Stop;
 use tt_text_memory::Memory;
 use tt_text_peek::Peeked;
@@ -39,24 +40,25 @@ fn no_sum(stop: SumStop) -> Result<Option<Bound>, AllocError>
     }
 }
 
-/// Returns the sum of the bounds of proofs, if each is right and no two claim the same target. Reads of memory don't fail, so that `None` always
+/// Returns the sum of the bounds of proofs, if each is right, with these facts at the roots of trees, and no two claim the same target. Reads of memory don't fail, so that `None` always
 /// has a fault of one of the proofs as its reason.
 pub fn sum_of(
     alloc: Global,
     instance: &Instance<'_>,
+    root: &[Fact],
     proofs: &[Vec<u8>],
 ) -> Result<Option<Bound>, AllocError>
-    ensures found { IfOk result (λ found. IfSome found (IsSum instance.now (texts_of proofs.now))) }
-    ensures holds { IfOk result (λ found. IfSome found (HoldsOfAll instance.now)) }
+    ensures found { IfOk result (λ found. IfSome found (IsSumOn instance.now root.now (texts_of proofs.now))) }
+    ensures holds { IfOk result (λ found. IfSome found (λ b. HoldsOn instance.now b root.now)) }
     // There is no sum only if a proof has a fault, or the check of its claims wasn't finished.
-    ensures none { IfOk result (λ found. IfNone found (AreRefused instance.now (texts_of proofs.now))) }
+    ensures none { IfOk result (λ found. IfNone found (AreRefusedOn instance.now root.now (texts_of proofs.now))) }
 {
     let mut sources = Vec::new(alloc);
     for proof in proofs {
         let pieces = Memory::new(proof.as_slice(), PIECE);
         sources.push(Peeked::new(alloc, pieces))?;
     }
-    match sum_proofs(alloc, instance, sources.as_mut_slice()) {
+    match sum_proofs_on(alloc, instance, root, sources.as_mut_slice()) {
         Ok(bound) => Ok(Some(bound)),
         Err(stop) => no_sum(stop),
     }

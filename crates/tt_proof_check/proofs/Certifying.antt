@@ -1,5 +1,5 @@
 -- The result of `certify`, from the results of its steps.
-use Rattle.std.proofs.Common.{◌≡◌, ℕ, zero, suc, ◌+◌, ◌<◌, ◌≤◌, Bool, true, false, List, Option, Some, None, Result, Ok, Err, IfOk, refl, sym, ap, subst, ◌∙◌, arith}
+use Rattle.std.proofs.Common.{◌≡◌, ℕ, zero, suc, ◌+◌, ◌<◌, ◌≤◌, Bool, true, false, List, [], Option, Some, None, Result, Ok, Err, IfOk, refl, sym, ap, subst, ◌∙◌, arith}
 use Rattle.std.specs.Prelude.{IfSome, ◌↔◌, IsTrue}
 use Rattle.tt_stop.proofs.Stops.{OnFault-weaker, OnFault-each, at_mapped}
 use Rattle.tt_stop.specs.Stops.{OnFault, is_failed_read}
@@ -173,7 +173,7 @@ costs_of s = s.room_capacity + s.min_working_days + s.compactness + s.room_stabi
 record Certified (p : Problem) (t : List Cell) (bytes : List ℕ) (c b : ℕ) : Type 0 where
   feasible : IsFeasible p t
   costs : cost p t ≡ c
-  proved : IsProved p bytes (AtLeast b)
+  proved : IsProved p [] bytes (AtLeast b)
 
 module _ (i s : List ℕ) (p : Problem) (t : List Cell) (spelled : Spells i p) (solved : SpellsTable p s t) where
   pub both : SpellsBoth i s p t
@@ -229,18 +229,18 @@ module _ (i s : List ℕ) (p : Problem) (t : List Cell) (spelled : Spells i p) (
 
     -- a fault of the proof is the first fault
     pub bound_tells : (q : Option (List ℕ)) (x : Stop CheckFault) (y : Stop CertifyFault) → y ≡ stop_from_check x → broken_by score ≡ 0
-        → OnFault x (λ f. (bytes : List ℕ) → q ≡ Some bytes → IsProofFault p (stream_of bytes) f) → OnFault y (IsFirstFault i s q)
+        → OnFault x (λ f. (bytes : List ℕ) → q ≡ Some bytes → IsProofFault p [] (stream_of bytes) f) → OnFault y (IsFirstFault i s q)
     bound_tells q x y is e h = at_mapped fault.Proof x y is (IsFirstFault i s q) (OnFault-weaker x _ _ first h)
       where
-        reported : (f : CheckFault) (k : Option (List ℕ)) → ((bytes : List ℕ) → k ≡ Some bytes → IsProofFault p (stream_of bytes) f)
-            → IfSome k (λ bytes. IsProofFault p (stream_of bytes) f)
+        reported : (f : CheckFault) (k : Option (List ℕ)) → ((bytes : List ℕ) → k ≡ Some bytes → IsProofFault p [] (stream_of bytes) f)
+            → IfSome k (λ bytes. IsProofFault p [] (stream_of bytes) f)
         reported f None h = tt
         reported f (Some bytes) h = h bytes refl
 
-        first : (f : CheckFault) → ((bytes : List ℕ) → q ≡ Some bytes → IsProofFault p (stream_of bytes) f) → FailsProof i s q f
+        first : (f : CheckFault) → ((bytes : List ℕ) → q ≡ Some bytes → IsProofFault p [] (stream_of bytes) f) → FailsProof i s q f
         first f h = record { problem = p; table = t; both = both; feasible = is_feasible e; fails = reported f q h }
 
-    pub certified_proof : (bytes : List ℕ) (c b : ℕ) → Certifies i s bytes c b → IsProved p bytes (AtLeast b)
+    pub certified_proof : (bytes : List ℕ) (c b : ℕ) → Certifies i s bytes c b → IsProved p [] bytes (AtLeast b)
     certified_proof bytes c b h = (certified_here bytes c b h).proved
 
     pub certified_cost : (bytes : List ℕ) (c b : ℕ) → Certifies i s bytes c b → costs_of score ≡ c
@@ -250,14 +250,14 @@ module _ (i s : List ℕ) (p : Problem) (t : List Cell) (spelled : Spells i p) (
     solves_here e = record { problem = p; table = t; both = both; feasible = is_feasible e; costs = sym (cost_is p t score is) }
 
     pub yes_found : (q : Option (List ℕ)) (b : ℕ) → broken_by score ≡ 0
-        → ((bytes : List ℕ) → q ≡ Some bytes → IsProved p bytes (AtLeast b)) → HoldsOfAll p (AtLeast b) → IsYes i s q (costs_of score) b
+        → ((bytes : List ℕ) → q ≡ Some bytes → IsProved p [] bytes (AtLeast b)) → HoldsOfAll p (AtLeast b) → IsYes i s q (costs_of score) b
     yes_found q b e proved holds =
         let all : BoundsAll i b = λ other spells. subst (λ (x : Problem). HoldsOfAll x (AtLeast b))
         (spelled_once i p other spelled spells) holds in
         let within : b ≤ costs_of score = subst (λ (n : ℕ). b ≤ n) (sym (cost_is p t score is)) (holds t (is_feasible e)) in
         record { solves = solves_here e; certified = reported q proved; bounds = all; within = within }
       where
-        reported : (k : Option (List ℕ)) → ((bytes : List ℕ) → k ≡ Some bytes → IsProved p bytes (AtLeast b))
+        reported : (k : Option (List ℕ)) → ((bytes : List ℕ) → k ≡ Some bytes → IsProved p [] bytes (AtLeast b))
             → IfSome k (λ bytes. Certifies i s bytes (costs_of score) b)
         reported None h = tt
         reported (Some bytes) h = record { solves = solves_here e; proved = h bytes refl }

@@ -2,13 +2,14 @@
 use Rattle.std.proofs.Common.{◌≡◌, ℕ, suc, zero, ◌+◌, ◌<◌, List, [], ◌∷◌, ◌++◌, length, Result, Ok, refl, sym, ap, subst, ◌∙◌, arith, append_assoc, append-nil, ◌⊎◌, inl, inr}
 use Rattle.std.specs.Prelude.{slice_get}
 use Rattle.tt_text.specs.Feeds.{Stream}
+use Rattle.tt_path.specs.declared.facts.Fact.{Fact}
 use Rattle.tt_leaf.specs.declared.leaf.Bound.{Bound}
 use Rattle.tt_proof_read.specs.Reads.{ReadsNodes}
 use Rattle.tt_proof_read.specs.Trees.{Tree, Tip, Fork, preorder, on_paths}
 use Rattle.tt_proof_read.specs.declared.fault.TextFault.{TextFault}
 use Rattle.tt_proof_read.specs.declared.node.Node.{Node}
 use Rattle.tt_proof_read.specs.declared.sizes.Sizes.{Sizes}
-use Rattle.tt_proof_check.proofs.Reading.{Stack, root, next_stack, places_of, whole_places}
+use Rattle.tt_proof_check.proofs.Reading.{Stack, place, next_stack, places_of, whole_places}
 
 -- no tree is a proper prefix of another
 pub prefix_free : (x y : Tree) (xs ys : List Node) → preorder x ++ xs ≡ preorder y ++ ys → (x ≡ y) × (xs ≡ ys)
@@ -73,8 +74,8 @@ get_place (path ∷ rest) (n ∷ ns) more zero h = refl
 get_place (path ∷ rest) (n ∷ ns) more (suc i) h = get_place (next_stack path rest n) ns more i (omega arith)
 
 -- two trees that begin with the same nodes have them on the same paths
-pub same_place : (x y : Tree) (nodes xs ys : List Node) (i : ℕ) → preorder x ≡ nodes ++ xs → preorder y ≡ nodes ++ ys → i < length nodes
-    → slice_get (on_paths [] x) i ≡ slice_get (on_paths [] y) i
-same_place x y nodes xs ys i e d h =
-    ap (λ l. slice_get l i) (sym (whole_places x (nodes ++ xs) e)) ∙ get_place root nodes xs i h
-    ∙ sym (get_place root nodes ys i h) ∙ ap (λ l. slice_get l i) (whole_places y (nodes ++ ys) d)
+pub same_place : (root : List Fact) (x y : Tree) (nodes xs ys : List Node) (i : ℕ) → preorder x ≡ nodes ++ xs → preorder y ≡ nodes ++ ys
+    → i < length nodes → slice_get (on_paths root x) i ≡ slice_get (on_paths root y) i
+same_place root x y nodes xs ys i e d h =
+    ap (λ l. slice_get l i) (sym (whole_places root x (nodes ++ xs) e)) ∙ get_place (place root) nodes xs i h
+    ∙ sym (get_place (place root) nodes ys i h) ∙ ap (λ l. slice_get l i) (whole_places root y (nodes ++ ys) d)

@@ -58,7 +58,7 @@ gap_costs_five =
     )
 
 -- its first leaf is node 2, and five is too little for six
-gap_costs_no_six : FailsAt gap (AtLeast 6) gap_tree 2 TooCheap
+gap_costs_no_six : FailsAt gap [] (AtLeast 6) gap_tree 2 TooCheap
 gap_costs_no_six = record {
   path = _;
   leaf = five;
@@ -72,9 +72,18 @@ abbrev fact : Pattern → Bool → Fact
 fact g holds = record { pattern = g; holds = holds }
 
 -- after a yes-fact its second child is pending, after a no-fact nothing is
-two_to_come : pending (fact (when 0 0) true ∷ fact (when 1 2) false ∷ fact (when 1 1) true ∷ [])
+two_to_come : pending 0 (fact (when 0 0) true ∷ fact (when 1 2) false ∷ fact (when 1 1) true ∷ [])
     ≡ (fact (when 0 0) true ∷ fact (when 1 2) false ∷ fact (when 1 1) false ∷ []) ∷ (fact (when 0 0) false ∷ []) ∷ []
 two_to_come = refl
+
+-- if the first fact is one of the root, its other side is not
+one_to_come : pending 1 (fact (when 0 0) true ∷ fact (when 1 2) false ∷ fact (when 1 1) true ∷ [])
+    ≡ (fact (when 0 0) true ∷ fact (when 1 2) false ∷ fact (when 1 1) false ∷ []) ∷ []
+one_to_come = refl
+
+-- with the first fact at its root, the left side of the tree derives the bound by itself
+left_costs_five : Derives gap (AtLeast 5) (fact (when 0 0) true ∷ []) (Fork (when 1 2) (Tip five) (Tip (Clique (1 ∷ []))))
+left_costs_five = gap_costs_five.0
 
 -- the first split has been read whole, and the failure of a read cuts off the second
 abbrev begun : List ℕ
@@ -105,7 +114,7 @@ no_second : node_at (sizes_of gap) 1 1 second ≡ Err read_failed
 unfolding token_at who_at pattern_at node_after_word node_at
 no_second = refl
 
-a_split_breaks_off : IsCutOff gap (cut_short (stream_of begun))
+a_split_breaks_off : IsCutOff gap [] (cut_short (stream_of begun))
 a_split_breaks_off = inr (
   1,
   AtLeast 5,

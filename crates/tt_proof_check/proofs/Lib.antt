@@ -9,6 +9,7 @@ pub mod Nodes
 pub mod OneFault
 pub mod Places
 pub mod Reading
+pub mod Roots
 pub mod Sizes
 pub mod Soundness
 pub mod Streaming

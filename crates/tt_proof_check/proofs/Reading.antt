@@ -10,9 +10,9 @@ use Rattle.tt_proof_read.specs.declared.node.Node.TheVariants.{Split, Leaf}
 abbrev pub Stack : Type 0
 Stack = List (List Fact)
 
--- the place of a whole tree
-abbrev pub root : Stack
-root = [] ∷ []
+-- the place of a whole tree, with these facts at its root
+abbrev pub place : List Fact → Stack
+place root = root ∷ []
 
 -- the paths that are open after a node
 abbrev pub next_stack : List Fact → Stack → Node → Stack
@@ -62,14 +62,15 @@ length-places_of [] after (n ∷ ns) e = cc
 length-places_of (path ∷ rest) after (n ∷ ns) e = ap (λ k. suc k) (length-places_of (next_stack path rest n) after ns e)
 
 -- another node
-pub stack_after-push : (path : List Fact) (rest : Stack) (nodes : List Node) (n : Node) → stack_after root nodes ≡ Some (path ∷ rest)
-    → stack_after root (nodes ++ n ∷ []) ≡ Some (next_stack path rest n)
-stack_after-push path rest nodes n e = stack_after-append root (path ∷ rest) nodes (n ∷ []) e
+pub stack_after-push : (root path : List Fact) (rest : Stack) (nodes : List Node) (n : Node)
+    → stack_after (place root) nodes ≡ Some (path ∷ rest) → stack_after (place root) (nodes ++ n ∷ []) ≡ Some (next_stack path rest n)
+stack_after-push root path rest nodes n e = stack_after-append (place root) (path ∷ rest) nodes (n ∷ []) e
 
-pub places_of-push : (path : List Fact) (rest : Stack) (nodes : List Node) (n : Node) → stack_after root nodes ≡ Some (path ∷ rest)
-    → places_of root (nodes ++ n ∷ []) ≡ places_of root nodes ++ at path n ∷ []
-places_of-push path rest nodes n e =
-    places_of-append root (path ∷ rest) nodes (n ∷ []) e ∙ ap (λ l. places_of root nodes ++ at path n ∷ l)
+pub places_of-push : (root path : List Fact) (rest : Stack) (nodes : List Node) (n : Node)
+    → stack_after (place root) nodes ≡ Some (path ∷ rest)
+    → places_of (place root) (nodes ++ n ∷ []) ≡ places_of (place root) nodes ++ at path n ∷ []
+places_of-push root path rest nodes n e =
+    places_of-append (place root) (path ∷ rest) nodes (n ∷ []) e ∙ ap (λ l. places_of (place root) nodes ++ at path n ∷ l)
     (nothing_placed (next_stack path rest n))
 
 -- ---- a whole tree
@@ -94,13 +95,16 @@ places_of-tree (Fork g x y) path rest ns =
     ∙ ap (λ l. on_paths a x ++ l) (places_of-tree y b rest ns) ∙ sym (append_assoc (on_paths a x) (on_paths b y) (places_of rest ns)))
 
 -- the nodes of a tree leave no place open
-pub whole_stack : (tree : Tree) (nodes : List Node) → preorder tree ≡ nodes → stack_after root nodes ≡ Some []
-whole_stack tree nodes e = ap (stack_after root) (sym e ∙ sym (append-nil (preorder tree))) ∙ stack_after-tree tree [] [] []
+pub whole_stack : (root : List Fact) (tree : Tree) (nodes : List Node) → preorder tree ≡ nodes → stack_after (place root) nodes ≡ Some []
+whole_stack root tree nodes e =
+    ap (stack_after (place root)) (sym e ∙ sym (append-nil (preorder tree))) ∙ stack_after-tree tree root [] []
 
 -- the nodes of a tree are on the paths of the tree
-pub whole_places : (tree : Tree) (nodes : List Node) → preorder tree ≡ nodes → places_of root nodes ≡ on_paths [] tree
-whole_places tree nodes e = ap (places_of root) (sym e ∙ sym (append-nil (preorder tree))) ∙ places_of-tree tree [] [] []
-    ∙ append-nil (on_paths [] tree)
+pub whole_places : (root : List Fact) (tree : Tree) (nodes : List Node) → preorder tree ≡ nodes
+    → places_of (place root) nodes ≡ on_paths root tree
+whole_places root tree nodes e =
+    ap (places_of (place root)) (sym e ∙ sym (append-nil (preorder tree))) ∙ places_of-tree tree root [] []
+    ∙ append-nil (on_paths root tree)
 
 -- a tree at the beginning of the nodes
 record Begins (rest : Stack) (nodes : List Node) : Type 0 where
@@ -133,9 +137,9 @@ nothing_behind [] e = refl
 nothing_behind (n ∷ ns) e = cc
 
 -- nodes that leave no place open are a tree
-pub stack_whole : (nodes : List Node) → stack_after root nodes ≡ Some [] → IsPreorder nodes
-stack_whole nodes e =
-    let h = first_tree (length nodes) nodes [] [] (omega arith) e in
+pub stack_whole : (root : List Fact) (nodes : List Node) → stack_after (place root) nodes ≡ Some [] → IsPreorder nodes
+stack_whole root nodes e =
+    let h = first_tree (length nodes) nodes root [] (omega arith) e in
     (h.tree, sym (append-nil (preorder h.tree)) ∙ ap (λ l. preorder h.tree ++ l) (sym (nothing_behind h.behind h.others)) ∙ h.split)
 
 -- ---- the beginning of a tree
@@ -149,30 +153,30 @@ stack_after-closing [] = refl
 stack_after-closing (path ∷ rest) = stack_after-closing rest
 
 -- some tree continues any nodes that each had an open place, with a node for each place that is open
-pub some_tree : (nodes : List Node) (stack : Stack) → stack_after root nodes ≡ Some stack
+pub some_tree : (root : List Fact) (nodes : List Node) (stack : Stack) → stack_after (place root) nodes ≡ Some stack
     → (tree : Tree) × (preorder tree ≡ nodes ++ closing stack)
-some_tree nodes stack e = stack_whole (nodes ++ closing stack) (stack_after-append root stack nodes (closing stack) e
-    ∙ stack_after-closing stack)
+some_tree root nodes stack e =
+    stack_whole root (nodes ++ closing stack) (stack_after-append (place root) stack nodes (closing stack) e ∙ stack_after-closing stack)
 
 -- a tree that continues the nodes has them on these paths
-pub tree_goes_on : (tree : Tree) (path : List Fact) (others : Stack) (nodes : List Node) (n : Node) (rest : List Node)
-    → preorder tree ≡ nodes ++ n ∷ rest → stack_after root nodes ≡ Some (path ∷ others)
-    → on_paths [] tree ≡ places_of root nodes ++ at path n ∷ places_of (next_stack path others n) rest
-tree_goes_on tree path others nodes n rest s e = sym (whole_places tree (nodes ++ n ∷ rest) s)
-    ∙ places_of-append root (path ∷ others) nodes (n ∷ rest) e
+pub tree_goes_on : (root : List Fact) (tree : Tree) (path : List Fact) (others : Stack) (nodes : List Node) (n : Node)
+    (rest : List Node) → preorder tree ≡ nodes ++ n ∷ rest → stack_after (place root) nodes ≡ Some (path ∷ others)
+    → on_paths root tree ≡ places_of (place root) nodes ++ at path n ∷ places_of (next_stack path others n) rest
+tree_goes_on root tree path others nodes n rest s e = sym (whole_places root tree (nodes ++ n ∷ rest) s)
+    ∙ places_of-append (place root) (path ∷ others) nodes (n ∷ rest) e
 
 -- if no place is open, no tree continues the nodes
-pub no_tree_goes_on : (tree : Tree) (nodes : List Node) (n : Node) (rest : List Node) → preorder tree ≡ nodes ++ n ∷ rest
-    → stack_after root nodes ≡ Some [] → ⊥
-no_tree_goes_on tree nodes n rest s e =
-    let none : stack_after root (nodes ++ n ∷ rest) ≡ None = stack_after-append root [] nodes (n ∷ rest) e in
-    let some = whole_stack tree (nodes ++ n ∷ rest) s in
+pub no_tree_goes_on : (root : List Fact) (tree : Tree) (nodes : List Node) (n : Node) (rest : List Node)
+    → preorder tree ≡ nodes ++ n ∷ rest → stack_after (place root) nodes ≡ Some [] → ⊥
+no_tree_goes_on root tree nodes n rest s e =
+    let none : stack_after (place root) (nodes ++ n ∷ rest) ≡ None = stack_after-append (place root) [] nodes (n ∷ rest) e in
+    let some = whole_stack root tree (nodes ++ n ∷ rest) s in
     cc
 
 -- if a place is open, the nodes are no tree
-pub no_tree_yet : (tree : Tree) (path : List Fact) (others : Stack) (nodes : List Node) → preorder tree ≡ nodes
-    → stack_after root nodes ≡ Some (path ∷ others) → ⊥
-no_tree_yet tree path others nodes s e = let some = whole_stack tree nodes s in cc
+pub no_tree_yet : (root : List Fact) (tree : Tree) (path : List Fact) (others : Stack) (nodes : List Node) → preorder tree ≡ nodes
+    → stack_after (place root) nodes ≡ Some (path ∷ others) → ⊥
+no_tree_yet root tree path others nodes s e = let some = whole_stack root tree nodes s in cc
 
 -- an element after others
 pub get-behind : {X : Type 0} (xs : List X) (x : X) (ys : List X) (n : ℕ) → length xs ≡ n → slice_get (xs ++ x ∷ ys) n ≡ Some x

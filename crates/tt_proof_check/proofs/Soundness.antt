@@ -13,7 +13,7 @@ use Rattle.tt_leaf.specs.declared.leaf.Bound.{Bound}
 use Rattle.tt_leaf_rules.proofs.Soundness.{leaf_sound}
 use Rattle.tt_proof_read.specs.Trees.{Tree, Tip, Fork, with_fact}
 use Rattle.tt_proof_read.specs.declared.node.Node.{Node}
-use Rattle.tt_proof_check.specs.Derives.{Derives, HoldsOfAll, Proves}
+use Rattle.tt_proof_check.specs.Derives.{Derives, HoldsOn, HoldsOfAll, Proves}
 
 -- by induction on the tree: a timetable meets the pattern of a split or it doesn't
 pub tree_sound : (p : Problem) (t : List Cell) (ok : IsFeasible p t) (b : Bound) (path : List Fact) (tree : Tree)
@@ -29,6 +29,10 @@ tree_sound p t ok b path (Fork g first second) d fits = elim (cases_Bool (list_a
 pub root_sound : (p : Problem) (b : Bound) (tree : Tree) → Derives p b [] tree → HoldsOfAll p b
 root_sound p b tree d t ok = tree_sound p t ok b [] tree d (All-nil (Holds p t))
 
+-- a bound that holds on a path with no fact holds for every feasible timetable
+pub holds_rootless : (p : Problem) (b : Bound) → HoldsOn p b [] → HoldsOfAll p b
+holds_rootless p b h t ok = h t ok (All-nil (Holds p t))
+
 -- a bound that the nodes prove holds for every feasible timetable
-pub proof_sound : (p : Problem) (b : Bound) (nodes : List Node) → Proves p b nodes → HoldsOfAll p b
+pub proof_sound : (p : Problem) (b : Bound) (nodes : List Node) → Proves p [] b nodes → HoldsOfAll p b
 proof_sound p b nodes h t ok = root_sound p b h.0 h.3 t ok

@@ -7,26 +7,28 @@ use Rattle.tt_stop.specs.declared.stop.Stop.TheVariants.{Fault, ReadFailed, OutO
 use Rattle.tt_text.specs.Feeds.{Stream, stream_at, fresh}
 use Rattle.tt_instance.specs.Problem.{Problem}
 use Rattle.tt_instance.specs.Limits.{IsInstance}
+use Rattle.tt_path.specs.declared.facts.Fact.{Fact}
 use Rattle.tt_leaf.specs.declared.leaf.Bound.{Bound}
 use Rattle.tt_proof_read.specs.Reading.{header_at, node_at, end_at}
 use Rattle.tt_proof_read.specs.Reads.{ReadsNodes, Reads}
 use Rattle.tt_proof_read.specs.Spelling.{SpellsProof}
-use Rattle.tt_proof_read.specs.Trees.{Tree, preorder, on_paths, IsShallow}
+use Rattle.tt_proof_read.specs.Trees.{Tree, preorder, on_paths}
 use Rattle.tt_proof_read.specs.declared.fault.TextFault.{TextFault}
 use Rattle.tt_proof_read.specs.declared.node.Node.{Node}
 use Rattle.tt_proof_read.proofs.ProofLaws.{reads_spelled, spelled_reads}
 use Rattle.tt_proof_read.proofs.Small.{are_small}
 use Rattle.tt_proof_check.specs.declared.fault.CheckFault.{CheckFault}
 use Rattle.tt_proof_check.specs.declared.fault.CheckFault.TheVariants as reported
-use Rattle.tt_proof_check.specs.Derives.{Derives, HoldsOfAll}
+use Rattle.tt_proof_check.specs.Derives.{Derives, HoldsOn, IsShallowOn}
 use Rattle.tt_proof_check.specs.Visited.{IsVisitedProof}
 use Rattle.tt_proof_check.specs.Inner.CheckedPart.{Proved}
 use Rattle.tt_proof_check.specs.Streams.{IsProved, stream_of, sizes_of, NodeFails, EndFails, IsReadTo, HasHeader, IsProofFault}
 use Rattle.tt_proof_check.specs.Explains.{FailsAt, IsDeepAt}
+use Rattle.tt_proof_check.proofs.Roots.{shallow_alone}
 use Rattle.tt_proof_check.proofs.Determined.{begins_whole, same_header, compare, same_place}
 use Rattle.tt_proof_check.proofs.InOrder.{tree_passes, never_fails, never_deep}
 use Rattle.tt_proof_check.proofs.Sizes.{are_sizes_of}
-use Rattle.tt_proof_check.proofs.Soundness.{root_sound}
+use Rattle.tt_proof_check.proofs.Soundness.{tree_sound}
 
 -- one reading doesn't give both a value and a fault
 pub only_one : {Y : Type 0} (read : Result Y TextFault) (y : Y) (f : TextFault) → read ≡ Ok y → read ≡ Err f → ⊥
@@ -77,12 +79,13 @@ module _ (p : Problem) (v : ℕ) (s noded : Stream) (tree : Tree) (reads : Reads
         | inr m ↦ sym (none (0 + length (preorder tree)) noded rest m.0 (begins_whole other tree m.0 (sym m.1)).1 m.2)
       ]
 
-  pub place_read : (i : ℕ) (P : Tree → Type 0) (h : IsReadTo p v s i P) → slice_get (on_paths [] tree) i ≡ slice_get (on_paths [] h.tree) i
-  place_read i P h =
+  pub place_read : (root : List Fact) (i : ℕ) (P : Tree → Type 0) (h : IsReadTo p v s i P)
+      → slice_get (on_paths root tree) i ≡ slice_get (on_paths root h.tree) i
+  place_read root i P h =
       let inside : i < length h.nodes = omega (arith, h.last) in
       elim (compare (sizes_of p) v 0 s h.rest noded h.nodes (preorder tree) h.reads reads) [
-        | inl m ↦ same_place tree h.tree h.nodes m.0 h.more i (sym m.1) h.begins inside
-        | inr m ↦ ap (λ (t : Tree). slice_get (on_paths [] t) i)
+        | inl m ↦ same_place root tree h.tree h.nodes m.0 h.more i (sym m.1) h.begins inside
+        | inr m ↦ ap (λ (t : Tree). slice_get (on_paths root t) i)
             (sym (begins_whole h.tree tree (m.0 ++ h.more) (h.begins ∙ ap (λ l. l ++ h.more) (sym m.1)
             ∙ append_assoc (preorder tree) m.0 h.more)).0)
       ]
@@ -93,89 +96,99 @@ module _ (p : Problem) (s : Stream) (v : ℕ) (b : Bound) (tree : Tree) (r : Rea
   header_is P h = subst (λ (x : (ℕ × Bound) × Stream). P x.0.0 x.0.1 x.1)
       (same_header ((h.0, h.1), h.2) ((v, b), r.headed) (sym h.3 ∙ r.header)) h.4
 
-  pub bound_is : (known : Bool) (H : List Node → Type 0) (c : Bound) → known ≡ true → Proved p known H s c → c ≡ b
-  bound_is known H c k h = ap (λ (x : (ℕ × Bound) × Stream). x.0.1) (same_header ((h.version, c), (h.reads k).headed) ((v, b), r.headed)
+  pub bound_is : (root : List Fact) (known : Bool) (H : List Node → Type 0) (c : Bound) → known ≡ true → Proved p root known H s c → c ≡ b
+  bound_is root known H c k h = ap (λ (x : (ℕ × Bound) × Stream). x.0.1) (same_header ((h.version, c), (h.reads k).headed) ((v, b), r.headed)
       (sym (h.reads k).header ∙ r.header))
 
-  pub faultless : IsShallow tree → Derives p b [] tree → (e : CheckFault) → IsProofFault p s e → ⊥
-  faultless shallow d (reported.Text f) (inl h) = only_one (header_at s) ((v, b), r.headed) f r.header h
-  faultless shallow d (reported.Text f) (inr h) = elim (header_is (λ w c rest. NodeFails p w c rest f ⊎ EndFails p w c rest f) h) [
+  pub faultless : (root : List Fact) → IsShallowOn root tree → Derives p b root tree → (e : CheckFault) → IsProofFault p root s e → ⊥
+  faultless root shallow d (reported.Text f) (inl h) = only_one (header_at s) ((v, b), r.headed) f r.header h
+  faultless root shallow d (reported.Text f) (inr h) = elim (header_is (λ w c rest. NodeFails p root w c rest f ⊎ EndFails p root w c rest f) h) [
     | inl a ↦ node_read p v r.headed r.noded tree r.nodes f a.nodes a.rest a.tree a.next a.more a.reads a.begins a.fails
     | inr a ↦ end_read p v r.headed r.noded tree r.nodes r.ended r.finish f a.tree a.rest a.reads a.fails
   ]
-  faultless shallow d (reported.Rule i f) h =
-      let a = header_is (λ w c rest. IsReadTo p w rest i (λ t. FailsAt p c t i f)) h in
-      never_fails p b tree a.tree i f (tree_passes p b tree shallow d)
-      (place_read p v r.headed r.noded tree r.nodes i (λ t. FailsAt p b t i f) a) a.is
-  faultless shallow d (reported.TooDeep i) h =
-      let a = header_is (λ w c rest. IsReadTo p w rest i (λ t. IsDeepAt p c t i)) h in
-      never_deep p b tree a.tree i (tree_passes p b tree shallow d)
-      (place_read p v r.headed r.noded tree r.nodes i (λ t. IsDeepAt p b t i) a) a.is
+  faultless root shallow d (reported.Rule i f) h =
+      let a = header_is (λ w c rest. IsReadTo p w rest i (λ t. FailsAt p root c t i f)) h in
+      never_fails p root b tree a.tree i f (tree_passes p root b tree shallow d)
+      (place_read p v r.headed r.noded tree r.nodes root i (λ t. FailsAt p root b t i f) a) a.is
+  faultless root shallow d (reported.TooDeep i) h =
+      let a = header_is (λ w c rest. IsReadTo p w rest i (λ t. IsDeepAt p root c t i)) h in
+      never_deep p root b tree a.tree i (tree_passes p root b tree shallow d)
+      (place_read p v r.headed r.noded tree r.nodes root i (λ t. IsDeepAt p root b t i) a) a.is
 
 -- ---- the bytes
 
-module _ (p : Problem) (remaining : Option (List ℕ)) (H : List Node → Type 0) where
-  proved_in : (bytes : List ℕ) → remaining ≡ Some bytes → (b : Bound) → Proved p (is_some remaining) H (stream_at fresh remaining) b
-      → Proved p true H (stream_of bytes) b
-  proved_in bytes e b h = subst (λ (k : Option (List ℕ)). Proved p (is_some k) H (stream_at fresh k) b) e h
+module _ (p : Problem) (root : List Fact) (remaining : Option (List ℕ)) (H : List Node → Type 0) where
+  proved_in : (bytes : List ℕ) → remaining ≡ Some bytes → (b : Bound) → Proved p root (is_some remaining) H (stream_at fresh remaining) b
+      → Proved p root true H (stream_of bytes) b
+  proved_in bytes e b h = subst (λ (k : Option (List ℕ)). Proved p root (is_some k) H (stream_at fresh k) b) e h
 
-  found_in : (bytes : List ℕ) → remaining ≡ Some bytes → (b : Bound) → Proved p (is_some remaining) H (stream_at fresh remaining) b
-      → IsProved p bytes b
+  found_in : (bytes : List ℕ) → remaining ≡ Some bytes → (b : Bound) → Proved p root (is_some remaining) H (stream_at fresh remaining) b
+      → IsProved p root bytes b
   found_in bytes e b h =
       let k = proved_in bytes e b h in
-      (k.version, k.tree, reads_spelled p (sizes_of p) (are_sizes_of p) bytes k.version b k.tree k.shallow (k.reads refl), k.derives)
+      let low = shallow_alone root k.tree k.shallow in (
+        k.version,
+        k.tree,
+        reads_spelled p (sizes_of p) (are_sizes_of p) bytes k.version b k.tree low (k.reads refl),
+        k.derives,
+        k.shallow,
+      )
 
-  reported_in : (bytes : List ℕ) → remaining ≡ Some bytes → (x : CheckFault) → IsProofFault p (stream_at fresh remaining) x
-      → IsProofFault p (stream_of bytes) x
-  reported_in bytes e x h = subst (λ (k : Option (List ℕ)). IsProofFault p (stream_at fresh k) x) e h
+  reported_in : (bytes : List ℕ) → remaining ≡ Some bytes → (x : CheckFault) → IsProofFault p root (stream_at fresh remaining) x
+      → IsProofFault p root (stream_of bytes) x
+  reported_in bytes e x h = subst (λ (k : Option (List ℕ)). IsProofFault p root (stream_at fresh k) x) e h
 
-  pub proof_found : (r : Result Bound (Stop CheckFault)) → IfOk r (λ b. Proved p (is_some remaining) H (stream_at fresh remaining) b)
-      → IfOk r (λ b. (bytes : List ℕ) → remaining ≡ Some bytes → IsProved p bytes b)
+  -- what a check tells: the proof, if the result is a bound, and the fault, if it is one
+  abbrev IsTold : Result Bound (Stop CheckFault) → Type 0
+  IsTold r = IfOk r (λ b. Proved p root (is_some remaining) H (stream_at fresh remaining) b)
+
+  abbrev IsRefused : Result Bound (Stop CheckFault) → Type 0
+  IsRefused r = is_some remaining ≡ true → IfFault r (λ x. IsProofFault p root (stream_at fresh remaining) x)
+
+  pub proof_found : (r : Result Bound (Stop CheckFault)) → IsTold r
+      → IfOk r (λ b. (bytes : List ℕ) → remaining ≡ Some bytes → IsProved p root bytes b)
   proof_found (Ok b) h = λ bytes e. found_in bytes e b h
   proof_found (Err x) h = tt
 
-  pub proof_visited : (r : Result Bound (Stop CheckFault)) → IfOk r (λ b. Proved p (is_some remaining) H (stream_at fresh remaining) b)
-      → IfOk r (IsVisitedProof p remaining H)
+  pub proof_visited : (r : Result Bound (Stop CheckFault)) → IsTold r → IfOk r (IsVisitedProof p root remaining H)
   proof_visited (Ok b) h = record {
     version = h.version;
     tree = h.tree;
-    spelled = λ bytes e. reads_spelled p (sizes_of p) (are_sizes_of p) bytes h.version b h.tree h.shallow
+    spelled = λ bytes e.
+        reads_spelled p (sizes_of p) (are_sizes_of p) bytes h.version b h.tree (shallow_alone root h.tree h.shallow)
         (subst (λ (k : Option (List ℕ)). Reads (sizes_of p) (stream_at fresh k) h.version b h.tree) e (h.reads (ap is_some e)));
+    shallow = h.shallow;
     derives = h.derives;
     visited = h.visited;
   }
   proof_visited (Err x) h = tt
 
-  pub proof_holds : (r : Result Bound (Stop CheckFault)) → IfOk r (λ b. Proved p (is_some remaining) H (stream_at fresh remaining) b)
-      → IfOk r (HoldsOfAll p)
-  proof_holds (Ok b) h = root_sound p b h.tree h.derives
+  pub proof_holds : (r : Result Bound (Stop CheckFault)) → IsTold r → IfOk r (λ b. HoldsOn p b root)
+  proof_holds (Ok b) h = λ t ok fits. tree_sound p t ok b root h.tree h.derives fits
   proof_holds (Err x) h = tt
 
-  pub proof_only : IsInstance p → (r : Result Bound (Stop CheckFault))
-      → IfOk r (λ b. Proved p (is_some remaining) H (stream_at fresh remaining) b)
-      → (is_some remaining ≡ true → IfFault r (λ x. IsProofFault p (stream_at fresh remaining) x))
-      → (bytes : List ℕ) (b : Bound) → remaining ≡ Some bytes → IsProved p bytes b → UnlessStopped r (λ k. k ≡ Ok b)
+  pub proof_only : IsInstance p → (r : Result Bound (Stop CheckFault)) → IsTold r → IsRefused r
+      → (bytes : List ℕ) (b : Bound) → remaining ≡ Some bytes → IsProved p root bytes b → UnlessStopped r (λ k. k ≡ Ok b)
   proof_only is r proved fault bytes b e h =
       let reads = spelled_reads p (sizes_of p) (are_sizes_of p) (are_small p (sizes_of p) is (are_sizes_of p)) bytes h.0 b h.1 h.2 in
       on r proved fault reads
     where
-      on : (x : Result Bound (Stop CheckFault)) → IfOk x (λ c. Proved p (is_some remaining) H (stream_at fresh remaining) c)
-          → (is_some remaining ≡ true → IfFault x (λ y. IsProofFault p (stream_at fresh remaining) y))
-          → Reads (sizes_of p) (stream_of bytes) h.0 b h.1 → UnlessStopped x (λ k. k ≡ Ok b)
+      on : (x : Result Bound (Stop CheckFault)) → IsTold x → IsRefused x → Reads (sizes_of p) (stream_of bytes) h.0 b h.1
+          → UnlessStopped x (λ k. k ≡ Ok b)
       on (Ok c) done told reads =
-          ap (λ k. Ok k) (bound_is p (stream_of bytes) h.0 b h.1 reads true H c refl (proved_in bytes e c done))
+          ap (λ k. Ok k) (bound_is p (stream_of bytes) h.0 b h.1 reads root true H c refl (proved_in bytes e c done))
       on (Err (Fault x)) done told reads =
-          absurd (faultless p (stream_of bytes) h.0 b h.1 reads h.2.within.depth h.3 x (reported_in bytes e x (told (ap is_some e))))
+          absurd (faultless p (stream_of bytes) h.0 b h.1 reads root h.4 h.3 x (reported_in bytes e x (told (ap is_some e))))
       on (Err ReadFailed) done told reads = tt
       on (Err OutOfMemory) done told reads = tt
 
 -- bytes that spell a proof have no fault
-pub proved_faultless : (p : Problem) → IsInstance p → (bytes : List ℕ) (b : Bound) → IsProved p bytes b → (e : CheckFault)
-    → IsProofFault p (stream_of bytes) e → ⊥
-proved_faultless p is bytes b h e told =
+pub proved_faultless : (p : Problem) (root : List Fact) → IsInstance p → (bytes : List ℕ) (b : Bound) → IsProved p root bytes b
+    → (e : CheckFault) → IsProofFault p root (stream_of bytes) e → ⊥
+proved_faultless p root is bytes b h e told =
     faultless p (stream_of bytes) h.0 b h.1
     (spelled_reads p (sizes_of p) (are_sizes_of p) (are_small p (sizes_of p) is (are_sizes_of p)) bytes h.0 b h.1 h.2)
-    h.2.within.depth h.3 e told
+    root h.4 h.3 e told
 
 -- bytes spell at most one version, one bound and one tree
 pub spelled_once : (p : Problem) → IsInstance p → (bytes : List ℕ) (v w : ℕ) (b c : Bound) (x y : Tree) → SpellsProof p bytes v b x

@@ -1,14 +1,15 @@
 -- The bound that a tree derives, and its meaning.
-use Rattle.std.specs.Prelude.{◌≡◌, List, []}
+use Rattle.std.specs.Prelude.{◌≡◌, ◌≤◌, List, length}
 use Rattle.tt_instance.specs.Problem.{Problem}
 use Rattle.tt_instance.specs.declared.cell.Cell.{Cell}
 use Rattle.tt_rules.specs.Score.{IsFeasible, cost}
 use Rattle.tt_path.specs.Facts.{Fits}
 use Rattle.tt_path.specs.declared.facts.Fact.{Fact}
+use Rattle.tt_path.specs.declared.path.TheConstants.{MAX_FACTS}
 use Rattle.tt_leaf_rules.specs.Bounds.{Respects}
 use Rattle.tt_leaf_rules.specs.Leaves.{IsRight}
 use Rattle.tt_leaf.specs.declared.leaf.Bound.{Bound}
-use Rattle.tt_proof_read.specs.Trees.{Tree, AllLeaves, preorder, IsShallow}
+use Rattle.tt_proof_read.specs.Trees.{Tree, AllLeaves, preorder}
 use Rattle.tt_proof_read.specs.declared.node.Node.{Node}
 
 -- whether each leaf is right on its path
@@ -23,6 +24,10 @@ HoldsOn p b path = (t : List Cell) → IsFeasible p t → Fits p t path → Resp
 abbrev pub HoldsOfAll : Problem → Bound → Type 0
 HoldsOfAll p b = (t : List Cell) → IsFeasible p t → Respects b (cost p t)
 
--- whether the nodes are those of a tree that is not too deep and derives the bound
-abbrev pub Proves : Problem → Bound → List Node → Type 0
-Proves p b nodes = (tree : Tree) × (preorder tree ≡ nodes) × IsShallow tree × Derives p b [] tree
+-- whether each leaf has at most 65,536 facts on its path, those of the root included
+abbrev pub IsShallowOn : List Fact → Tree → Type 0
+IsShallowOn root tree = AllLeaves (λ path _. length path ≤ MAX_FACTS) root tree
+
+-- whether the nodes are those of a tree that, with these facts at its root, is not too deep and derives the bound
+abbrev pub Proves : Problem → List Fact → Bound → List Node → Type 0
+Proves p root b nodes = (tree : Tree) × (preorder tree ≡ nodes) × IsShallowOn root tree × Derives p b root tree

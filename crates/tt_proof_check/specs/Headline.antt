@@ -1,5 +1,5 @@
 -- The headline: the conditions under which the bytes of an instance, a solution and a proof certify a cost and a lower bound.
-use Rattle.std.specs.Prelude.{◌≡◌, ℕ, ◌<◌, List}
+use Rattle.std.specs.Prelude.{◌≡◌, ℕ, ◌<◌, List, []}
 use Rattle.tt_instance.specs.Problem.{Problem}
 use Rattle.tt_instance.specs.Spelling.{Spells}
 use Rattle.tt_instance.specs.declared.cell.Cell.{Cell}
@@ -27,7 +27,7 @@ pub record BreaksARule (instance solution : List ℕ) : Type 0 where
 -- the solution respects the hard rules at the cost c, as the competition counts it, and the proof derives that nothing feasible costs less than b
 pub record Certifies (instance solution proof : List ℕ) (c b : ℕ) : Type 0 where
   pub solves : Solves instance solution c
-  pub proved : IsProved solves.problem proof (AtLeast b)
+  pub proved : IsProved solves.problem [] proof (AtLeast b)
 
 -- every timetable of the instance that breaks no hard rule costs at least b
 abbrev pub BoundsAll : List ℕ → ℕ → Type 0

@@ -1,5 +1,5 @@
 -- The results of `certify`, and the results that are required.
-use Rattle.std.specs.Prelude.{◌≡◌, ℕ, ◌≤◌, List, Option, Result, Ok, Err, IfSome, ⊤}
+use Rattle.std.specs.Prelude.{◌≡◌, ℕ, ◌≤◌, List, [], Option, Result, Ok, Err, IfSome, ⊤}
 use Rattle.tt_stop.specs.Stops.{mapped}
 use Rattle.tt_stop.specs.declared.stop.Stop.{Stop}
 use Rattle.tt_stop.specs.declared.stop.Stop.TheVariants.{Fault, OutOfMemory}
@@ -57,7 +57,7 @@ pub record FailsProof (instance solution : List ℕ) (proof : Option (List ℕ))
   pub table : List Cell
   pub both : SpellsBoth instance solution problem table
   pub feasible : IsFeasible problem table
-  pub fails : IfSome proof (λ bytes. IsProofFault problem (stream_of bytes) f)
+  pub fails : IfSome proof (λ bytes. IsProofFault problem [] (stream_of bytes) f)
 
 -- an error is the first one: the instance's, then the solution's, then the proof's
 abbrev pub IsFirstFault : List ℕ → List ℕ → Option (List ℕ) → CertifyFault → Type 0

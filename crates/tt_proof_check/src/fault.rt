@@ -22,7 +22,7 @@ pub enum CheckFault {
     /// The leaf at this node does not close it.
     #[error("{1} at node {0}")]
     Rule(u32, RuleFault),
-    /// This node is below more than 65,536 splits.
+    /// More than 65,536 facts are on the path of this node: those of the root, and one of each split above it.
     #[error("TooDeep at node {0}")]
     TooDeep(u32),
 }

@@ -1,6 +1,6 @@
 //! The headline: a cost and a lower bound, from the bytes of an instance, a solution and a proof.
 
-ghost use Rattle.std.specs.Prelude.{◌≡◌, ◌↔◌, ℕ, List, Some, Ok, Err, true, if◌then◌else◌, IfOk};
+ghost use Rattle.std.specs.Prelude.{◌≡◌, ◌↔◌, ℕ, List, [], Some, Ok, Err, true, if◌then◌else◌, IfOk};
 ghost use Rattle.tt_rules.specs.Score.{IsFeasible};
 ghost use Rattle.tt_leaf.specs.declared.leaf.Bound.TheVariants.{AtLeast};
 ghost use Rattle.tt_stop.specs.Stops.{IfFault, UnlessStopped, is_read_failed};
@@ -33,15 +33,15 @@ fn proved_bound<R: Source>(
     proof: &mut R,
 ) -> Result<u64, Stop<CheckFault>>
     requires { IsFeasible instance.now table.now }
-    ensures found { IfOk result (λ b. (bytes : List ℕ) → R.remaining proof.old ≡ Some bytes → IsProved instance.now bytes (AtLeast b)) }
-    ensures only { (bytes : List ℕ) (b : ℕ) → R.remaining proof.old ≡ Some bytes → IsProved instance.now bytes (AtLeast b) →
+    ensures found { IfOk result (λ b. (bytes : List ℕ) → R.remaining proof.old ≡ Some bytes → IsProved instance.now [] bytes (AtLeast b)) }
+    ensures only { (bytes : List ℕ) (b : ℕ) → R.remaining proof.old ≡ Some bytes → IsProved instance.now [] bytes (AtLeast b) →
         UnlessStopped result (λ r. r ≡ Ok b) }
     ensures holds { IfOk result (λ b. HoldsOfAll instance.now (AtLeast b)) }
-    ensures fault { IfFault result (λ f. (bytes : List ℕ) → R.remaining proof.old ≡ Some bytes → IsProofFault instance.now (stream_of bytes) f) }
+    ensures fault { IfFault result (λ f. (bytes : List ℕ) → R.remaining proof.old ≡ Some bytes → IsProofFault instance.now [] (stream_of bytes) f) }
     ensures lower { IfFault result checks.HoldsNoStop }
     ensures failed { R.has_failed proof.new ≡ (if is_read_failed result then true else R.has_failed proof.old) }
     ensures up_to_failed_read { result ≡ Err Stop.ReadFailed → (bytes : List ℕ) → R.remaining proof.old ≡ Some bytes →
-        IsCheckedUpToFailedRead instance.now bytes (R.remaining proof.new) }
+        IsCheckedUpToFailedRead instance.now [] bytes (R.remaining proof.new) }
 {
     match check_proof(alloc, instance, proof)? {
         Bound::AtLeast(bound) => Ok(bound),

@@ -19,7 +19,7 @@ pub fn derived_bounds_hold()
 
 /// A proof has at most one fault.
 pub fn proofs_have_one_fault()
-    ensures { (p : Problem) (s : Stream) (f g : CheckFault) → IsProofFault p s f → IsProofFault p s g → f ≡ g }
+    ensures { (p : Problem) (root : List Fact) (s : Stream) (f g : CheckFault) → IsProofFault p root s f → IsProofFault p root s g → f ≡ g }
 {}
 
 /// An instance, a solution and a proof have at most one first fault.

@@ -17,21 +17,21 @@ use tt_path_trail::TrailPath;
 use tt_proof_read::{Node, is_tree};
 use tt_stop::Stop;
 
-/// Checks the nodes of a tree, each on its path.
+/// Checks the nodes of a tree, each on its path. The facts of the path are those of the root.
 fn check_each<'i, P: Path<'i>>(
     path: &mut P,
     bound: Bound,
     nodes: &[Node],
 ) -> Result<(), Stop<NodesFault>>
-    requires root { P.facts path.old ≡ [] }
     requires tree { IsPreorder nodes.now }
     requires nodes { All (IsNodeOf (P.problem path.old)) nodes.now }
-    ensures derived { OnOk result (Proves (P.problem path.old) bound nodes.now) }
-    ensures fault { IfFault result (λ f. Explains (P.problem path.old) bound nodes.now f) }
+    ensures derived { OnOk result (Proves (P.problem path.old) (P.facts path.old) bound nodes.now) }
+    ensures fault { IfFault result (λ f. Explains (P.problem path.old) (P.facts path.old) bound nodes.now f) }
     ensures unread { is_read_failed result ≡ false }
 {
+    let root = path.depth();
     for (i, node) in nodes.iter().enumerate() {
-        match check_node(path, bound, node) {
+        match check_node(path, root, bound, node) {
             Ok(()) => {}
             Err(NodeStop::Rule(fault)) => return Err(Stop::Fault(NodesFault::Rule(i, fault))),
             Err(NodeStop::TooDeep) => return Err(Stop::Fault(NodesFault::TooDeep(i + 1))),
@@ -50,13 +50,13 @@ pub fn check_nodes(
 ) -> Result<(), Stop<NodesFault>>
     requires { All (IsNodeOf instance.now) nodes.now }
 
-    ensures derived { OnOk result (Proves instance.now bound nodes.now) }
-    ensures only { Proves instance.now bound nodes.now → IsOkUnless result Stop.OutOfMemory }
+    ensures derived { OnOk result (Proves instance.now [] bound nodes.now) }
+    ensures only { Proves instance.now [] bound nodes.now → IsOkUnless result Stop.OutOfMemory }
     ensures holds { OnOk result (HoldsOfAll instance.now bound) }
 
     // The error that the nodes are no tree is reported before any other.
     ensures only_trees { ¬ (IsPreorder nodes.now) → result ≡ Err (Stop.Fault NodesFault.NotATree) }
-    ensures fault { IfFault result (λ f. Explains instance.now bound nodes.now f) }
+    ensures fault { IfFault result (λ f. Explains instance.now [] bound nodes.now f) }
     // It reads nothing.
     ensures unread { is_read_failed result ≡ false }
 {

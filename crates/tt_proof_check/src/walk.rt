@@ -1,4 +1,4 @@
-//! Nodes in preorder, in turn. One path is the whole stack: the second child of each yes-fact on it is not read yet.
+//! Nodes in preorder, in turn. One path is the whole stack: the second child of each yes-fact behind the facts of the root is not read yet.
 
 ghost use Rattle.std.specs.Prelude.{◌≡◌, ◌≤◌, length, OnOk, IfErr, IsOkUnless};
 ghost use Rattle.tt_path.specs.declared.path.TheConstants.{MAX_FACTS};
@@ -46,16 +46,17 @@ impl From<PathFault> for NodeStop {
     }
 }
 
-/// Moves to the second child of the newest split whose second child is not read yet.
+/// Moves to the second child of the newest split whose second child is not read yet, and keeps the facts of the root.
 #[inline(always)]
-fn advance<'i, P: Path<'i>>(path: &mut P) -> Result<(), PathFault>
-    requires { length (P.facts path.old) ≤ MAX_FACTS }
-    ensures next { OnOk result (ContinuesWith (P.facts path.old) (P.facts path.new)) }
+fn advance<'i, P: Path<'i>>(path: &mut P, root: u32) -> Result<(), PathFault>
+    requires root { root ≤ length (P.facts path.old) }
+    requires within { length (P.facts path.old) ≤ MAX_FACTS }
+    ensures next { OnOk result (ContinuesWith root (P.facts path.old) (P.facts path.new)) }
     ensures within { length (P.facts path.new) ≤ MAX_FACTS }
     ensures memory { IsOkUnless result PathFault.OutOfMemory }
     ensures unchanged { P.problem path.new ≡ P.problem path.old }
 {
-    while path.depth() > 0 {
+    while path.depth() > root {
         let fact = path.pop();
         if fact.holds {
             return path.push(Fact {
@@ -67,12 +68,18 @@ fn advance<'i, P: Path<'i>>(path: &mut P) -> Result<(), PathFault>
     Ok(())
 }
 
-/// Takes the due node, and moves to the next place.
+/// Takes the due node, and moves to the next place. The root has so many facts.
 #[inline(always)]
-pub fn check_node<'i, P: Path<'i>>(path: &mut P, bound: Bound, node: &Node) -> Result<(), NodeStop>
+pub fn check_node<'i, P: Path<'i>>(
+    path: &mut P,
+    root: u32,
+    bound: Bound,
+    node: &Node,
+) -> Result<(), NodeStop>
     requires node { IsNodeOf (P.problem path.old) node.now }
+    requires root { root ≤ length (P.facts path.old) }
     requires within { length (P.facts path.old) ≤ MAX_FACTS }
-    ensures steps { OnOk result (Steps (P.problem path.old) bound (P.facts path.old) node.now (P.facts path.new)) }
+    ensures steps { OnOk result (Steps (P.problem path.old) root bound (P.facts path.old) node.now (P.facts path.new)) }
     ensures within { OnOk result (length (P.facts path.new) ≤ MAX_FACTS) }
     ensures stops { IfErr result (λ stop. Stops (P.problem path.old) bound (P.facts path.old) node.now stop) }
     ensures unchanged { P.problem path.new ≡ P.problem path.old }
@@ -84,7 +91,7 @@ pub fn check_node<'i, P: Path<'i>>(path: &mut P, bound: Bound, node: &Node) -> R
         })?,
         Node::Leaf(leaf) => {
             holds(path, leaf, bound)?;
-            advance(path)?;
+            advance(path, root)?;
         }
     }
     Ok(())

@@ -11,6 +11,7 @@ use Rattle.tt_list_laws.proofs.Twos.{each_two-push, each_two-last}
 use Rattle.tt_list_laws.proofs.Tested.{all_at}
 use Rattle.tt_instance.specs.Problem.{Problem}
 use Rattle.tt_instance.specs.Limits.{IsInstance}
+use Rattle.tt_path.specs.declared.facts.Fact.{Fact}
 use Rattle.tt_leaf_rules.specs.Claims.{Target}
 use Rattle.tt_leaf_rules.specs.Tests.{same_target}
 use Rattle.tt_leaf.specs.declared.leaf.Bound.{Bound}
@@ -25,8 +26,8 @@ use Rattle.tt_proof_sum.specs.declared.summed.Sum.{Sum}
 use Rattle.tt_text_peek.specs.declared.kind.FileKind.TheVariants as kind
 use Rattle.tt_prices_file.proofs.Once as prices
 use Rattle.tt_proof_sum.specs.Added.{IsPartOf, Joins, IsSumOf, Adds}
-use Rattle.tt_proof_sum.specs.Faults.{points, all_points, AreSmall, IsLarge, IsSmall, IsClaimedElsewhere, IsTooLarge, IsTargetClaimedElsewhere, ExplainsAdded, IsUnfinished}
-use Rattle.tt_proof_sum.specs.Sums.{claimed_by, is_among, are_apart, TreePart, GroupsPart, PricesPart, Part, TreeProof, GroupsFile, PricesFile, IsTreePart, IsGroupsPart, IsPricesPart, IsPart, prices_targets, bound_of, claims_of, AreApart, both_bounds, sum_of}
+use Rattle.tt_proof_sum.specs.Faults.{points, all_points, AreSmall, IsLarge, IsSmall, IsClaimedElsewhere, IsTooLarge, IsTargetClaimedElsewhere, ExplainsAddedOn, IsUnfinished}
+use Rattle.tt_proof_sum.specs.Sums.{claimed_by, is_among, are_apart, TreePart, GroupsPart, PricesPart, Part, TreeProof, GroupsFile, PricesFile, IsTreePart, IsGroupsPart, IsPricesPart, IsPartOn, prices_targets, bound_of, claims_of, AreApart, both_bounds, sum_of}
 use Rattle.tt_proof_sum.specs.Tables.{State, claims_at}
 use Rattle.tt_proof_sum.proofs.Joining.{tree_claims}
 use Rattle.tt_proof_sum.proofs.SpelledOnce.{part_kind, kinds_same, same_part, split_among, left_open}
@@ -102,10 +103,10 @@ small_more parts part before small n = elim (cases_lt n (length parts + 1)) [
 
 -- -- the sum after adding
 
-pub adds : (p : Problem) (remaining : Option (List ℕ)) (s : Sum) (parts : List Part) (a : State) (b total : Bound) → IsSumOf s parts
-    → Joins p remaining parts a b → total ≡ both_bounds s.total b → IsSmall total
-    → Adds p remaining parts (record { table = a; total = total })
-adds p remaining s parts a b total of j e small = (
+pub adds : (p : Problem) (root : List Fact) (remaining : Option (List ℕ)) (s : Sum) (parts : List Part) (a : State) (b total : Bound)
+    → IsSumOf s parts → Joins p root remaining parts a b → total ≡ both_bounds s.total b → IsSmall total
+    → Adds p root remaining parts (record { table = a; total = total })
+adds p root remaining s parts a b total of j e small = (
   j.part,
   j.is,
   record {
@@ -120,29 +121,33 @@ adds p remaining s parts a b total of j e small = (
     sum_is = ap (λ x. both_bounds x b) of.total ∙ ap (both_bounds (sum_of parts)) (sym j.bound) ∙ sym (sum_of-push parts j.part)
 
 -- if the bytes are known, they spell the part
-pub spelled_part : (p : Problem) (remaining : Option (List ℕ)) (bytes : List ℕ) (k : Part) → remaining ≡ Some bytes
-    → IsPartOf p remaining k → IsPart p bytes k
-spelled_part p remaining bytes (TreeProof k) known is = record { spelled = is.spelled bytes known; derives = is.derives }
-spelled_part p remaining bytes (GroupsFile k) known is = record {
+pub spelled_part : (p : Problem) (root : List Fact) (remaining : Option (List ℕ)) (bytes : List ℕ) (k : Part) → remaining ≡ Some bytes
+    → IsPartOf p root remaining k → IsPartOn p root bytes k
+spelled_part p root remaining bytes (TreeProof k) known is = record {
+  spelled = is.spelled bytes known;
+  shallow = is.shallow;
+  derives = is.derives;
+}
+spelled_part p root remaining bytes (GroupsFile k) known is = record {
   kind = is.kind bytes known;
   spelled = is.spelled bytes known;
   right = is.right;
 }
-spelled_part p remaining bytes (PricesFile k) known is = record {
+spelled_part p root remaining bytes (PricesFile k) known is = record {
   kind = is.kind bytes known;
   spelled = is.spelled bytes known;
   right = is.right;
 }
 
-pub too_large : (p : Problem) (remaining : Option (List ℕ)) (s : Sum) (parts : List Part) (a : State) (b : Bound) → IsSumOf s parts
-    → Joins p remaining parts a b → IsLarge (both_bounds s.total b) → (bytes : List ℕ) → remaining ≡ Some bytes
-    → IsTooLarge p parts bytes
-too_large p remaining s parts a b of j large bytes known =
+pub too_large : (p : Problem) (root : List Fact) (remaining : Option (List ℕ)) (s : Sum) (parts : List Part) (a : State) (b : Bound)
+    → IsSumOf s parts → Joins p root remaining parts a b → IsLarge (both_bounds s.total b) → (bytes : List ℕ) → remaining ≡ Some bytes
+    → IsTooLarge p root parts bytes
+too_large p root remaining s parts a b of j large bytes known =
     let sum_is : both_bounds s.total b ≡ sum_of (parts ++ j.part ∷ []) =
     ap (λ x. both_bounds x b) of.total ∙ ap (both_bounds (sum_of parts)) (sym j.bound) ∙ sym (sum_of-push parts j.part) in
     record {
       part = j.part;
-      is = spelled_part p remaining bytes j.part known j.is;
+      is = spelled_part p root remaining bytes j.part known j.is;
       apart = j.apart;
       large = subst IsLarge sum_is large;
     }
@@ -150,9 +155,9 @@ too_large p remaining s parts a b of j large bytes known =
 -- ---- faults
 
 -- if a tree claims a target that one of the parts claims, the two are not apart
-pub tree_meets : (p : Problem) → IsInstance p → (parts : List Part) (bytes : List ℕ) (k : TreePart) (i e : ℕ) → IsTreePart p bytes k
-    → AreApart (parts ++ TreeProof k ∷ []) → IsClaimedElsewhere p parts bytes i e → ⊥
-tree_meets p is parts bytes k i e spelled apart reported =
+pub tree_meets : (p : Problem) (root : List Fact) → IsInstance p → (parts : List Part) (bytes : List ℕ) (k : TreePart) (i e : ℕ)
+    → IsTreePart p root bytes k → AreApart (parts ++ TreeProof k ∷ []) → IsClaimedElsewhere p root parts bytes i e → ⊥
+tree_meets p root is parts bytes k i e spelled apart reported =
     let same = (spelled_once p is bytes reported.part.version k.version reported.part.bound k.bound reported.part.tree k.tree
     reported.is.spelled spelled.spelled).1 in
     let y = reported.claimed.target in
@@ -164,39 +169,39 @@ tree_meets p is parts bytes k i e spelled apart reported =
     (claimed_in_tree reported.part.tree reported.before reported.node reported.more y reported.nodes here))
 
 -- a tree proof that can be added has no fault
-tree_faultless : (p : Problem) → IsInstance p → (parts : List Part) (bytes : List ℕ) (k : TreePart) → IsTreePart p bytes k
-    → AreApart (parts ++ TreeProof k ∷ []) → IsSmall (sum_of (parts ++ TreeProof k ∷ [])) → (f : FileFault)
-    → ExplainsAdded p parts bytes f → ⊥
-tree_faultless p is parts bytes k spelled apart within (Proof f) reported =
-    proved_faultless p is bytes k.bound (k.version, k.tree, spelled.spelled, spelled.derives) f reported.fault
-tree_faultless p is parts bytes k spelled apart within (Groups f) reported =
-    let no : kind.Tree ≡ kind.Groups = sym (part_kind p bytes (TreeProof k) spelled) ∙ reported.kind in cc
-tree_faultless p is parts bytes k spelled apart within (Prices f) reported =
-    let no : kind.Tree ≡ kind.Prices = sym (part_kind p bytes (TreeProof k) spelled) ∙ reported.kind in cc
-tree_faultless p is parts bytes k spelled apart within (ClaimedElsewhere i e) reported =
-    tree_meets p is parts bytes k i e spelled apart reported
-tree_faultless p is parts bytes k spelled apart within (TargetClaimedElsewhere name e) reported =
-    let no : kind.Tree ≡ kind.Prices = kinds_same p bytes (TreeProof k) (PricesFile reported.part) spelled reported.is in cc
-tree_faultless p is parts bytes k spelled apart within TooLarge reported =
-    let same : reported.part ≡ TreeProof k = same_part p is bytes reported.part (TreeProof k) reported.is spelled in
+tree_faultless : (p : Problem) (root : List Fact) → IsInstance p → (parts : List Part) (bytes : List ℕ) (k : TreePart)
+    → IsTreePart p root bytes k → AreApart (parts ++ TreeProof k ∷ []) → IsSmall (sum_of (parts ++ TreeProof k ∷ [])) → (f : FileFault)
+    → ExplainsAddedOn p root parts bytes f → ⊥
+tree_faultless p root is parts bytes k spelled apart within (Proof f) reported =
+    proved_faultless p root is bytes k.bound (k.version, k.tree, spelled.spelled, spelled.derives, spelled.shallow) f reported.fault
+tree_faultless p root is parts bytes k spelled apart within (Groups f) reported =
+    let no : kind.Tree ≡ kind.Groups = sym (part_kind p root bytes (TreeProof k) spelled) ∙ reported.kind in cc
+tree_faultless p root is parts bytes k spelled apart within (Prices f) reported =
+    let no : kind.Tree ≡ kind.Prices = sym (part_kind p root bytes (TreeProof k) spelled) ∙ reported.kind in cc
+tree_faultless p root is parts bytes k spelled apart within (ClaimedElsewhere i e) reported =
+    tree_meets p root is parts bytes k i e spelled apart reported
+tree_faultless p root is parts bytes k spelled apart within (TargetClaimedElsewhere name e) reported =
+    let no : kind.Tree ≡ kind.Prices = kinds_same p root bytes (TreeProof k) (PricesFile reported.part) spelled reported.is in cc
+tree_faultless p root is parts bytes k spelled apart within TooLarge reported =
+    let same : reported.part ≡ TreeProof k = same_part p root is bytes reported.part (TreeProof k) reported.is spelled in
     not_large (sum_of (parts ++ TreeProof k ∷ [])) within (subst (λ (x : Part). IsLarge (sum_of (parts ++ x ∷ []))) same reported.large)
 
 -- a file of groups that can be added is refused only if a claim's check wasn't finished
-groups_unfinished : (p : Problem) → IsInstance p → (parts : List Part) (bytes : List ℕ) (k : GroupsPart) → IsGroupsPart p bytes k
-    → AreApart (parts ++ GroupsFile k ∷ []) → IsSmall (sum_of (parts ++ GroupsFile k ∷ [])) → (f : FileFault)
-    → ExplainsAdded p parts bytes f → IsUnfinished f
-groups_unfinished p is parts bytes k spelled apart within (Proof f) reported =
+groups_unfinished : (p : Problem) (root : List Fact) → IsInstance p → (parts : List Part) (bytes : List ℕ) (k : GroupsPart)
+    → IsGroupsPart p bytes k → AreApart (parts ++ GroupsFile k ∷ []) → IsSmall (sum_of (parts ++ GroupsFile k ∷ [])) → (f : FileFault)
+    → ExplainsAddedOn p root parts bytes f → IsUnfinished f
+groups_unfinished p root is parts bytes k spelled apart within (Proof f) reported =
     let no : kind.Groups ≡ kind.Tree = sym spelled.kind ∙ reported.kind in cc
-groups_unfinished p is parts bytes k spelled apart within (Groups f) reported = left_open p is parts bytes k spelled
+groups_unfinished p root is parts bytes k spelled apart within (Groups f) reported = left_open p is parts bytes k spelled
     (each_two-last (λ x y. are_apart (claims_of x) (claims_of y)) parts (GroupsFile k) apart) f reported.fault
-groups_unfinished p is parts bytes k spelled apart within (Prices f) reported =
+groups_unfinished p root is parts bytes k spelled apart within (Prices f) reported =
     let no : kind.Groups ≡ kind.Prices = sym spelled.kind ∙ reported.kind in absurd cc
-groups_unfinished p is parts bytes k spelled apart within (ClaimedElsewhere i e) reported =
-    let no : kind.Groups ≡ kind.Tree = kinds_same p bytes (GroupsFile k) (TreeProof reported.part) spelled reported.is in cc
-groups_unfinished p is parts bytes k spelled apart within (TargetClaimedElsewhere name e) reported =
-    let no : kind.Groups ≡ kind.Prices = kinds_same p bytes (GroupsFile k) (PricesFile reported.part) spelled reported.is in cc
-groups_unfinished p is parts bytes k spelled apart within TooLarge reported =
-    let same : reported.part ≡ GroupsFile k = same_part p is bytes reported.part (GroupsFile k) reported.is spelled in
+groups_unfinished p root is parts bytes k spelled apart within (ClaimedElsewhere i e) reported =
+    let no : kind.Groups ≡ kind.Tree = kinds_same p root bytes (GroupsFile k) (TreeProof reported.part) spelled reported.is in cc
+groups_unfinished p root is parts bytes k spelled apart within (TargetClaimedElsewhere name e) reported =
+    let no : kind.Groups ≡ kind.Prices = kinds_same p root bytes (GroupsFile k) (PricesFile reported.part) spelled reported.is in cc
+groups_unfinished p root is parts bytes k spelled apart within TooLarge reported =
+    let same : reported.part ≡ GroupsFile k = same_part p root is bytes reported.part (GroupsFile k) reported.is spelled in
     absurd (not_large (sum_of (parts ++ GroupsFile k ∷ [])) within
     (subst (λ (x : Part). IsLarge (sum_of (parts ++ x ∷ []))) same reported.large))
 
@@ -204,7 +209,7 @@ groups_unfinished p is parts bytes k spelled apart within TooLarge reported =
 pub prices_meet : (p : Problem) → IsInstance p → (parts : List Part) (bytes : List ℕ) (k : PricesPart) (name : ClaimedTarget) (e : ℕ)
     → IsPricesPart p bytes k → AreApart (parts ++ PricesFile k ∷ []) → IsTargetClaimedElsewhere p parts bytes name e → ⊥
 prices_meet p is parts bytes k name e spelled apart reported =
-    let same = same_part p is bytes (PricesFile reported.part) (PricesFile k) reported.is spelled in
+    let same = same_part p [] is bytes (PricesFile reported.part) (PricesFile k) reported.is spelled in
     let first = reported.first in
     let x = all_at (λ x. are_apart (claims_of x) (prices_targets k)) (λ x. is_among (claims_of x) first.target ≡ true) parts (e - 1)
     (each_two-last (λ x y. are_apart (claims_of x) (claims_of y)) parts (PricesFile k) apart) first.is.1.1 in
@@ -213,30 +218,30 @@ prices_meet p is parts bytes k name e spelled apart reported =
     (split_among (prices_targets reported.part) first.before first.target first.more first.split))
 
 -- a file of groups with prices that can be added is refused only if a group's check wasn't finished
-prices_unfinished : (p : Problem) → IsInstance p → (parts : List Part) (bytes : List ℕ) (k : PricesPart) → IsPricesPart p bytes k
-    → AreApart (parts ++ PricesFile k ∷ []) → IsSmall (sum_of (parts ++ PricesFile k ∷ [])) → (f : FileFault)
-    → ExplainsAdded p parts bytes f → IsUnfinished f
-prices_unfinished p is parts bytes k spelled apart within (Proof f) reported =
+prices_unfinished : (p : Problem) (root : List Fact) → IsInstance p → (parts : List Part) (bytes : List ℕ) (k : PricesPart)
+    → IsPricesPart p bytes k → AreApart (parts ++ PricesFile k ∷ []) → IsSmall (sum_of (parts ++ PricesFile k ∷ [])) → (f : FileFault)
+    → ExplainsAddedOn p root parts bytes f → IsUnfinished f
+prices_unfinished p root is parts bytes k spelled apart within (Proof f) reported =
     let no : kind.Prices ≡ kind.Tree = sym spelled.kind ∙ reported.kind in cc
-prices_unfinished p is parts bytes k spelled apart within (Groups f) reported =
+prices_unfinished p root is parts bytes k spelled apart within (Groups f) reported =
     let no : kind.Prices ≡ kind.Groups = sym spelled.kind ∙ reported.kind in absurd cc
-prices_unfinished p is parts bytes k spelled apart within (Prices f) reported =
+prices_unfinished p root is parts bytes k spelled apart within (Prices f) reported =
     prices.left_open p is bytes k.header k.parts spelled.spelled spelled.right.right f reported.fault
-prices_unfinished p is parts bytes k spelled apart within (ClaimedElsewhere i e) reported =
-    let no : kind.Prices ≡ kind.Tree = kinds_same p bytes (PricesFile k) (TreeProof reported.part) spelled reported.is in cc
-prices_unfinished p is parts bytes k spelled apart within (TargetClaimedElsewhere name e) reported =
+prices_unfinished p root is parts bytes k spelled apart within (ClaimedElsewhere i e) reported =
+    let no : kind.Prices ≡ kind.Tree = kinds_same p root bytes (PricesFile k) (TreeProof reported.part) spelled reported.is in cc
+prices_unfinished p root is parts bytes k spelled apart within (TargetClaimedElsewhere name e) reported =
     prices_meet p is parts bytes k name e spelled apart reported
-prices_unfinished p is parts bytes k spelled apart within TooLarge reported =
-    let same : reported.part ≡ PricesFile k = same_part p is bytes reported.part (PricesFile k) reported.is spelled in
+prices_unfinished p root is parts bytes k spelled apart within TooLarge reported =
+    let same : reported.part ≡ PricesFile k = same_part p root is bytes reported.part (PricesFile k) reported.is spelled in
     absurd (not_large (sum_of (parts ++ PricesFile k ∷ [])) within
     (subst (λ (x : Part). IsLarge (sum_of (parts ++ x ∷ []))) same reported.large))
 
-pub only_unfinished : (p : Problem) → IsInstance p → (parts : List Part) (bytes : List ℕ) (part : Part) → IsPart p bytes part
-    → AreApart (parts ++ part ∷ []) → IsSmall (sum_of (parts ++ part ∷ [])) → (f : FileFault)
-    → ExplainsAdded p parts bytes f → IsUnfinished f
-only_unfinished p is parts bytes (TreeProof k) spelled apart within f reported =
-    absurd (tree_faultless p is parts bytes k spelled apart within f reported)
-only_unfinished p is parts bytes (GroupsFile k) spelled apart within f reported =
-    groups_unfinished p is parts bytes k spelled apart within f reported
-only_unfinished p is parts bytes (PricesFile k) spelled apart within f reported =
-    prices_unfinished p is parts bytes k spelled apart within f reported
+pub only_unfinished : (p : Problem) (root : List Fact) → IsInstance p → (parts : List Part) (bytes : List ℕ) (part : Part)
+    → IsPartOn p root bytes part → AreApart (parts ++ part ∷ []) → IsSmall (sum_of (parts ++ part ∷ [])) → (f : FileFault)
+    → ExplainsAddedOn p root parts bytes f → IsUnfinished f
+only_unfinished p root is parts bytes (TreeProof k) spelled apart within f reported =
+    absurd (tree_faultless p root is parts bytes k spelled apart within f reported)
+only_unfinished p root is parts bytes (GroupsFile k) spelled apart within f reported =
+    groups_unfinished p root is parts bytes k spelled apart within f reported
+only_unfinished p root is parts bytes (PricesFile k) spelled apart within f reported =
+    prices_unfinished p root is parts bytes k spelled apart within f reported

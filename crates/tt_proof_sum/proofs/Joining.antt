@@ -14,6 +14,7 @@ use Rattle.tt_list_laws.proofs.Tests.{test_turned}
 use Rattle.tt_list_laws.proofs.Twos.{list_all-swap}
 use Rattle.tt_instance.specs.Problem.{Problem}
 use Rattle.tt_instance.specs.Limits.{IsInstance}
+use Rattle.tt_path.specs.declared.facts.Fact.{Fact}
 use Rattle.tt_leaf_rules.specs.Claims.{Target, targets_of, claimed}
 use Rattle.tt_leaf_rules.specs.Inner.NumberSet.{place, places_of, IsPlaced}
 use Rattle.tt_leaf_rules.specs.Tests.{same_target}
@@ -320,22 +321,22 @@ node_placed p is v (Leaf (Cost claims)) h y e =
 abbrev pub TableVisited : State → State → List Node → Type 0
 TableVisited a b = Visited (λ s j n u. 0 < s.proof → Claims s (at_node j (places_in n)) u) 0 a b
 
-pub newest : (p : Problem) (remaining : Option (List ℕ)) (t b : State) → 0 < t.proof → (x : Bound)
-    → IsVisitedProof p remaining (TableVisited t b) x → b.proof ≡ t.proof
-newest p remaining t b some x h = (visited_claims 0 t b (preorder h.tree) some h.visited).proof
+pub newest : (p : Problem) (root : List Fact) (remaining : Option (List ℕ)) (t b : State) → 0 < t.proof → (x : Bound)
+    → IsVisitedProof p root remaining (TableVisited t b) x → b.proof ≡ t.proof
+newest p root remaining t b some x h = (visited_claims 0 t b (preorder h.tree) some h.visited).proof
 
-module _ (p : Problem) (remaining : Option (List ℕ)) (t b : State) (parts : List Part) (of : IsTableOf t parts) (x : Bound)
-    (h : IsVisitedProof p remaining (TableVisited (begun t) b) x) where
+module _ (p : Problem) (root : List Fact) (remaining : Option (List ℕ)) (t b : State) (parts : List Part) (of : IsTableOf t parts)
+    (x : Bound) (h : IsVisitedProof p root remaining (TableVisited (begun t) b) x) where
   abbrev part : TreePart
   part = record { version = h.version; bound = x; tree = h.tree }
 
   claims : Claims (begun t) (places_from 0 (preorder h.tree)) b
   claims = let some : 0 < t.proof + 1 = omega arith in visited_claims 0 (begun t) b (preorder h.tree) some h.visited
 
-  pub joins : b.clash ≡ None → Joins p remaining parts b x
+  pub joins : b.clash ≡ None → Joins p root remaining parts b x
   joins free = record {
     part = TreeProof part;
-    is = record { spelled = h.spelled; derives = h.derives };
+    is = record { spelled = h.spelled; shallow = h.shallow; derives = h.derives };
     bound = refl;
     apart = apart t parts of (claimed_by h.tree)
         (subst (λ (ys : List Target). list_all (unclaimed_target t parts of) ys ≡ true) (tree_claims h.tree)
@@ -344,7 +345,7 @@ module _ (p : Problem) (remaining : Option (List ℕ)) (t b : State) (parts : Li
   }
 
   pub claimed_elsewhere : IsInstance p → (bytes : List ℕ) → remaining ≡ Some bytes → (c : Clash) → b.clash ≡ Some c
-      → IsClaimedElsewhere p parts bytes c.node c.earlier
+      → IsClaimedElsewhere p root parts bytes c.node c.earlier
   claimed_elsewhere is bytes known c clash =
       let f = find_node t parts of 0 (preorder h.tree) c (sym (first_is t parts of b (preorder h.tree) claims) ∙ clash) in
       let y = find_target t parts of (0 + length f.before) (claims_at f.node) c f.some in
@@ -360,7 +361,7 @@ module _ (p : Problem) (remaining : Option (List ℕ)) (t b : State) (parts : Li
       let index : e.0 ≡ c.earlier - 1 = omega (arith, e.1, k.earlier) in
       record {
         part = part;
-        is = record { spelled = spelled; derives = h.derives };
+        is = record { spelled = spelled; shallow = h.shallow; derives = h.derives };
         before = f.before;
         node = f.node;
         more = f.more;

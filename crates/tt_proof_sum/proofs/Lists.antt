@@ -11,8 +11,9 @@ use Rattle.std.proofs.lemmas.List.Sums.{sum_by-append}
 use Rattle.tt_list_laws.proofs.Members.{each_two-of_append}
 use Rattle.tt_instance.specs.Problem.{Problem}
 use Rattle.tt_instance.specs.Limits.{IsInstance}
+use Rattle.tt_path.specs.declared.facts.Fact.{Fact}
 use Rattle.tt_leaf.specs.declared.leaf.Bound.{Bound}
-use Rattle.tt_proof_check.specs.Derives.{HoldsOfAll}
+use Rattle.tt_proof_check.specs.Derives.{HoldsOn}
 use Rattle.tt_stop.specs.Stops.{OnFault, is_failed_read}
 use Rattle.tt_stop.specs.declared.stop.Stop.{Stop}
 use Rattle.tt_stop.specs.declared.stop.Stop.TheVariants.{Fault, ReadFailed, OutOfMemory}
@@ -20,8 +21,8 @@ use Rattle.tt_proof_sum.specs.declared.fault.FileFault.{FileFault}
 use Rattle.tt_proof_sum.specs.declared.fault.SumStop.{SumStop}
 use Rattle.tt_proof_sum.specs.declared.summed.Sum.{Sum}
 use Rattle.tt_proof_sum.specs.Added.{IsPartOf, IsSumOf, Adds, due, Give}
-use Rattle.tt_proof_sum.specs.Faults.{points, all_points, is_failed_read_at, IsReached, IsSumStop, ExplainsAdded, IsUnfinished}
-use Rattle.tt_proof_sum.specs.Sums.{are_apart, Part, IsPart, bound_of, claims_of, AreApart, sum_of, IsSum}
+use Rattle.tt_proof_sum.specs.Faults.{points, all_points, is_failed_read_at, IsReachedOn, IsSumStopOn, ExplainsAddedOn, IsUnfinished}
+use Rattle.tt_proof_sum.specs.Sums.{are_apart, Part, IsPartOn, bound_of, claims_of, AreApart, sum_of, IsSumOn}
 use Rattle.tt_proof_sum.proofs.Added.{spelled_part, small_points, only_unfinished}
 use Rattle.tt_proof_sum.proofs.FailedReads.{this_read, other_read}
 use Rattle.tt_proof_sum.proofs.SpelledOnce.{same_part}
@@ -55,25 +56,26 @@ zip_split R (z ∷ zs) x ys (k ∷ ks) h =
 
 -- ---- one part for each file
 
-module _ (p : Problem) (is : IsInstance p) where
-  pub same_parts : (proofs : List (List ℕ)) (ks ls : List Part) → AllZip (IsPart p) proofs ks → AllZip (IsPart p) proofs ls → ks ≡ ls
+module _ (p : Problem) (root : List Fact) (is : IsInstance p) where
+  pub same_parts : (proofs : List (List ℕ)) (ks ls : List Part) → AllZip (IsPartOn p root) proofs ks
+      → AllZip (IsPartOn p root) proofs ls → ks ≡ ls
   same_parts [] [] [] h i = refl
   same_parts [] [] (l ∷ ls) h i = absurd i
   same_parts [] (k ∷ ks) ls h i = absurd h
   same_parts (x ∷ xs) [] ls h i = absurd h
   same_parts (x ∷ xs) (k ∷ ks) [] h i = absurd i
-  same_parts (x ∷ xs) (k ∷ ks) (l ∷ ls) h i = ap (λ (y : Part). y ∷ ks) (same_part p is x k l h.0 i.0) ∙ ap (λ (zs : List Part). l ∷ zs)
-      (same_parts xs ks ls h.1 i.1)
+  same_parts (x ∷ xs) (k ∷ ks) (l ∷ ls) h i =
+      ap (λ (y : Part). y ∷ ks) (same_part p root is x k l h.0 i.0) ∙ ap (λ (zs : List Part). l ∷ zs) (same_parts xs ks ls h.1 i.1)
 
   -- if files have a sum, they are refused only if a claim's check wasn't finished
-  pub sum_unfinished : (proofs : List (List ℕ)) (s : Bound) (h : IsSum p proofs s) → all_points h.parts < 2 ^ 64
+  pub sum_unfinished : (proofs : List (List ℕ)) (s : Bound) (h : IsSumOn p root proofs s) → all_points h.parts < 2 ^ 64
       → (n : ℕ) (x : Stop FileFault)
-      → IsSumStop p proofs n x → OnFault x IsUnfinished
+      → IsSumStopOn p root proofs n x → OnFault x IsUnfinished
   sum_unfinished proofs s h within n ReadFailed r = tt
   sum_unfinished proofs s h within n OutOfMemory r = tt
   sum_unfinished proofs s h within n (Fault f) r =
-      let z = zip_split (IsPart p) r.before r.bytes r.more h.parts
-      (subst (λ (l : List (List ℕ)). AllZip (IsPart p) l h.parts) r.split h.each) in
+      let z = zip_split (IsPartOn p root) r.before r.bytes r.more h.parts
+      (subst (λ (l : List (List ℕ)). AllZip (IsPartOn p root) l h.parts) r.split h.each) in
       let same : z.first ≡ r.parts = same_parts r.before z.first r.parts z.each r.each in
       let split : h.parts ≡ (r.parts ++ z.at ∷ []) ++ z.more = z.split ∙ ap (λ (l : List Part). l ++ z.at ∷ z.more) same
       ∙ sym (append_assoc r.parts (z.at ∷ []) z.more) in
@@ -81,24 +83,24 @@ module _ (p : Problem) (is : IsInstance p) where
       (subst AreApart split h.apart)).0 in
       let total = sum_by-append (λ (k : Part). points (bound_of k)) (r.parts ++ z.at ∷ []) z.more in
       let all : all_points h.parts ≡ all_points ((r.parts ++ z.at ∷ []) ++ z.more) = ap all_points split in
-      only_unfinished p is r.parts r.bytes z.at z.one apart
+      only_unfinished p root is r.parts r.bytes z.at z.one apart
       (small_points (r.parts ++ z.at ∷ []) (omega (arith, total, all, within))) f r.is
 
   -- files have at most one sum
-  pub same_sum : (proofs : List (List ℕ)) (s t : Bound) → IsSum p proofs s → IsSum p proofs t → s ≡ t
+  pub same_sum : (proofs : List (List ℕ)) (s t : Bound) → IsSumOn p root proofs s → IsSumOn p root proofs t → s ≡ t
   same_sum proofs s t h i = sym h.total ∙ ap sum_of (same_parts proofs h.parts i.parts h.each i.each) ∙ i.total
 
 -- -- sources whose bytes are known
 
-module _ {R : Type 0} (p : Problem) (remaining : R → Option (List ℕ)) where
+module _ {R : Type 0} (p : Problem) (root : List Fact) (remaining : R → Option (List ℕ)) where
   pub zip_known : (sources : List R) (proofs : List (List ℕ)) (parts : List Part) → Give remaining sources proofs
-      → AllZip (λ r k. IsPartOf p (remaining r) k) sources parts → AllZip (IsPart p) proofs parts
+      → AllZip (λ r k. IsPartOf p root (remaining r) k) sources parts → AllZip (IsPartOn p root) proofs parts
   zip_known [] [] [] g h = tt
   zip_known [] [] (k ∷ ks) g h = absurd h
   zip_known [] (x ∷ xs) ks g h = absurd g
   zip_known (r ∷ rs) [] ks g h = absurd g
   zip_known (r ∷ rs) (x ∷ xs) [] g h = absurd h
-  zip_known (r ∷ rs) (x ∷ xs) (k ∷ ks) g h = (spelled_part p (remaining r) x k g.0 h.0, zip_known rs xs ks g.1 h.1)
+  zip_known (r ∷ rs) (x ∷ xs) (k ∷ ks) g h = (spelled_part p root (remaining r) x k g.0 h.0, zip_known rs xs ks g.1 h.1)
 
   -- the proof of the source at i, between those before it and after it
   pub record GivesAt (sources : List R) (proofs : List (List ℕ)) (i : ℕ) (r : R) : Type 0 where
@@ -132,11 +134,11 @@ stopped_at n e = record { file = n; stop = e }
 
 -- ---- a loop over the sources
 
-module _ {R : Type 0} (p : Problem) (remaining : R → Option (List ℕ)) (failed : R → Bool) where
+module _ {R : Type 0} (p : Problem) (root : List Fact) (remaining : R → Option (List ℕ)) (failed : R → Bool) where
   -- The sources before the one at i have been read, and have given these parts; the source at i and those after it are unchanged.
   pub record Sofar (old now : List R) (i : ℕ) (s : Sum) : Type 0 where
     pub parts : List Part
-    pub each : AllZip (λ r k. IsPartOf p (remaining r) k) (take i old) parts
+    pub each : AllZip (λ r k. IsPartOf p root (remaining r) k) (take i old) parts
     pub of : IsSumOf s parts
     pub rest : (k : ℕ) (d : R) → i ≤ k → get_or now k d ≡ get_or old k d
     pub same : (k : ℕ) (d : R) → k < length old → failed (get_or now k d) ≡ failed (get_or old k d)
@@ -147,22 +149,23 @@ module _ {R : Type 0} (p : Problem) (remaining : R → Option (List ℕ)) (faile
   -- the number of files taken so far
   pub taken : (old now : List R) (i : ℕ) (s : Sum) → i ≤ length old → Sofar old now i s → due s ≡ i + 1
   taken old now i s within h =
-      let long = AllZip-long (λ r k. IsPartOf p (remaining r) k) (take i old) h.parts h.each in
+      let long = AllZip-long (λ r k. IsPartOf p root (remaining r) k) (take i old) h.parts h.each in
       let many = length-take-le i old within in
       omega (arith, long, many, h.of.table.number)
 
   -- another source
   pub sofar_next : (old now : List R) (i : ℕ) (s t : Sum) (r q : R) → i < length old → length now ≡ length old → r ≡ get_or now i r
       → Sofar old now i s
-      → ((parts : List Part) → IsSumOf s parts → Adds p (remaining r) parts t) → failed q ≡ failed r → Sofar old (set now i q) (i + 1) t
+      → ((parts : List Part) → IsSumOf s parts → Adds p root (remaining r) parts t) → failed q ≡ failed r
+      → Sofar old (set now i q) (i + 1) t
   sofar_next old now i s t r q l long is h adds unfailed =
       let a = adds h.parts h.of in
       let first : r ≡ get_or old i r = is ∙ h.rest i r (omega arith) in
       record {
         parts = h.parts ++ a.0 ∷ [];
-        each = subst (λ (xs : List R). AllZip (λ x k. IsPartOf p (remaining x) k) xs (h.parts ++ a.0 ∷ []))
+        each = subst (λ (xs : List R). AllZip (λ x k. IsPartOf p root (remaining x) k) xs (h.parts ++ a.0 ∷ []))
             (sym (take_more old i r l ∙ ap (λ (x : R). take i old ++ x ∷ []) (sym first)))
-            (all_zipped_more (λ x k. IsPartOf p (remaining x) k) (take i old) h.parts r a.0 h.each a.1);
+            (all_zipped_more (λ x k. IsPartOf p root (remaining x) k) (take i old) h.parts r a.0 h.each a.1);
         of = a.2;
         rest = λ k d m. let ne : k ≢ i = omega arith in get_or-set_other now i k q d ne ∙ h.rest k d (omega arith);
         same = λ k d m. elim (cases_eq k i) [
@@ -182,31 +185,34 @@ module _ {R : Type 0} (p : Problem) (remaining : R → Option (List ℕ)) (faile
 
   -- if the bytes are known, they spell the parts
   pub sofar_found : (old now : List R) (i : ℕ) (s : Sum) → length old ≤ i → (h : Sofar old now i s) → (proofs : List (List ℕ))
-      → Give remaining old proofs → IsSum p proofs (sum_of h.parts)
+      → Give remaining old proofs → IsSumOn p root proofs (sum_of h.parts)
   sofar_found old now i s all h proofs given = record {
     parts = h.parts;
-    each = zip_known p remaining old proofs h.parts given
-        (subst (λ (xs : List R). AllZip (λ x k. IsPartOf p (remaining x) k) xs h.parts) (take_all i old all) h.each);
+    each = zip_known p root remaining old proofs h.parts given
+        (subst (λ (xs : List R). AllZip (λ x k. IsPartOf p root (remaining x) k) xs h.parts) (take_all i old all) h.each);
     apart = h.of.apart;
     total = refl;
   }
 
-  pub sofar_holds : (old now : List R) (i : ℕ) (s : Sum) → (h : Sofar old now i s) → HoldsOfAll p (sum_of h.parts)
-  sofar_holds old now i s h = parts_hold p (λ x k. IsPartOf p (remaining x) k) (λ x k is. part_of_shows p (remaining x) k is)
+  pub sofar_holds : (old now : List R) (i : ℕ) (s : Sum) → (h : Sofar old now i s) → HoldsOn p (sum_of h.parts) root
+  sofar_holds old now i s h =
+      parts_hold p root (λ x k. IsPartOf p root (remaining x) k) (λ x k is. part_of_shows p root (remaining x) k is)
       (take i old) h.parts h.each h.of.apart
 
   -- a refusal of the source at i
   pub sofar_refused : (old now : List R) (i : ℕ) (s : Sum) (r : R) (n : ℕ) (x : Stop FileFault) → i < length old → r ≡ get_or now i r
       → Sofar old now i s → n ≡ due s
-      → OnFault x (λ f. (parts : List Part) (bytes : List ℕ) → IsSumOf s parts → remaining r ≡ Some bytes → ExplainsAdded p parts bytes f)
-      → (proofs : List (List ℕ)) → Give remaining old proofs → IsSumStop p proofs n x
+      → OnFault x (λ f. (parts : List Part) (bytes : List ℕ) → IsSumOf s parts → remaining r ≡ Some bytes
+      → ExplainsAddedOn p root parts bytes f)
+      → (proofs : List (List ℕ)) → Give remaining old proofs → IsSumStopOn p root proofs n x
   sofar_refused old now i s r n x l is h numbered tells proofs given = on x tells
     where
       reached : (P : List Part → List ℕ → Type 0)
-          → ((parts : List Part) (bytes : List ℕ) → IsSumOf s parts → remaining r ≡ Some bytes → P parts bytes) → IsReached p proofs n P
+          → ((parts : List Part) (bytes : List ℕ) → IsSumOf s parts → remaining r ≡ Some bytes → P parts bytes)
+          → IsReachedOn p root proofs n P
       reached P explains =
           let first : r ≡ get_or old i r = is ∙ h.rest i r (omega arith) in
-          let g = gives_at p remaining old proofs i r given (slice_get_read old (length old) i r refl l first) in
+          let g = gives_at p root remaining old proofs i r given (slice_get_read old (length old) i r refl l first) in
           let number : due s ≡ length h.parts + 1 = ap (λ (n : ℕ). n + 1) h.of.table.number in
           record {
             before = g.before;
@@ -214,7 +220,7 @@ module _ {R : Type 0} (p : Problem) (remaining : R → Option (List ℕ)) (faile
             more = g.more;
             split = g.split;
             parts = h.parts;
-            each = zip_known p remaining (take i old) g.before h.parts g.each h.each;
+            each = zip_known p root remaining (take i old) g.before h.parts g.each h.each;
             apart = h.of.apart;
             small = h.of.small;
             numbered = numbered ∙ number;
@@ -223,9 +229,9 @@ module _ {R : Type 0} (p : Problem) (remaining : R → Option (List ℕ)) (faile
 
       on : (x : Stop FileFault)
           → OnFault x (λ f. (parts : List Part) (bytes : List ℕ) → IsSumOf s parts → remaining r ≡ Some bytes
-          → ExplainsAdded p parts bytes f)
-          → IsSumStop p proofs n x
-      on (Fault f) tells = reached (λ parts bytes. ExplainsAdded p parts bytes f) tells
+          → ExplainsAddedOn p root parts bytes f)
+          → IsSumStopOn p root proofs n x
+      on (Fault f) tells = reached (λ parts bytes. ExplainsAddedOn p root parts bytes f) tells
       on ReadFailed tells = reached (λ parts bytes. ⊤) (λ parts bytes of known. tt)
       on OutOfMemory tells = tt
 

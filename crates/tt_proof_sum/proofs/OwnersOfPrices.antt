@@ -13,6 +13,7 @@ use Rattle.tt_list_laws.proofs.Tested.{each_append, each_map}
 use Rattle.tt_list_laws.proofs.Twos.{list_all-swap}
 use Rattle.tt_instance.specs.Problem.{Problem}
 use Rattle.tt_instance.specs.Limits.{IsInstance}
+use Rattle.tt_path.specs.declared.facts.Fact.{Fact}
 use Rattle.tt_leaf_rules.specs.Claims.{Target, RoomCapacity, WorkingDays, Compactness, Stability}
 use Rattle.tt_leaf_rules.specs.Inner.NumberSet.{place}
 use Rattle.tt_leaf.specs.declared.leaf.Bound.TheVariants.{AtLeast}
@@ -261,9 +262,10 @@ module _ (p : Problem) (is : IsInstance p) (remaining : Option (List ℕ)) (k : 
       ∙ ap (λ b. targets_with (curricula_in h.parts) (courses_in h.parts) b n) h.claims.rooms
 
   module _ (before : State) (parts : List Part) (of : IsTableOf before parts) where
-    pub prices_join : (b : State) → first_owner (begun before) (claim_places n k) ≡ None → Marks (begun before) (claim_places n k) b
-        → (known : Option (List ℕ)) → Keeps known remaining → IsOfKind kind.Prices known → Joins p known parts b (AtLeast k.bound)
-    prices_join b none marks known kept kind = record {
+    pub prices_join : (root : List Fact) (b : State) → first_owner (begun before) (claim_places n k) ≡ None
+        → Marks (begun before) (claim_places n k) b → (known : Option (List ℕ)) → Keeps known remaining → IsOfKind kind.Prices known
+        → Joins p root known parts b (AtLeast k.bound)
+    prices_join root b none marks known kept kind = record {
       part = PricesFile file;
       is = record { kind = kind; spelled = λ bytes e. h.spelled bytes (keeps_known known remaining bytes kept e); right = file_right };
       bound = ap AtLeast (sym h.claims.bound);

@@ -13,6 +13,7 @@ use Rattle.tt_list_laws.proofs.Tested.{all_at}
 use Rattle.tt_list_laws.proofs.Twos.{each_two-last}
 use Rattle.tt_instance.specs.Problem.{Problem}
 use Rattle.tt_instance.specs.Limits.{IsInstance}
+use Rattle.tt_path.specs.declared.facts.Fact.{Fact}
 use Rattle.tt_text.specs.Feeds.{Stream}
 use Rattle.tt_text.specs.Pieces.{Piece, Text, Begins}
 use Rattle.tt_text.specs.Tokens.{Placed, tokens_of}
@@ -44,7 +45,7 @@ use Rattle.tt_groups_read.proofs.FileLaws.{spelled_reads}
 use Rattle.tt_proof_sum.specs.declared.groups_fault.GroupsFault.{GroupsFault}
 use Rattle.tt_proof_sum.specs.declared.groups_fault.GroupsFault.TheVariants as groups
 use Rattle.tt_proof_sum.specs.GroupsFaults.{AfterClaims, ExplainsGroups, IsLeftOpen}
-use Rattle.tt_proof_sum.specs.Sums.{is_among, are_apart, group_targets, targets_of_claims, TreePart, GroupsPart, Part, TreeProof, GroupsFile, PricesFile, IsGroupsPart, IsPart, claims_of, AreClaimsApart}
+use Rattle.tt_proof_sum.specs.Sums.{is_among, are_apart, group_targets, targets_of_claims, TreePart, GroupsPart, Part, TreeProof, GroupsFile, PricesFile, IsGroupsPart, IsPartOn, claims_of, AreClaimsApart}
 use Rattle.tt_proof_sum.proofs.Together.{not_both}
 
 -- -- the kind of a part is that of its text
@@ -65,14 +66,15 @@ kind_of_part (TreeProof k) = kind.Tree
 kind_of_part (GroupsFile k) = kind.Groups
 kind_of_part (PricesFile k) = kind.Prices
 
-pub part_kind : (p : Problem) (bytes : List ℕ) (k : Part) → IsPart p bytes k → kind_of bytes ≡ kind_of_part k
-part_kind p bytes (TreeProof k) h = proofs_are_trees p bytes k h.spelled
-part_kind p bytes (GroupsFile k) h = h.kind
-part_kind p bytes (PricesFile k) h = h.kind
+pub part_kind : (p : Problem) (root : List Fact) (bytes : List ℕ) (k : Part) → IsPartOn p root bytes k → kind_of bytes ≡ kind_of_part k
+part_kind p root bytes (TreeProof k) h = proofs_are_trees p bytes k h.spelled
+part_kind p root bytes (GroupsFile k) h = h.kind
+part_kind p root bytes (PricesFile k) h = h.kind
 
 -- two parts of one text have the same kind
-pub kinds_same : (p : Problem) (bytes : List ℕ) (k l : Part) → IsPart p bytes k → IsPart p bytes l → kind_of_part k ≡ kind_of_part l
-kinds_same p bytes k l h i = sym (part_kind p bytes k h) ∙ part_kind p bytes l i
+pub kinds_same : (p : Problem) (root : List Fact) (bytes : List ℕ) (k l : Part) → IsPartOn p root bytes k → IsPartOn p root bytes l
+    → kind_of_part k ≡ kind_of_part l
+kinds_same p root bytes k l h i = sym (part_kind p root bytes k h) ∙ part_kind p root bytes l i
 
 -- ---- claims that a stream gives
 
@@ -188,29 +190,30 @@ groups_part b claims = GroupsFile (record { bound = b; claims = claims })
 abbrev prices_part : Header → List prices.Part → ℕ → Part
 prices_part h parts n = PricesFile (record { header = h; parts = parts; courses = n })
 
-pub same_part : (p : Problem) → IsInstance p → (bytes : List ℕ) (k l : Part) → IsPart p bytes k → IsPart p bytes l → k ≡ l
-same_part p is bytes (TreeProof k) (TreeProof l) h i =
+pub same_part : (p : Problem) (root : List Fact) → IsInstance p → (bytes : List ℕ) (k l : Part) → IsPartOn p root bytes k
+    → IsPartOn p root bytes l → k ≡ l
+same_part p root is bytes (TreeProof k) (TreeProof l) h i =
     let same = spelled_once p is bytes k.version l.version k.bound l.bound k.tree l.tree h.spelled i.spelled in
     ap (λ (v : ℕ). tree_part v k.bound k.tree) same.0.0 ∙ ap (λ (b : Bound). tree_part l.version b k.tree) same.0.1
     ∙ ap (λ (t : Tree). tree_part l.version l.bound t) same.1
-same_part p is bytes (TreeProof k) (GroupsFile l) h i =
-    let no : kind.Tree ≡ kind.Groups = kinds_same p bytes (TreeProof k) (GroupsFile l) h i in absurd cc
-same_part p is bytes (TreeProof k) (PricesFile l) h i =
-    let no : kind.Tree ≡ kind.Prices = kinds_same p bytes (TreeProof k) (PricesFile l) h i in absurd cc
-same_part p is bytes (GroupsFile k) (TreeProof l) h i =
-    let no : kind.Groups ≡ kind.Tree = kinds_same p bytes (GroupsFile k) (TreeProof l) h i in absurd cc
-same_part p is bytes (GroupsFile k) (PricesFile l) h i =
-    let no : kind.Groups ≡ kind.Prices = kinds_same p bytes (GroupsFile k) (PricesFile l) h i in absurd cc
-same_part p is bytes (PricesFile k) (TreeProof l) h i =
-    let no : kind.Prices ≡ kind.Tree = kinds_same p bytes (PricesFile k) (TreeProof l) h i in absurd cc
-same_part p is bytes (PricesFile k) (GroupsFile l) h i =
-    let no : kind.Prices ≡ kind.Groups = kinds_same p bytes (PricesFile k) (GroupsFile l) h i in absurd cc
-same_part p is bytes (PricesFile k) (PricesFile l) h i =
+same_part p root is bytes (TreeProof k) (GroupsFile l) h i =
+    let no : kind.Tree ≡ kind.Groups = kinds_same p root bytes (TreeProof k) (GroupsFile l) h i in absurd cc
+same_part p root is bytes (TreeProof k) (PricesFile l) h i =
+    let no : kind.Tree ≡ kind.Prices = kinds_same p root bytes (TreeProof k) (PricesFile l) h i in absurd cc
+same_part p root is bytes (GroupsFile k) (TreeProof l) h i =
+    let no : kind.Groups ≡ kind.Tree = kinds_same p root bytes (GroupsFile k) (TreeProof l) h i in absurd cc
+same_part p root is bytes (GroupsFile k) (PricesFile l) h i =
+    let no : kind.Groups ≡ kind.Prices = kinds_same p root bytes (GroupsFile k) (PricesFile l) h i in absurd cc
+same_part p root is bytes (PricesFile k) (TreeProof l) h i =
+    let no : kind.Prices ≡ kind.Tree = kinds_same p root bytes (PricesFile k) (TreeProof l) h i in absurd cc
+same_part p root is bytes (PricesFile k) (GroupsFile l) h i =
+    let no : kind.Prices ≡ kind.Groups = kinds_same p root bytes (PricesFile k) (GroupsFile l) h i in absurd cc
+same_part p root is bytes (PricesFile k) (PricesFile l) h i =
     let same = file_once p is bytes k.header l.header k.parts l.parts h.spelled i.spelled in
     let courses : k.courses ≡ l.courses = h.right.courses ∙ sym i.right.courses in
     ap (λ (x : Header). prices_part x k.parts k.courses) same.0 ∙ ap (λ (xs : List prices.Part). prices_part l.header xs k.courses) same.1
     ∙ ap (λ (n : ℕ). prices_part l.header l.parts n) courses
-same_part p is bytes (GroupsFile k) (GroupsFile l) h i =
+same_part p root is bytes (GroupsFile k) (GroupsFile l) h i =
     let same = groups_once p is bytes k.bound l.bound k.claims l.claims h.spelled i.spelled in
     ap (λ (b : ℕ). groups_part b k.claims) same.0 ∙ ap (λ (c : List GroupClaim). groups_part l.bound c) same.1
 

@@ -2,7 +2,7 @@
 use Rattle.std.proofs.Common.{◌≡◌, ℕ, ◌+◌, ◌≤◌, Bool, true, false, not, cond, ◌&&◌, ◌||◌, List, [], ◌∷◌, ◌++◌, map, Option, refl, subst, ◌∙◌, arith, inl, inr, zero-le}
 use Rattle.std.specs.Prelude.{Contains, ◌⊎◌, sum_by, flat_map}
 use Rattle.std.specs.List.{list_any, list_all, AllZip, AllByRecursion}
-use Rattle.std.proofs.lemmas.List.Elements.{All-nil, Contains-append_right, recursion_from_All}
+use Rattle.std.proofs.lemmas.List.Elements.{Contains-append_right, recursion_from_All}
 use Rattle.std.proofs.lemmas.List.Folds.{list_any-append, list_all-append, list_all-map}
 use Rattle.std.proofs.lemmas.List.Sums.{sum_by-append}
 use Rattle.std.proofs.lemmas.Bool.{and_parts, cond-true, and_from, both_ways, not-true}
@@ -15,7 +15,7 @@ use Rattle.tt_list_laws.proofs.Apart.{distinct_sum}
 use Rattle.tt_instance.specs.Problem.{Problem}
 use Rattle.tt_instance.specs.declared.cell.Cell.{Cell}
 use Rattle.tt_rules.specs.Score.{IsFeasible, cost}
-use Rattle.tt_path.specs.Facts.{Holds, Fits}
+use Rattle.tt_path.specs.Facts.{Fits}
 use Rattle.tt_path.specs.declared.facts.Fact.{Fact}
 use Rattle.tt_leaf_rules.specs.Bounds.{Respects}
 use Rattle.tt_leaf_rules.specs.Claims.{Target, WorkingDays, Compactness, part}
@@ -23,13 +23,13 @@ use Rattle.tt_leaf_rules.specs.Tests.{same_target}
 use Rattle.tt_leaf.specs.declared.leaf.Bound.{Bound}
 use Rattle.tt_leaf.specs.declared.leaf.Bound.TheVariants.{AtLeast, Nothing}
 use Rattle.tt_leaf_rules.proofs.Totals.{same_target-true, same_target-itself, target_there}
-use Rattle.tt_proof_check.specs.Derives.{HoldsOfAll}
+use Rattle.tt_proof_check.specs.Derives.{HoldsOn}
 use Rattle.tt_groups.specs.Group.{Group, group_cost, IsGroupBound}
 use Rattle.tt_groups.proofs.Seen.{group_bound_holds}
 use Rattle.tt_groups_read.specs.Spelling.{IsClaim}
 use Rattle.tt_groups_read.specs.declared.claim.GroupClaim.{GroupClaim}
 use Rattle.tt_proof_sum.specs.Added.{IsPartOf}
-use Rattle.tt_proof_sum.specs.Sums.{claimed_by, is_among, are_among, are_apart, cost_over, every_target, group_targets, targets_of_claims, AreClaimsApart, both_bounds, sum_of, Part, TreeProof, GroupsFile, PricesFile, prices_targets, IsPart, ShowsOn, bound_of, claims_of, AreApart, IsSum}
+use Rattle.tt_proof_sum.specs.Sums.{claimed_by, is_among, are_among, are_apart, cost_over, every_target, group_targets, targets_of_claims, AreClaimsApart, both_bounds, sum_of, Part, TreeProof, GroupsFile, PricesFile, prices_targets, IsPartOn, ShowsOn, bound_of, claims_of, AreApart, IsSumOn}
 use Rattle.tt_proof_sum.proofs.Over.{are_different, tree_by, most_over, over_all, IsMost}
 use Rattle.tt_proof_sum.proofs.Priced.{prices_different, prices_paid}
 
@@ -220,27 +220,29 @@ module _ (p : Problem) (t : List Cell) (ok : IsFeasible p t) where
         (shares_hold parts d apart)
 
 -- if each part is right, so are all parts of the files
-show_each : {X : Type 0} (p : Problem) (R : X → Part → Type 0) → ((x : X) (k : Part) → R x k → ShowsOn p [] k)
-    → (xs : List X) (parts : List Part) → AllZip R xs parts → AllByRecursion (ShowsOn p []) parts
-show_each p R shows [] [] h = tt
-show_each p R shows [] (k ∷ ks) h = absurd h
-show_each p R shows (x ∷ xs) [] h = absurd h
-show_each p R shows (x ∷ xs) (k ∷ ks) h = (shows x k h.0, show_each p R shows xs ks h.1)
+show_each : {X : Type 0} (p : Problem) (root : List Fact) (R : X → Part → Type 0) → ((x : X) (k : Part) → R x k → ShowsOn p root k)
+    → (xs : List X) (parts : List Part) → AllZip R xs parts → AllByRecursion (ShowsOn p root) parts
+show_each p root R shows [] [] h = tt
+show_each p root R shows [] (k ∷ ks) h = absurd h
+show_each p root R shows (x ∷ xs) [] h = absurd h
+show_each p root R shows (x ∷ xs) (k ∷ ks) h = (shows x k h.0, show_each p root R shows xs ks h.1)
 
-pub parts_hold : {X : Type 0} (p : Problem) (R : X → Part → Type 0) → ((x : X) (k : Part) → R x k → ShowsOn p [] k)
-    → (xs : List X) (parts : List Part) → AllZip R xs parts → AreApart parts → HoldsOfAll p (sum_of parts)
-parts_hold p R shows xs parts zipped apart t ok = bounds_add p t ok [] (All-nil (Holds p t)) parts
-    (show_each p R shows xs parts zipped) apart
+pub parts_hold : {X : Type 0} (p : Problem) (root : List Fact) (R : X → Part → Type 0) → ((x : X) (k : Part) → R x k → ShowsOn p root k)
+    → (xs : List X) (parts : List Part) → AllZip R xs parts → AreApart parts → HoldsOn p (sum_of parts) root
+parts_hold p root R shows xs parts zipped apart t ok fits = bounds_add p t ok root fits parts
+    (show_each p root R shows xs parts zipped) apart
 
-pub part_shows : (p : Problem) (bytes : List ℕ) (k : Part) → IsPart p bytes k → ShowsOn p [] k
-part_shows p bytes (TreeProof k) is = is.derives
-part_shows p bytes (GroupsFile k) is = (is.spelled.each, is.right)
-part_shows p bytes (PricesFile k) is = is.right
+pub part_shows : (p : Problem) (root : List Fact) (bytes : List ℕ) (k : Part) → IsPartOn p root bytes k → ShowsOn p root k
+part_shows p root bytes (TreeProof k) is = is.derives
+part_shows p root bytes (GroupsFile k) is = (is.spelled.each, is.right)
+part_shows p root bytes (PricesFile k) is = is.right
 
-pub part_of_shows : (p : Problem) (remaining : Option (List ℕ)) (k : Part) → IsPartOf p remaining k → ShowsOn p [] k
-part_of_shows p remaining (TreeProof k) is = is.derives
-part_of_shows p remaining (GroupsFile k) is = (is.claims, is.right)
-part_of_shows p remaining (PricesFile k) is = is.right
+pub part_of_shows : (p : Problem) (root : List Fact) (remaining : Option (List ℕ)) (k : Part) → IsPartOf p root remaining k
+    → ShowsOn p root k
+part_of_shows p root remaining (TreeProof k) is = is.derives
+part_of_shows p root remaining (GroupsFile k) is = (is.claims, is.right)
+part_of_shows p root remaining (PricesFile k) is = is.right
 
-pub sum_holds : (p : Problem) (files : List (List ℕ)) (s : Bound) → IsSum p files s → HoldsOfAll p s
-sum_holds p files s h = subst (HoldsOfAll p) h.total (parts_hold p (IsPart p) (part_shows p) files h.parts h.each h.apart)
+pub sum_holds : (p : Problem) (root : List Fact) (files : List (List ℕ)) (s : Bound) → IsSumOn p root files s → HoldsOn p s root
+sum_holds p root files s h = subst (λ (b : Bound). HoldsOn p b root) h.total
+    (parts_hold p root (IsPartOn p root) (part_shows p root) files h.parts h.each h.apart)

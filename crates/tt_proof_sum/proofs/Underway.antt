@@ -11,6 +11,7 @@ use Rattle.tt_text.specs.Feeds.{Stream, stream_at, fresh, room_of}
 use Rattle.tt_text.specs.declared.feed.FeedFault.TheVariants as feed
 use Rattle.tt_instance.specs.Problem.{Problem}
 use Rattle.tt_instance.specs.Limits.{IsInstance}
+use Rattle.tt_path.specs.declared.facts.Fact.{Fact}
 use Rattle.tt_leaf_rules.specs.Inner.NumberSet.{place}
 use Rattle.tt_leaf.specs.declared.leaf.Bound.{Bound}
 use Rattle.tt_leaf.specs.declared.leaf.Bound.TheVariants.{AtLeast}
@@ -45,7 +46,7 @@ use Rattle.tt_proof_sum.specs.declared.groups_fault.GroupsFault.{GroupsFault}
 use Rattle.tt_proof_sum.specs.declared.groups_fault.GroupsFault.TheVariants as groups
 use Rattle.tt_proof_sum.specs.Added.{IsOfKind, Joins}
 use Rattle.tt_proof_sum.specs.Inner.Claiming.{ExplainsClaimFault, ExplainsClaim, ReadsTo, Underway}
-use Rattle.tt_proof_sum.specs.Faults.{IsGroupsFault, ExplainsAdded, stop_from_text, HoldsNoStop}
+use Rattle.tt_proof_sum.specs.Faults.{IsGroupsFault, ExplainsAddedOn, stop_from_text, HoldsNoStop}
 use Rattle.tt_proof_sum.specs.GroupsFaults.{Pass, AfterClaims, ExplainsGroups}
 use Rattle.tt_proof_sum.specs.Sums.{group_targets, targets_of_claims, Part, GroupsPart, GroupsFile}
 use Rattle.tt_proof_sum.specs.Tables.{State, owner, begun, group_places, first_owner, Marks, IsTableOf}
@@ -152,10 +153,11 @@ module _ (p : Problem) (is : IsInstance p) (before : Option (List ℕ)) (a : Sta
     fresh_before : (k : ℕ) → k < 32768 → has_number (map place (targets_of_claims u.claims)) k ≡ true → owner old k ≡ 0
     fresh_before k l has = sym (ap (λ (z : State). owner z k) begins) ∙ u.entered.fresh k l has
 
-    pub joins : (known : Option (List ℕ)) → Keeps known before → IsOfKind kind.Groups known → (later : Option (List ℕ)) (after : Reader)
+    pub joins : (root : List Fact) (known : Option (List ℕ)) → Keeps known before → IsOfKind kind.Groups known
+        → (later : Option (List ℕ)) (after : Reader)
         → (is_some before ≡ true → group_at (sizes_of p) (stream_at r.fed now) ≡ Ok (None, stream_at after.fed later)) → r.bound ≤ sum
-        → Joins p known parts b (AtLeast r.bound)
-    joins known kept kind later after finish enough = record {
+        → Joins p root known parts b (AtLeast r.bound)
+    joins root known kept kind later after finish enough = record {
       part = GroupsFile file;
       is = record {
         kind = kind;
@@ -232,19 +234,19 @@ module _ (p : Problem) (is : IsInstance p) (before : Option (List ℕ)) (a : Sta
           )
       tells_claim groups.TooCheap reported = absurd reported
 
-      pub claim_fault : (bytes : List ℕ) → before ≡ Some bytes → kind_of bytes ≡ kind.Groups → (f : FileFault)
-          → ExplainsClaim p b number k f → ExplainsAdded p parts bytes f
-      claim_fault bytes e kind (fault.Groups f) reported =
+      pub claim_fault : (root : List Fact) (bytes : List ℕ) → before ≡ Some bytes → kind_of bytes ≡ kind.Groups → (f : FileFault)
+          → ExplainsClaim p b number k f → ExplainsAddedOn p root parts bytes f
+      claim_fault root bytes e kind (fault.Groups f) reported =
           record {
             kind = kind;
             fault = subst (λ (z : Option (List ℕ)). ExplainsGroups p parts (stream_at fresh z) f) e
                 (tells_claim f reported);
           }
-      claim_fault bytes e kind (fault.Proof f) reported = absurd reported
-      claim_fault bytes e kind (fault.Prices f) reported = absurd reported
-      claim_fault bytes e kind (fault.ClaimedElsewhere i o) reported = absurd reported
-      claim_fault bytes e kind (fault.TargetClaimedElsewhere y o) reported = absurd reported
-      claim_fault bytes e kind fault.TooLarge reported = absurd reported
+      claim_fault root bytes e kind (fault.Proof f) reported = absurd reported
+      claim_fault root bytes e kind (fault.Prices f) reported = absurd reported
+      claim_fault root bytes e kind (fault.ClaimedElsewhere i o) reported = absurd reported
+      claim_fault root bytes e kind (fault.TargetClaimedElsewhere y o) reported = absurd reported
+      claim_fault root bytes e kind fault.TooLarge reported = absurd reported
 
     pub cheap_fault : (bytes : List ℕ) → before ≡ Some bytes → kind_of bytes ≡ kind.Groups → (later : Option (List ℕ)) (after : Reader)
         → (is_some before ≡ true → group_at (sizes_of p) (stream_at r.fed now) ≡ Ok (None, stream_at after.fed later))
@@ -311,7 +313,7 @@ loud false P h e = h
 pub header_fault : (p : Problem) (parts : List Part) (bytes : List ℕ) (before now : Option (List ℕ)) → before ≡ Some bytes
     → kind_of bytes ≡ kind.Groups → (f : GroupTextFault)
     → (is_some before ≡ true → IsHeaderReadingOf (stream_at fresh before) (Err f) now) → is_environmental f ≡ false
-    → ExplainsAdded p parts bytes (fault.Groups (groups.Text f))
+    → IsGroupsFault p parts bytes (groups.Text f)
 header_fault p parts bytes before now e kind f says calm = record {
   kind = kind;
   fault = (
@@ -337,7 +339,7 @@ module _ (p : Problem) (is : IsInstance p) (before : Option (List ℕ)) (a : Sta
       → (is_some now ≡ true → IsReadingOf r (stream_at r.fed now) (Err t) (stream_at after.fed later)) → (bytes : List ℕ)
       → before ≡ Some bytes
       → kind_of bytes ≡ kind.Groups → is_environmental (group_text.Text t) ≡ false
-      → ExplainsAdded p parts bytes (fault.Groups (groups.Text (group_text.Text t)))
+      → IsGroupsFault p parts bytes (groups.Text (group_text.Text t))
   text_fault parts old of begins says bytes e kind calm =
       let k : is_some before ≡ true = ap is_some e in
       record {

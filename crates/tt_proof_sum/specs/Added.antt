@@ -2,8 +2,9 @@
 use Rattle.std.specs.Prelude.{◌≡◌, ℕ, ◌+◌, true, List, [], ◌∷◌, ◌++◌, Option, Some, All}
 use Rattle.std.specs.List.{list_all, AllZip}
 use Rattle.tt_instance.specs.Problem.{Problem}
+use Rattle.tt_path.specs.declared.facts.Fact.{Fact}
 use Rattle.tt_leaf.specs.declared.leaf.Bound.{Bound}
-use Rattle.tt_proof_check.specs.Derives.{Derives}
+use Rattle.tt_proof_check.specs.Derives.{Derives, IsShallowOn}
 use Rattle.tt_proof_read.specs.Spelling.{SpellsProof}
 use Rattle.tt_proof_sum.specs.declared.summed.Sum.{Sum}
 use Rattle.tt_groups_read.specs.Spelling.{IsClaim, SpellsGroups}
@@ -20,10 +21,11 @@ use Rattle.tt_proof_sum.specs.Tables.{State, IsTableOf}
 abbrev pub IsOfKind : FileKind → Option (List ℕ) → Type 0
 IsOfKind k remaining = (bytes : List ℕ) → remaining ≡ Some bytes → kind_of bytes ≡ k
 
--- If the bytes are known, they spell the part, and it derives its bound.
-pub record IsTreeOf (p : Problem) (remaining : Option (List ℕ)) (k : TreePart) : Type 0 where
+-- If the bytes are known, they spell the part, and with these facts at the root of its tree it is not too deep and derives its bound.
+pub record IsTreeOf (p : Problem) (root : List Fact) (remaining : Option (List ℕ)) (k : TreePart) : Type 0 where
   pub spelled : (bytes : List ℕ) → remaining ≡ Some bytes → SpellsProof p bytes k.version k.bound k.tree
-  pub derives : Derives p k.bound [] k.tree
+  pub shallow : IsShallowOn root k.tree
+  pub derives : Derives p k.bound root k.tree
 
 -- If the bytes are known, they are a file of groups and spell the part, and its claims are right.
 pub record AreGroupsOf (p : Problem) (remaining : Option (List ℕ)) (k : GroupsPart) : Type 0 where
@@ -38,16 +40,16 @@ pub record ArePricesOf (p : Problem) (remaining : Option (List ℕ)) (k : Prices
   pub spelled : (bytes : List ℕ) → remaining ≡ Some bytes → SpellsFile (sizes_of p) bytes k.header k.parts
   pub right : ArePricesRight p k
 
--- If the bytes are known, they spell the part, and it is right.
-abbrev pub IsPartOf : Problem → Option (List ℕ) → Part → Type 0
-IsPartOf p remaining (TreeProof k) = IsTreeOf p remaining k
-IsPartOf p remaining (GroupsFile k) = AreGroupsOf p remaining k
-IsPartOf p remaining (PricesFile k) = ArePricesOf p remaining k
+-- If the bytes are known, they spell the part, and it is right if trees have these facts at their root.
+abbrev pub IsPartOf : Problem → List Fact → Option (List ℕ) → Part → Type 0
+IsPartOf p root remaining (TreeProof k) = IsTreeOf p root remaining k
+IsPartOf p root remaining (GroupsFile k) = AreGroupsOf p remaining k
+IsPartOf p root remaining (PricesFile k) = ArePricesOf p remaining k
 
 -- A part with this bound claims no target that these parts claim, and the table is the one of these parts and that part.
-pub record Joins (p : Problem) (remaining : Option (List ℕ)) (parts : List Part) (a : State) (b : Bound) : Type 0 where
+pub record Joins (p : Problem) (root : List Fact) (remaining : Option (List ℕ)) (parts : List Part) (a : State) (b : Bound) : Type 0 where
   pub part : Part
-  pub is : IsPartOf p remaining part
+  pub is : IsPartOf p root remaining part
   pub bound : bound_of part ≡ b
   pub apart : list_all (λ k. are_apart (claims_of k) (claims_of part)) parts ≡ true
   pub table : IsTableOf a (parts ++ part ∷ [])
@@ -64,8 +66,8 @@ abbrev pub due : Sum → ℕ
 due s = s.table.proof + 1
 
 -- The sum is the one of these parts and another part.
-abbrev pub Adds : Problem → Option (List ℕ) → List Part → Sum → Type 0
-Adds p remaining parts s = (part : Part) × IsPartOf p remaining part × IsSumOf s (parts ++ part ∷ [])
+abbrev pub Adds : Problem → List Fact → Option (List ℕ) → List Part → Sum → Type 0
+Adds p root remaining parts s = (part : Part) × IsPartOf p root remaining part × IsSumOf s (parts ++ part ∷ [])
 
 -- The bytes that each source gives, if all are known.
 abbrev pub Give : {R : Type 0} → (R → Option (List ℕ)) → List R → List (List ℕ) → Type 0

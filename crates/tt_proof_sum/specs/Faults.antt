@@ -6,6 +6,7 @@ use Rattle.tt_stop.specs.Stops.{mapped}
 use Rattle.tt_stop.specs.declared.stop.Stop.{Stop}
 use Rattle.tt_stop.specs.declared.stop.Stop.TheVariants.{Fault, ReadFailed, OutOfMemory}
 use Rattle.tt_instance.specs.Problem.{Problem}
+use Rattle.tt_path.specs.declared.facts.Fact.{Fact}
 use Rattle.tt_leaf_rules.specs.Claims.{Target, RoomCapacity, WorkingDays, Compactness, Stability}
 use Rattle.tt_leaf.specs.declared.leaf.Bound.{Bound}
 use Rattle.tt_leaf.specs.declared.leaf.Bound.TheVariants.{AtLeast, Nothing}
@@ -28,16 +29,16 @@ use Rattle.tt_proof_sum.specs.declared.fault.SumStop.{SumStop}
 use Rattle.tt_proof_sum.specs.declared.groups_fault.GroupsFault.{GroupsFault}
 use Rattle.tt_proof_sum.specs.declared.groups_fault.GroupsFault.TheVariants as groups
 use Rattle.tt_proof_sum.specs.GroupsFaults.{IsOfFile, IsLeftOpen, ExplainsGroups, FirstClaimed, IsClaimedBy}
-use Rattle.tt_proof_sum.specs.Sums.{are_apart, TreePart, PricesPart, Part, IsTreePart, IsPricesPart, IsPart, prices_targets, bound_of, claims_of, AreApart, sum_of}
+use Rattle.tt_proof_sum.specs.Sums.{are_apart, TreePart, PricesPart, Part, IsTreePart, IsPricesPart, IsPartOn, prices_targets, bound_of, claims_of, AreApart, sum_of}
 use Rattle.tt_proof_sum.specs.Tables.{claims_at}
 
--- -- another file, after those of these parts
+-- -- another file, after those of these parts, with these facts at the root of each tree
 
 -- The proof spells a tree that derives its bound, and the node at i is its first that claims a target which one of the parts claims; the first
 -- such target of the node is claimed by the part at e, counted from 1.
-pub record IsClaimedElsewhere (p : Problem) (parts : List Part) (bytes : List ℕ) (i e : ℕ) : Type 0 where
+pub record IsClaimedElsewhere (p : Problem) (root : List Fact) (parts : List Part) (bytes : List ℕ) (i e : ℕ) : Type 0 where
   pub part : TreePart
-  pub is : IsTreePart p bytes part
+  pub is : IsTreePart p root bytes part
   pub before : List Node
   pub node : Node
   pub more : List Node
@@ -70,16 +71,16 @@ abbrev pub AreSmall : List Part → Type 0
 AreSmall parts = (n : ℕ) → IsSmall (sum_of (take n parts))
 
 -- The file spells a part that is right and claims no target that one of the parts claims, and its bound and theirs add up to 2^64 or more.
-pub record IsTooLarge (p : Problem) (parts : List Part) (bytes : List ℕ) : Type 0 where
+pub record IsTooLarge (p : Problem) (root : List Fact) (parts : List Part) (bytes : List ℕ) : Type 0 where
   pub part : Part
-  pub is : IsPart p bytes part
+  pub is : IsPartOn p root bytes part
   pub apart : list_all (λ k. are_apart (claims_of k) (claims_of part)) parts ≡ true
   pub large : IsLarge (sum_of (parts ++ part ∷ []))
 
 -- The text is a tree proof, and has this fault.
-pub record IsTreeFault (p : Problem) (bytes : List ℕ) (f : CheckFault) : Type 0 where
+pub record IsTreeFault (p : Problem) (root : List Fact) (bytes : List ℕ) (f : CheckFault) : Type 0 where
   pub kind : kind_of bytes ≡ kind.Tree
-  pub fault : IsProofFault p (stream_of bytes) f
+  pub fault : IsProofFault p root (stream_of bytes) f
 
 -- The text is a file of groups, and has this fault.
 pub record IsGroupsFault (p : Problem) (parts : List Part) (bytes : List ℕ) (f : GroupsFault) : Type 0 where
@@ -105,34 +106,40 @@ pub record IsTargetClaimedElsewhere (p : Problem) (parts : List Part) (bytes : L
   pub first : FirstClaimed parts [] (prices_targets part) (λ y. IsCalled y name × IsClaimedBy parts e y)
 
 -- The meaning of a fault of another file.
-abbrev pub ExplainsAdded : Problem → List Part → List ℕ → FileFault → Type 0
-ExplainsAdded p parts bytes (Proof f) = IsTreeFault p bytes f
-ExplainsAdded p parts bytes (Groups f) = IsGroupsFault p parts bytes f
-ExplainsAdded p parts bytes (Prices f) = IsPricesFault p bytes f
-ExplainsAdded p parts bytes (ClaimedElsewhere i e) = IsClaimedElsewhere p parts bytes i e
-ExplainsAdded p parts bytes (TargetClaimedElsewhere name e) = IsTargetClaimedElsewhere p parts bytes name e
-ExplainsAdded p parts bytes TooLarge = IsTooLarge p parts bytes
+abbrev pub ExplainsAddedOn : Problem → List Fact → List Part → List ℕ → FileFault → Type 0
+ExplainsAddedOn p root parts bytes (Proof f) = IsTreeFault p root bytes f
+ExplainsAddedOn p root parts bytes (Groups f) = IsGroupsFault p parts bytes f
+ExplainsAddedOn p root parts bytes (Prices f) = IsPricesFault p bytes f
+ExplainsAddedOn p root parts bytes (ClaimedElsewhere i e) = IsClaimedElsewhere p root parts bytes i e
+ExplainsAddedOn p root parts bytes (TargetClaimedElsewhere name e) = IsTargetClaimedElsewhere p parts bytes name e
+ExplainsAddedOn p root parts bytes TooLarge = IsTooLarge p root parts bytes
 
 -- ---- a list of files
 
--- The files before the one with this number, counted from 1, can be added, and P holds of their parts and of the file's bytes.
-pub record IsReached (p : Problem) (files : List (List ℕ)) (number : ℕ) (P : List Part → List ℕ → Type 0) : Type 0 where
+-- With these facts at the root of each tree, the files before the one with this number, counted from 1, can be added, and P holds of their parts
+-- and of the file's bytes.
+pub record IsReachedOn (p : Problem) (root : List Fact) (files : List (List ℕ)) (number : ℕ) (P : List Part → List ℕ → Type 0) : Type 0 where
   pub before : List (List ℕ)
   pub bytes : List ℕ
   pub more : List (List ℕ)
   pub split : files ≡ before ++ bytes ∷ more
   pub parts : List Part
-  pub each : AllZip (IsPart p) before parts
+  pub each : AllZip (IsPartOn p root) before parts
   pub apart : AreApart parts
   pub small : AreSmall parts
   pub numbered : number ≡ length parts + 1
   pub is : P parts bytes
 
+-- With these facts at the root of each tree, the fault is that of the first file that can't be added to those before it; if a read failed, the
+-- files before it can be added.
+abbrev pub IsSumStopOn : Problem → List Fact → List (List ℕ) → ℕ → Stop FileFault → Type 0
+IsSumStopOn p root files n (Fault f) = IsReachedOn p root files n (λ parts bytes. ExplainsAddedOn p root parts bytes f)
+IsSumStopOn p root files n ReadFailed = IsReachedOn p root files n (λ parts bytes. ⊤)
+IsSumStopOn p root files n OutOfMemory = ⊤
+
 -- The fault is that of the first file that can't be added to those before it; if a read failed, the files before it can be added.
 abbrev pub IsSumStop : Problem → List (List ℕ) → ℕ → Stop FileFault → Type 0
-IsSumStop p files n (Fault f) = IsReached p files n (λ parts bytes. ExplainsAdded p parts bytes f)
-IsSumStop p files n ReadFailed = IsReached p files n (λ parts bytes. ⊤)
-IsSumStop p files n OutOfMemory = ⊤
+IsSumStop p files n stop = IsSumStopOn p [] files n stop
 
 -- ---- memory, and reads that failed
 

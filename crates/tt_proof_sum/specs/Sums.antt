@@ -17,7 +17,7 @@ use Rattle.tt_leaf.specs.declared.leaf.Leaf.{Leaf}
 use Rattle.tt_leaf.specs.declared.leaf.Leaf.TheVariants.{Cost}
 use Rattle.tt_proof_read.specs.Spelling.{SpellsProof}
 use Rattle.tt_proof_read.specs.Trees.{Tree, Tip, Fork}
-use Rattle.tt_proof_check.specs.Derives.{Derives}
+use Rattle.tt_proof_check.specs.Derives.{Derives, IsShallowOn}
 use Rattle.tt_groups.specs.Group.{Group, IsGroupBound}
 use Rattle.tt_groups_read.specs.Spelling.{IsClaim, SpellsGroups}
 use Rattle.tt_groups_read.specs.declared.claim.GroupClaim.{GroupClaim}
@@ -137,10 +137,11 @@ pub data Part : Type 0 where
   GroupsFile : GroupsPart → Part
   PricesFile : PricesPart → Part
 
--- The bytes spell a tree that derives its bound.
-pub record IsTreePart (p : Problem) (bytes : List ℕ) (k : TreePart) : Type 0 where
+-- The bytes spell a tree that, with these facts at its root, is not too deep and derives its bound.
+pub record IsTreePart (p : Problem) (root : List Fact) (bytes : List ℕ) (k : TreePart) : Type 0 where
   pub spelled : SpellsProof p bytes k.version k.bound k.tree
-  pub derives : Derives p k.bound [] k.tree
+  pub shallow : IsShallowOn root k.tree
+  pub derives : Derives p k.bound root k.tree
 
 -- The bytes, which are a file of groups, spell claims that are right.
 pub record IsGroupsPart (p : Problem) (bytes : List ℕ) (k : GroupsPart) : Type 0 where
@@ -161,11 +162,11 @@ pub record IsPricesPart (p : Problem) (bytes : List ℕ) (k : PricesPart) : Type
   pub spelled : SpellsFile (sizes_of p) bytes k.header k.parts
   pub right : ArePricesRight p k
 
--- The bytes spell the part, and it is right.
-abbrev pub IsPart : Problem → List ℕ → Part → Type 0
-IsPart p bytes (TreeProof k) = IsTreePart p bytes k
-IsPart p bytes (GroupsFile k) = IsGroupsPart p bytes k
-IsPart p bytes (PricesFile k) = IsPricesPart p bytes k
+-- The bytes spell the part, and it is right if trees have these facts at their root.
+abbrev pub IsPartOn : Problem → List Fact → List ℕ → Part → Type 0
+IsPartOn p root bytes (TreeProof k) = IsTreePart p root bytes k
+IsPartOn p root bytes (GroupsFile k) = IsGroupsPart p bytes k
+IsPartOn p root bytes (PricesFile k) = IsPricesPart p bytes k
 
 -- The part is right on a path: a tree that derives its bound there, or claims or prices that are right on each path.
 abbrev pub ShowsOn : Problem → List Fact → Part → Type 0
@@ -199,10 +200,15 @@ abbrev pub sum_of : List Part → Bound
 sum_of [] = AtLeast 0
 sum_of (k ∷ ks) = both_bounds (bound_of k) (sum_of ks)
 
--- Each of the files spells a tree that derives its bound, or groups that are right, with prices or without; no target is claimed by two of
--- them, and s is the sum of the bounds.
-pub record IsSum (p : Problem) (files : List (List ℕ)) (s : Bound) : Type 0 where
+-- Each of the files spells a tree that derives its bound with these facts at its root, or groups that are right, with prices or without; no
+-- target is claimed by two of them, and s is the sum of the bounds.
+pub record IsSumOn (p : Problem) (root : List Fact) (files : List (List ℕ)) (s : Bound) : Type 0 where
   pub parts : List Part
-  pub each : AllZip (IsPart p) files parts
+  pub each : AllZip (IsPartOn p root) files parts
   pub apart : AreApart parts
   pub total : sum_of parts ≡ s
+
+-- Each of the files spells a tree that derives its bound, or groups that are right, with prices or without; no target is claimed by two of
+-- them, and s is the sum of the bounds.
+abbrev pub IsSum : Problem → List (List ℕ) → Bound → Type 0
+IsSum p files s = IsSumOn p [] files s

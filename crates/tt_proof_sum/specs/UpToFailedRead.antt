@@ -2,6 +2,7 @@
 use Rattle.std.specs.Prelude.{◌≡◌, ℕ, List, [], Option, Err, ◌⊎◌}
 use Rattle.tt_text.specs.Feeds.{Stream}
 use Rattle.tt_instance.specs.Problem.{Problem}
+use Rattle.tt_path.specs.declared.facts.Fact.{Fact}
 use Rattle.tt_proof_check.specs.FailedReads.{HoldsOfGiven, IsCheckedUpToFailedRead}
 use Rattle.tt_proof_check.specs.Streams.{sizes_of}
 use Rattle.tt_proof_read.specs.Faults.{read_failed}
@@ -16,8 +17,13 @@ use Rattle.tt_proof_sum.specs.GroupsFaults.{AfterClaims}
 abbrev pub AreGroupsCutOff : Problem → Stream → Type 0
 AreGroupsCutOff p s = (header_at s ≡ Err (Text read_failed)) ⊎ AfterClaims p [] s (λ b claims rest. group_at (sizes_of p) rest ≡ Err read_failed)
 
+-- Everything in the bytes that the source gave has been read and checked, as a tree proof with these facts at its root, as a file of groups or as
+-- one of groups with prices.
+abbrev pub IsFileCheckedUpToFailedReadOn : Problem → List Fact → List ℕ → Option (List ℕ) → Type 0
+IsFileCheckedUpToFailedReadOn p root bytes left =
+    IsCheckedUpToFailedRead p root bytes left ⊎ (((kind_of bytes ≡ kind.Groups) × HoldsOfGiven bytes left (AreGroupsCutOff p))
+    ⊎ ((kind_of bytes ≡ kind.Prices) × HoldsOfGiven bytes left (ArePricesCutOff p)))
+
 -- Everything in the bytes that the source gave has been read and checked, as a tree proof, as a file of groups or as one of groups with prices.
 abbrev pub IsFileCheckedUpToFailedRead : Problem → List ℕ → Option (List ℕ) → Type 0
-IsFileCheckedUpToFailedRead p bytes left =
-    IsCheckedUpToFailedRead p bytes left ⊎ (((kind_of bytes ≡ kind.Groups) × HoldsOfGiven bytes left (AreGroupsCutOff p))
-    ⊎ ((kind_of bytes ≡ kind.Prices) × HoldsOfGiven bytes left (ArePricesCutOff p)))
+IsFileCheckedUpToFailedRead p bytes left = IsFileCheckedUpToFailedReadOn p [] bytes left

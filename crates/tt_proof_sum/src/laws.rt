@@ -13,7 +13,7 @@ ghost use Rattle.tt_proof_check.specs.Derives.{Derives, HoldsOn, HoldsOfAll};
 ghost use Rattle.tt_groups.specs.Group.{IsGroupBound};
 ghost use Rattle.tt_groups_read.specs.Spelling.{IsClaim};
 ghost use Rattle.tt_groups_read.specs.declared.claim.GroupClaim.{GroupClaim};
-ghost use Rattle.tt_proof_sum.specs.Sums.{claimed_by, are_among, every_target, HoldsOver, IsWithinCost, group_targets, Part, ShowsOn, AreApart, sum_of, IsSum};
+ghost use Rattle.tt_proof_sum.specs.Sums.{claimed_by, are_among, every_target, HoldsOver, IsWithinCost, group_targets, Part, ShowsOn, AreApart, sum_of, IsSum, IsSumOn};
 
 /// A bound that a tree derives on a path holds for the part of the cost that belongs to the targets, if these include those that its leaves claim.
 pub fn bounds_hold_over()
@@ -39,7 +39,8 @@ pub fn apart_bounds_add()
         All (ShowsOn p path) parts → AreApart parts → HoldsOn p (sum_of parts) path }
 {}
 
-/// The sum of files holds for every feasible timetable.
+/// The sum of files holds for every feasible timetable; with facts at the root of each tree, for those that fit the facts.
 pub fn sums_hold()
-    ensures { (p : Problem) (files : List (List ℕ)) (s : Bound) → IsSum p files s → HoldsOfAll p s }
+    ensures holds { (p : Problem) (files : List (List ℕ)) (s : Bound) → IsSum p files s → HoldsOfAll p s }
+    ensures holds_on { (p : Problem) (root : List Fact) (files : List (List ℕ)) (s : Bound) → IsSumOn p root files s → HoldsOn p s root }
 {}

@@ -18,6 +18,6 @@ pub use groups_fault::GroupsFault;
 pub use laws::{
     apart_bounds_add, bounds_hold_over, bounds_hold_over_all, group_bounds_hold_over, sums_hold,
 };
-pub use several::sum_proofs;
+pub use several::{sum_proofs, sum_proofs_on};
 pub use summed::Sum;
 pub use table::{Clash, Table};

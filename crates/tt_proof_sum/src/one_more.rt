@@ -6,10 +6,10 @@ ghost use Rattle.tt_text_peek.specs.declared.kind.FileKind.TheVariants as kind;
 ghost use Rattle.tt_stop.specs.Stops.{IfFault, is_read_failed};
 ghost use Rattle.tt_proof_check.specs.FailedReads.{IsCheckedUpToFailedRead};
 ghost use Rattle.tt_proof_sum.specs.Added.{Joins};
-ghost use Rattle.tt_proof_sum.specs.Faults.{ExplainsAdded, HoldsNoStop};
+ghost use Rattle.tt_proof_sum.specs.Faults.{ExplainsAddedOn, HoldsNoStop};
 ghost use Rattle.tt_proof_sum.specs.Sums.{Part};
 ghost use Rattle.tt_proof_sum.specs.Tables.{State, IsTableOf, begun};
-ghost use Rattle.tt_proof_sum.specs.UpToFailedRead.{IsFileCheckedUpToFailedRead};
+ghost use Rattle.tt_proof_sum.specs.UpToFailedRead.{IsFileCheckedUpToFailedReadOn};
 
 use crate::fault::{FileFault, stop_from_check};
 use crate::groups::take_groups;
@@ -18,32 +18,35 @@ use crate::table::Table;
 use std::alloc::Global;
 use tt_instance::Instance;
 use tt_leaf::Bound;
-use tt_proof_check::check_proof_with;
+use tt_path::Fact;
+use tt_proof_check::check_proof_on;
 use tt_stop::Stop;
 use tt_text::Source;
 use tt_text_peek::{FileKind, Peek, PeekFault};
 
-/// Checks a tree proof, as the file that has begun, and returns its bound if it claims no target that an earlier file claims.
+/// Checks a tree proof, as the file that has begun, and returns its bound if it claims no target that an earlier file claims. The facts are at
+/// the root of its tree.
 fn take_proof<R: Source>(
     alloc: Global,
     instance: &Instance<'_>,
+    root: &[Fact],
     table: &mut Table,
     source: &mut R,
 ) -> Result<Bound, Stop<FileFault>>
     requires { 0 < table.old.proof }
     ensures joins { IfOk result (λ b. (before : State) (parts : List Part) → IsTableOf before parts → table.old ≡ begun before →
-        Joins instance.now (R.remaining source.old) parts table.new b) }
+        Joins instance.now root.now (R.remaining source.old) parts table.new b) }
     ensures proof { OnOk result (table.new.proof ≡ table.old.proof) }
     ensures fault { IfFault result (λ f. (before : State) (parts : List Part) (bytes : List ℕ) → IsTableOf before parts → table.old ≡ begun before →
-        R.remaining source.old ≡ Some bytes → kind_of bytes ≡ kind.Tree → ExplainsAdded instance.now parts bytes f) }
+        R.remaining source.old ≡ Some bytes → kind_of bytes ≡ kind.Tree → ExplainsAddedOn instance.now root.now parts bytes f) }
     ensures lower { IfFault result HoldsNoStop }
     ensures failed { R.has_failed source.new ≡ (if is_read_failed result then true else R.has_failed source.old) }
     ensures up_to_failed_read { result ≡ Err Stop.ReadFailed → (bytes : List ℕ) → R.remaining source.old ≡ Some bytes →
-        IsCheckedUpToFailedRead instance.now bytes (R.remaining source.new) }
+        IsCheckedUpToFailedRead instance.now root.now bytes (R.remaining source.new) }
 {
     // Brings the instance's limits into the proof.
     prove!(instance.days() > 0);
-    let bound = match check_proof_with(alloc, instance, table, source) {
+    let bound = match check_proof_on(alloc, instance, root, table, source) {
         Ok(bound) => bound,
         Err(stop) => return Err(stop_from_check(stop)),
     };
@@ -56,26 +59,28 @@ fn take_proof<R: Source>(
     Ok(bound)
 }
 
-/// Checks another file, and returns its bound if it claims no target that an earlier file claims.
+/// Checks another file, and returns its bound if it claims no target that an earlier file claims. The facts are at the root of a tree.
 pub fn take_file<R: Peek>(
     alloc: Global,
     instance: &Instance<'_>,
+    root: &[Fact],
     table: &mut Table,
     source: &mut R,
 ) -> Result<Bound, Stop<FileFault>>
     requires room { table.old.proof < u64.MAX }
-    ensures joins { IfOk result (λ b. (parts : List Part) → IsTableOf table.old parts → Joins instance.now (R.remaining source.old) parts table.new b) }
+    ensures joins { IfOk result (λ b. (parts : List Part) → IsTableOf table.old parts →
+        Joins instance.now root.now (R.remaining source.old) parts table.new b) }
     ensures next { OnOk result (table.new.proof ≡ table.old.proof + 1) }
     ensures fault { IfFault result (λ f. (parts : List Part) (bytes : List ℕ) → IsTableOf table.old parts → R.remaining source.old ≡ Some bytes →
-        ExplainsAdded instance.now parts bytes f) }
+        ExplainsAddedOn instance.now root.now parts bytes f) }
     ensures lower { IfFault result HoldsNoStop }
     ensures failed { R.has_failed source.new ≡ (if is_read_failed result then true else R.has_failed source.old) }
     ensures up_to_failed_read { result ≡ Err Stop.ReadFailed → (bytes : List ℕ) → R.remaining source.old ≡ Some bytes →
-        IsFileCheckedUpToFailedRead instance.now bytes (R.remaining source.new) }
+        IsFileCheckedUpToFailedReadOn instance.now root.now bytes (R.remaining source.new) }
 {
     table.begin();
     match source.peek_kind() {
-        Ok(FileKind::Tree) => take_proof(alloc, instance, table, source),
+        Ok(FileKind::Tree) => take_proof(alloc, instance, root, table, source),
         Ok(FileKind::Groups) => take_groups(alloc, instance, table, source),
         Ok(FileKind::Prices) => take_prices(alloc, instance, table, source),
         Err(PeekFault::Read) => Err(Stop::ReadFailed),

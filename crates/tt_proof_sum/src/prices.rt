@@ -9,7 +9,8 @@ ghost use Rattle.tt_proof_check.specs.FailedReads.{HoldsOfGiven};
 ghost use Rattle.tt_prices_file.specs.UpToFailedRead.{ArePricesCutOff};
 ghost use Rattle.tt_proof_sum.specs.Added.{Joins, IsOfKind};
 ghost use Rattle.tt_stop.specs.Stops.{IfFault, is_read_failed};
-ghost use Rattle.tt_proof_sum.specs.Faults.{ExplainsAdded, HoldsNoStop};
+ghost use Rattle.tt_path.specs.declared.facts.Fact.{Fact};
+ghost use Rattle.tt_proof_sum.specs.Faults.{ExplainsAddedOn, HoldsNoStop};
 ghost use Rattle.tt_proof_sum.specs.Sums.{Part};
 ghost use Rattle.tt_proof_sum.specs.Tables.{State, IsTableOf, begun};
 
@@ -31,11 +32,13 @@ pub fn take_prices<R: Source>(
     source: &mut R,
 ) -> Result<Bound, Stop<FileFault>>
     requires { 0 < table.old.proof }
-    ensures joins { IfOk result (λ b. (before : State) (parts : List Part) (known : Option (List ℕ)) → IsTableOf before parts → table.old ≡ begun before →
-        Keeps known (R.remaining source.old) → IsOfKind kind.Prices known → Joins instance.now known parts table.new b) }
+    ensures joins { IfOk result (λ b. (root : List Fact) (before : State) (parts : List Part) (known : Option (List ℕ)) → IsTableOf before parts →
+        table.old ≡ begun before → Keeps known (R.remaining source.old) → IsOfKind kind.Prices known →
+        Joins instance.now root known parts table.new b) }
     ensures proof { OnOk result (table.new.proof ≡ table.old.proof) }
-    ensures fault { IfFault result (λ f. (before : State) (parts : List Part) (bytes : List ℕ) → IsTableOf before parts → table.old ≡ begun before →
-        R.remaining source.old ≡ Some bytes → kind_of bytes ≡ kind.Prices → ExplainsAdded instance.now parts bytes f) }
+    ensures fault { IfFault result (λ f. (root : List Fact) (before : State) (parts : List Part) (bytes : List ℕ) → IsTableOf before parts →
+        table.old ≡ begun before → R.remaining source.old ≡ Some bytes → kind_of bytes ≡ kind.Prices →
+        ExplainsAddedOn instance.now root parts bytes f) }
     ensures lower { IfFault result HoldsNoStop }
     ensures failed { R.has_failed source.new ≡ (if is_read_failed result then true else R.has_failed source.old) }
     ensures up_to_failed_read { result ≡ Err Stop.ReadFailed → (bytes : List ℕ) → R.remaining source.old ≡ Some bytes →

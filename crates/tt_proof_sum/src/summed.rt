@@ -3,9 +3,9 @@
 ghost use Rattle.std.specs.Prelude.{◌≡◌, ◌+◌, ◌<◌, ◌≤◌, ◌^◌, ℕ, List, [], ◌++◌, ◌∷◌, Some, Err, true, if◌then◌else◌, IfOk, MatchOption};
 ghost use Rattle.tt_proof_sum.specs.Added.{IsSumOf, Adds, due};
 ghost use Rattle.tt_stop.specs.Stops.{IfFault, is_read_failed};
-ghost use Rattle.tt_proof_sum.specs.Faults.{ExplainsAdded, HoldsNoStop, IsLarge, IsSmall, IsUnfinished, all_points};
-ghost use Rattle.tt_proof_sum.specs.Sums.{Part, IsPart, AreApart, both_bounds, sum_of};
-ghost use Rattle.tt_proof_sum.specs.UpToFailedRead.{IsFileCheckedUpToFailedRead};
+ghost use Rattle.tt_proof_sum.specs.Faults.{ExplainsAddedOn, HoldsNoStop, IsLarge, IsSmall, IsUnfinished, all_points};
+ghost use Rattle.tt_proof_sum.specs.Sums.{Part, IsPartOn, AreApart, both_bounds, sum_of};
+ghost use Rattle.tt_proof_sum.specs.UpToFailedRead.{IsFileCheckedUpToFailedReadOn};
 
 use crate::fault::FileFault;
 use crate::one_more::take_file;
@@ -13,6 +13,7 @@ use crate::table::Table;
 use std::alloc::{AllocError, Global};
 use tt_instance::Instance;
 use tt_leaf::Bound;
+use tt_path::Fact;
 use tt_stop::Stop;
 use tt_text_peek::Peek;
 
@@ -59,34 +60,35 @@ impl Sum {
         self.table.proof() + 1
     }
 
-    /// Checks another file, and adds its bound if it claims no target that an earlier file claims.
+    /// Checks another file, and adds its bound if it claims no target that an earlier file claims. The facts are at the root of a tree.
     pub fn add<R: Peek>(
         mut self,
         alloc: Global,
         instance: &Instance<'_>,
+        root: &[Fact],
         source: &mut R,
     ) -> Result<Sum, Stop<FileFault>>
         requires room { due self < 2 ^ 64 }
         // The source's bytes spell a part that is right and apart from the others, and its bound is added.
-        ensures added { IfOk result (λ s. (parts : List Part) → IsSumOf self parts → Adds instance.now (R.remaining source.old) parts s) }
+        ensures added { IfOk result (λ s. (parts : List Part) → IsSumOf self parts → Adds instance.now root.now (R.remaining source.old) parts s) }
         ensures next { IfOk result (λ s. due s ≡ due self + 1) }
         // If the bytes spell such a part, it is added if the sum stays below 2^64, unless memory runs out, a read fails or a group's claim is left open.
         ensures only { (parts : List Part) (bytes : List ℕ) (part : Part) → IsSumOf self parts → R.remaining source.old ≡ Some bytes →
-            IsPart instance.now bytes part → AreApart (parts ++ part ∷ []) → all_points (parts ++ part ∷ []) < 2 ^ 64 → IfFault result IsUnfinished }
+            IsPartOn instance.now root.now bytes part → AreApart (parts ++ part ∷ []) → all_points (parts ++ part ∷ []) < 2 ^ 64 → IfFault result IsUnfinished }
         // The first fault is reported.
         ensures fault { IfFault result (λ f. (parts : List Part) (bytes : List ℕ) → IsSumOf self parts → R.remaining source.old ≡ Some bytes →
-            ExplainsAdded instance.now parts bytes f) }
+            ExplainsAddedOn instance.now root.now parts bytes f) }
         // A fault holds none of memory or of a failed read.
         ensures lower { IfFault result HoldsNoStop }
         // A failed read is reported exactly if a read failed.
         ensures failed { R.has_failed source.new ≡ (if is_read_failed result then true else R.has_failed source.old) }
         // If a read failed, everything in the bytes before it has been checked.
         ensures up_to_failed_read { result ≡ Err Stop.ReadFailed → (bytes : List ℕ) → R.remaining source.old ≡ Some bytes →
-            IsFileCheckedUpToFailedRead instance.now bytes (R.remaining source.new) }
+            IsFileCheckedUpToFailedReadOn instance.now root.now bytes (R.remaining source.new) }
     {
         // Brings the instance's limits into the proof.
         prove!(instance.days() > 0);
-        let bound = take_file(alloc, instance, &mut self.table, source)?;
+        let bound = take_file(alloc, instance, root, &mut self.table, source)?;
         match both(self.total, bound) {
             Some(total) => {
                 self.total = total;

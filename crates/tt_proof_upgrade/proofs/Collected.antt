@@ -13,14 +13,14 @@ use Rattle.tt_proof_read.specs.declared.node.Node.{Node}
 use Rattle.tt_proof_read.specs.declared.node.Node.TheVariants.{Leaf}
 use Rattle.tt_proof_read.specs.declared.sizes.Sizes.{Sizes}
 use Rattle.tt_proof_check.proofs.Counting.{next_places}
-use Rattle.tt_proof_check.proofs.Reading.{Stack, root, next_stack, stack_after, stack_after-push, closing, some_tree, stack_whole}
+use Rattle.tt_proof_check.proofs.Reading.{Stack, place, next_stack, stack_after, stack_after-push, closing, some_tree, stack_whole}
 use Rattle.tt_proof_check.proofs.Streaming.{reads_push}
 use Rattle.tt_proof_upgrade.specs.Texts.{IsCollected, NodeTextFails}
 
 -- The nodes stored so far, in this state of the reader, with this stream after them.
 pub record Collected (sizes : Sizes) (v : ℕ) (known : Bool) (s : Stream) (reader : Reader) (t : Stream) (nodes : List Node) : Type 0 where
   pub stack : Stack
-  pub after : stack_after root nodes ≡ Some stack
+  pub after : stack_after (place []) nodes ≡ Some stack
   pub places : length stack ≡ reader.places
   pub reads : known ≡ true → ReadsNodes sizes v 0 s nodes t
   pub count : length nodes ≡ reader.count
@@ -32,7 +32,7 @@ pub record Collected (sizes : Sizes) (v : ℕ) (known : Bool) (s : Stream) (read
 pub collected_start : (known : Bool) (s : Stream) (reader : Reader) → reader.count ≡ 0 → reader.places ≡ 1 → reader.fault ≡ None
     → Collected reader.sizes reader.version known s reader s []
 collected_start known s reader count places sound = record {
-  stack = root;
+  stack = place [];
   after = refl;
   places = sym places;
   reads = λ k. refl;
@@ -58,12 +58,12 @@ module _ (sizes : Sizes) (v : ℕ) (known : Bool) (s : Stream) (old : Reader) (t
       (nodes ++ n ∷ [])
   collected_next new u n goes says is = on m.stack m.after m.places
     where
-      on : (stack : Stack) → stack_after root nodes ≡ Some stack → length stack ≡ old.places → Collected sizes v known s new u
+      on : (stack : Stack) → stack_after (place []) nodes ≡ Some stack → length stack ≡ old.places → Collected sizes v known s new u
           (nodes ++ n ∷ [])
       on [] after places = absurd (omega (arith, goes.0, places))
       on (path ∷ others) after places = record {
         stack = next_stack path others n;
-        after = stack_after-push path others nodes n after;
+        after = stack_after-push [] path others nodes n after;
         places = next_places path others n old.places places ∙ ap (λ (r : Reader). r.places) (sym goes.1);
         reads = λ k. reads_push sizes v 0 s t u nodes n (m.reads k) (node_is n u (says k));
         count = length-append nodes (n ∷ []) ∙ ap (λ (k : ℕ). k + 1) m.count ∙ ap (λ (r : Reader). r.count) (sym goes.1);
@@ -76,11 +76,11 @@ module _ (sizes : Sizes) (v : ℕ) (known : Bool) (s : Stream) (old : Reader) (t
 
   pub collected_end : (u : Stream) → old.places ≡ 0 → (known ≡ true → u ≡ t) → IsCollected sizes v known s u nodes
   collected_end u none says = record {
-    tree = stack_whole nodes (on m.stack m.after m.places);
+    tree = stack_whole [] nodes (on m.stack m.after m.places);
     reads = λ k. subst (λ (x : Stream). ReadsNodes sizes v 0 s nodes x) (sym (says k)) (m.reads k);
   }
     where
-      on : (stack : Stack) → stack_after root nodes ≡ Some stack → length stack ≡ old.places → stack_after root nodes ≡ Some []
+      on : (stack : Stack) → stack_after (place []) nodes ≡ Some stack → length stack ≡ old.places → stack_after (place []) nodes ≡ Some []
       on [] after places = after
       on (path ∷ others) after places = absurd (omega (arith, none, places))
 
@@ -88,10 +88,10 @@ module _ (sizes : Sizes) (v : ℕ) (known : Bool) (s : Stream) (old : Reader) (t
   goes_on : 0 < old.places → (tree : Tree) × (more : List Node) × (preorder tree ≡ nodes ++ Leaf (Many 0) ∷ more)
   goes_on some = on m.stack m.after m.places
     where
-      on : (stack : Stack) → stack_after root nodes ≡ Some stack → length stack ≡ old.places → (tree : Tree) × (more : List Node)
+      on : (stack : Stack) → stack_after (place []) nodes ≡ Some stack → length stack ≡ old.places → (tree : Tree) × (more : List Node)
           × (preorder tree ≡ nodes ++ Leaf (Many 0) ∷ more)
       on [] after places = absurd (omega (arith, some, places))
-      on (path ∷ others) after places = let h = some_tree nodes (path ∷ others) after in (h.0, closing others, h.1)
+      on (path ∷ others) after places = let h = some_tree [] nodes (path ∷ others) after in (h.0, closing others, h.1)
 
   here : (P : Result (Node × Stream) TextFault → Type 0) → P (node_at old.sizes old.version old.count t)
       → P (node_at sizes v (length nodes) t)

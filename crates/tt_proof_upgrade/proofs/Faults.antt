@@ -19,7 +19,7 @@ use Rattle.tt_proof_check.specs.Faults as checks
 use Rattle.tt_proof_check.specs.declared.fault.CheckFault.TheVariants as check
 use Rattle.tt_proof_check.specs.declared.fault.NodesFault.{NodesFault}
 use Rattle.tt_proof_check.specs.declared.fault.NodesFault.TheVariants.{NotATree, Rule, TooDeep}
-use Rattle.tt_proof_check.proofs.Reading.{root, length-places_of, whole_places, whole_stack}
+use Rattle.tt_proof_check.proofs.Reading.{place, length-places_of, whole_places, whole_stack}
 use Rattle.tt_proof_check.proofs.TextFaults.{stop_cases}
 use Rattle.tt_proof_upgrade.specs.Faults.{stop_from_text, IsOfNode, IsFaultOfNode, IsNodesFault, IsWriteFault, HoldsNoStop}
 use Rattle.tt_proof_upgrade.specs.declared.fault.UpgradeFault.{UpgradeFault}
@@ -27,7 +27,7 @@ use Rattle.tt_proof_upgrade.specs.declared.fault.UpgradeFault.TheVariants as upg
 
 -- a tree has a path for each of its nodes
 paths_of : (tree : Tree) (nodes : List Node) → preorder tree ≡ nodes → length (on_paths [] tree) ≡ length nodes
-paths_of tree nodes e = ap length (sym (whole_places tree nodes e)) ∙ length-places_of root [] nodes (whole_stack tree nodes e)
+paths_of tree nodes e = ap length (sym (whole_places [] tree nodes e)) ∙ length-places_of (place []) [] nodes (whole_stack [] tree nodes e)
 
 place_small : (tree : Tree) (nodes : List Node) (i : ℕ) (x : OnPath) → preorder tree ≡ nodes → length nodes ≤ 16777216
     → slice_get (on_paths [] tree) i ≡ Some x → i < 4294967296
@@ -38,13 +38,13 @@ place_small tree nodes i x e at_most found =
 
 -- the number of the wrong node has 32 bits
 pub is_of_node : (p : Problem) (b : Bound) (nodes : List Node) → IsPreorder nodes → length nodes ≤ 16777216 → (e : NodesFault)
-    → Explains p b nodes e → IsOfNode e
+    → Explains p [] b nodes e → IsOfNode e
 is_of_node p b nodes tree at_most NotATree t = absurd (t tree)
 is_of_node p b nodes tree at_most (Rule i f) t = place_small t.0 nodes i _ t.1 at_most t.2.found
 is_of_node p b nodes tree at_most (TooDeep i) t = place_small t.0 nodes i _ t.1 at_most t.2.found
 
 pub fault_of_node : (p : Problem) (b : Bound) (nodes : List Node) (e : NodesFault) (u : UpgradeFault) → IsFaultOfNode e u
-    → Explains p b nodes e → IsNodesFault p b nodes u
+    → Explains p [] b nodes e → IsNodesFault p b nodes u
 fault_of_node p b nodes NotATree u is t = absurd is
 fault_of_node p b nodes (Rule i f) u is t = subst (IsNodesFault p b nodes) (sym is) t
 fault_of_node p b nodes (TooDeep i) u is t = subst (IsNodesFault p b nodes) (sym is) t

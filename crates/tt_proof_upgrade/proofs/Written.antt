@@ -89,7 +89,7 @@ module _ (p : Problem) (s : Stream) (v : ℕ) (b : Bound) (nodes : List Node) (r
   nodes_tell (Proof (check.TooDeep i)) t = record { version = v; bound = b; tree = t.0; reads = read_as t.0 t.1; is = t.2 }
   nodes_tell TooLarge t = absurd t
 
-  module _ (h : Proves p b nodes) where
+  module _ (h : Proves p [] b nodes) where
     -- a text that grows too large is reported
     pub write_tells : (f : UpgradeFault) → IsWriteFault b nodes f → IsUpgradeFault p s f
     write_tells (Proof f) t = absurd t
@@ -103,7 +103,7 @@ module _ (p : Problem) (s : Stream) (v : ℕ) (b : Bound) (nodes : List Node) (r
 
 -- a proof that was read, checked and written is written again
 pub upgraded : (p : Problem) (bytes out : List ℕ) (v : ℕ) (b : Bound) (nodes : List Node) → IsRead p (stream_of bytes) v b nodes
-    → Proves p b nodes → AreNodesOf p v nodes → Writes 2 b nodes out
+    → Proves p [] b nodes → AreNodesOf p v nodes → Writes 2 b nodes out
     → ((tree : Tree) → preorder tree ≡ nodes → All (IsNode p 2) nodes → SpellsProof p out 2 b tree) → IsUpgraded p bytes b out
 upgraded p bytes out v b nodes r h are w again = record {
   version = v;
@@ -116,7 +116,7 @@ upgraded p bytes out v b nodes r h are w again = record {
 
 -- -- a text that derives its bound is refused only if it grows too large
 
-module _ (p : Problem) (is : IsInstance p) (bytes : List ℕ) (b : Bound) (proved : IsProved p bytes b) where
+module _ (p : Problem) (is : IsInstance p) (bytes : List ℕ) (b : Bound) (proved : IsProved p [] bytes b) where
   abbrev tree : Tree
   tree = proved.1
 
@@ -141,12 +141,12 @@ module _ (p : Problem) (is : IsInstance p) (bytes : List ℕ) (b : Bound) (prove
       ])
   only_large (Proof (check.Rule i f)) h =
       let same = same_text (sizes_of p) (stream_of bytes) h.version proved.0 h.bound b h.tree tree h.reads reads in
-      let here = subst (λ (c : Bound). FailsAt p c h.tree i f) same.0 h.is in
-      absurd (never_fails p b tree h.tree i f (tree_passes p b tree proved.2.within.depth proved.3)
+      let here = subst (λ (c : Bound). FailsAt p [] c h.tree i f) same.0 h.is in
+      absurd (never_fails p [] b tree h.tree i f (tree_passes p [] b tree proved.4 proved.3)
       (ap (λ (t : Tree). slice_get (on_paths [] t) i) (sym same.1)) here)
   only_large (Proof (check.TooDeep i)) h =
       let same = same_text (sizes_of p) (stream_of bytes) h.version proved.0 h.bound b h.tree tree h.reads reads in
-      let here = subst (λ (c : Bound). IsDeepAt p c h.tree i) same.0 h.is in
-      absurd (never_deep p b tree h.tree i (tree_passes p b tree proved.2.within.depth proved.3)
+      let here = subst (λ (c : Bound). IsDeepAt p [] c h.tree i) same.0 h.is in
+      absurd (never_deep p [] b tree h.tree i (tree_passes p [] b tree proved.4 proved.3)
       (ap (λ (t : Tree). slice_get (on_paths [] t) i) (sym same.1)) here)
   only_large TooLarge h = refl

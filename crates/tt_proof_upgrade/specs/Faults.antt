@@ -1,5 +1,5 @@
 -- What becomes of the faults below.
-use Rattle.std.specs.Prelude.{◌≡◌, ◌<◌, ◌^◌, List, ⊤}
+use Rattle.std.specs.Prelude.{◌≡◌, ◌<◌, ◌^◌, List, [], ⊤}
 use Rattle.tt_stop.specs.Stops.{mapped}
 use Rattle.tt_stop.specs.declared.stop.Stop.{Stop}
 use Rattle.tt_instance.specs.Problem.{Problem}
@@ -39,8 +39,8 @@ IsWriteFault b nodes TooLarge = ¬ (FitsFile 2 b nodes)
 
 -- The first node that doesn't pass is reported.
 abbrev pub IsNodesFault : Problem → Bound → List Node → UpgradeFault → Type 0
-IsNodesFault p b nodes (Proof (check.Rule i f)) = (tree : Tree) × (preorder tree ≡ nodes) × FailsAt p b tree i f
-IsNodesFault p b nodes (Proof (check.TooDeep i)) = (tree : Tree) × (preorder tree ≡ nodes) × IsDeepAt p b tree i
+IsNodesFault p b nodes (Proof (check.Rule i f)) = (tree : Tree) × (preorder tree ≡ nodes) × FailsAt p [] b tree i f
+IsNodesFault p b nodes (Proof (check.TooDeep i)) = (tree : Tree) × (preorder tree ≡ nodes) × IsDeepAt p [] b tree i
 IsNodesFault p b nodes _ = ⊥
 
 -- The fault holds no fault of memory or of a failed read: these would have stopped the upgrade.

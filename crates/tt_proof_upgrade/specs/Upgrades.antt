@@ -42,6 +42,6 @@ pub record IsTooLarge (p : Problem) (b : Bound) (tree : Tree) : Type 0 where
 -- A fault of the text is reported before one of a node; if a node has a fault, the text has none.
 abbrev pub IsUpgradeFault : Problem → Stream → UpgradeFault → Type 0
 IsUpgradeFault p s (Proof (check.Text f)) = IsTextFault p s f
-IsUpgradeFault p s (Proof (check.Rule i f)) = HasTree p s (λ b tree. FailsAt p b tree i f)
-IsUpgradeFault p s (Proof (check.TooDeep i)) = HasTree p s (λ b tree. IsDeepAt p b tree i)
+IsUpgradeFault p s (Proof (check.Rule i f)) = HasTree p s (λ b tree. FailsAt p [] b tree i f)
+IsUpgradeFault p s (Proof (check.TooDeep i)) = HasTree p s (λ b tree. IsDeepAt p [] b tree i)
 IsUpgradeFault p s TooLarge = HasTree p s (λ b tree. IsTooLarge p b tree)

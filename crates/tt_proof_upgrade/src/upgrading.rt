@@ -1,6 +1,6 @@
 //! Proofs that are written again.
 
-ghost use Rattle.std.specs.Prelude.{◌≡◌, ◌≤◌, List, ℕ, length, All, true, false, if◌then◌else◌, Some, Err, IfOk, OnOk, MatchResult};
+ghost use Rattle.std.specs.Prelude.{◌≡◌, ◌≤◌, List, [], ℕ, length, All, true, false, if◌then◌else◌, Some, Err, IfOk, OnOk, MatchResult};
 ghost use Rattle.tt_leaf.specs.declared.leaf.Bound.{Bound};
 ghost use Rattle.tt_proof_read.specs.declared.format.TheConstants.{MAX_PROOF_NODES};
 ghost use Rattle.tt_proof_check.specs.Derives.{HoldsOfAll, Proves};
@@ -43,7 +43,7 @@ fn check_tree(
     requires nodes { All (IsNodeOf instance.now) nodes.now }
     requires tree { IsPreorder nodes.now }
     requires at_most { length nodes.now ≤ MAX_PROOF_NODES }
-    ensures proves { OnOk result (Proves instance.now bound nodes.now) }
+    ensures proves { OnOk result (Proves instance.now [] bound nodes.now) }
     ensures fault { IfFault result (IsNodesFault instance.now bound nodes.now) }
     ensures unread { is_read_failed result ≡ false }
 {
@@ -62,7 +62,7 @@ fn write(
     bound: Bound,
     nodes: &[Node],
 ) -> Result<Vec<u8>, Stop<UpgradeFault>>
-    requires { Proves instance.now bound nodes.now }
+    requires { Proves instance.now [] bound nodes.now }
     ensures text { IfOk result (λ out. Writes 2 bound nodes.now out.items) }
     ensures again { (p : Problem) (tree : Tree) → preorder tree ≡ nodes.now → All (IsNode p 2) nodes.now → IfOk result (λ out. SpellsProof p out.items 2 bound tree) }
     ensures fault { IfFault result (IsWriteFault bound nodes.now) }
@@ -87,7 +87,7 @@ pub fn upgrade<R: Source>(
     // The bytes spell a tree that derives the bound, and the output spells the same tree.
     ensures found { IfOk result (λ u. (bytes : List ℕ) → R.remaining source.old ≡ Some bytes → IsUpgraded instance.now bytes u.bound u.bytes.items) }
     // If the bytes spell a tree that derives its bound, the proof is written, unless memory runs out, a read fails or the text grows too large.
-    ensures only { (bytes : List ℕ) (b : Bound) → R.remaining source.old ≡ Some bytes → IsProved instance.now bytes b →
+    ensures only { (bytes : List ℕ) (b : Bound) → R.remaining source.old ≡ Some bytes → IsProved instance.now [] bytes b →
         UnlessStopped result (λ r. MatchResult r (λ u. u.bound ≡ b) (λ f. f ≡ UpgradeFault.TooLarge)) }
     // This holds for any bytes that the source gives.
     ensures holds { IfOk result (λ u. HoldsOfAll instance.now u.bound) }

@@ -1,7 +1,6 @@
 -- A file of groups has one fault.
-use Rattle.std.proofs.Common.{◌≡◌, ℕ, ◌+◌, ◌-◌, ◌<◌, ◌≤◌, true, false, List, ◌∷◌, ◌++◌, length, Option, Some, None, Result, Ok, Err, refl, sym, ap, subst, ◌∙◌, arith, inl, inr}
-use Rattle.std.specs.Prelude.{◌⊎◌, All, Contains}
-use Rattle.std.specs.List.{list_all}
+use Rattle.std.proofs.Common.{◌≡◌, ℕ, ◌-◌, true, false, List, ◌∷◌, ◌++◌, length, Option, Some, None, Result, Ok, Err, refl, sym, ap, subst, ◌∙◌, arith, inl, inr}
+use Rattle.std.specs.Prelude.{◌⊎◌, Contains}
 use Rattle.std.proofs.lemmas.List.Elements.{All-contains, Contains-append_right}
 use Rattle.tt_list_laws.proofs.Tested.{all_at}
 use Rattle.tt_instance.specs.Problem.{Problem}
@@ -16,7 +15,7 @@ use Rattle.tt_groups_read.specs.declared.fault.GroupTextFault.{GroupTextFault}
 use Rattle.tt_groups_read.specs.declared.fault.GroupTextFault.TheVariants as text
 use Rattle.tt_proof_check.specs.Streams.{sizes_of}
 use Rattle.tt_proof_read.specs.declared.fault.TextFault.{TextFault}
-use Rattle.tt_proof_sum.specs.GroupsFaults.{Pass, AfterClaims, ExplainsGroups, IsLeftOpen, IsClaimedBy}
+use Rattle.tt_proof_sum.specs.GroupsFaults.{Pass, AfterClaims, ExplainsGroups, IsLeftOpen}
 use Rattle.tt_proof_sum.specs.Sums.{is_among, are_apart, group_targets, targets_of_claims, Part, claims_of, AreApart, AreClaimsApart}
 use Rattle.tt_proof_sum.specs.declared.groups_fault.GroupsFault.{GroupsFault}
 use Rattle.tt_proof_sum.specs.declared.groups_fault.GroupsFault.TheVariants as groups

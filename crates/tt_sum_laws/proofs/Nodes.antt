@@ -1,20 +1,20 @@
 -- Which node of a tree, or which target of groups with prices, is the first that an earlier file claims.
-use Rattle.std.proofs.Common.{◌≡◌, ℕ, ◌+◌, ◌≤◌, Bool, true, false, not, ◌&&◌, List, [], ◌∷◌, ◌++◌, length, Option, Some, None, refl, sym, ap, ◌∙◌, arith}
+use Rattle.std.proofs.Common.{◌≡◌, ℕ, ◌+◌, true, not, List, [], ◌∷◌, ◌++◌, length, Option, Some, None, refl, sym, ap, ◌∙◌, arith}
 use Rattle.std.specs.List.{list_all}
 use Rattle.std.specs.Option.{option_or}
 use Rattle.std.proofs.lemmas.Bool.{and_from, and_parts}
 use Rattle.tt_instance.specs.Problem.{Problem}
 use Rattle.tt_instance.specs.Limits.{IsInstance}
+use Rattle.tt_path.specs.declared.facts.Fact.{Fact}
 use Rattle.tt_leaf_rules.specs.Claims.{Target}
 use Rattle.tt_proof_check.proofs.Texts.{spelled_once}
 use Rattle.tt_proof_read.specs.Trees.{Tree, preorder}
 use Rattle.tt_proof_read.specs.declared.node.Node.{Node}
 use Rattle.tt_proof_sum.specs.Faults.{IsClaimedElsewhere, IsTargetClaimedElsewhere}
 use Rattle.tt_proof_sum.specs.GroupsFaults.{is_unclaimed}
-use Rattle.tt_proof_sum.specs.Sums.{is_among, are_apart, PricesPart, Part, PricesFile, claims_of, AreApart}
+use Rattle.tt_proof_sum.specs.Sums.{is_among, are_apart, Part, PricesFile, claims_of, AreApart}
 use Rattle.tt_proof_sum.specs.Tables.{claims_at}
 use Rattle.tt_proof_sum.specs.declared.claimed.ClaimedTarget.{ClaimedTarget}
-use Rattle.tt_proof_sum.specs.declared.fault.FileFault.{FileFault}
 use Rattle.tt_proof_sum.specs.declared.fault.FileFault.TheVariants.{ClaimedElsewhere, TargetClaimedElsewhere}
 use Rattle.tt_proof_sum.proofs.Owners.{both_all}
 use Rattle.tt_proof_sum.proofs.SpelledOnce.{same_part}
@@ -55,8 +55,8 @@ nodes_at parts n (x ∷ xs) node more w h is =
     ap (λ (v : Option (Target × Option ℕ)). option_or (at_number n v) (first_node (n + 1) parts (xs ++ node ∷ more))) none
     ∙ nodes_at parts (n + 1) xs node more w both.1 is ∙ ap (λ (i : ℕ). Some (i, w)) count
 
-module _ (p : Problem) (is : IsInstance p) (parts : List Part) (bytes : List ℕ) (apart : AreApart parts) where
-  node_of : (i e : ℕ) → (h : IsClaimedElsewhere p parts bytes i e)
+module _ (p : Problem) (root : List Fact) (is : IsInstance p) (parts : List Part) (bytes : List ℕ) (apart : AreApart parts) where
+  node_of : (i e : ℕ) → (h : IsClaimedElsewhere p root parts bytes i e)
       → first_node 0 parts (preorder h.part.tree) ≡ Some (i, (h.claimed.target, Some e))
   node_of i e h =
       let y = h.claimed.target in
@@ -66,7 +66,7 @@ module _ (p : Problem) (is : IsInstance p) (parts : List Part) (bytes : List ℕ
       ∙ ap (λ (n : ℕ). Some (n, (y, Some e))) count
 
   -- the first node that claims a target of an earlier file, and this file
-  pub one_node : (i e j d : ℕ) → IsClaimedElsewhere p parts bytes i e → IsClaimedElsewhere p parts bytes j d
+  pub one_node : (i e j d : ℕ) → IsClaimedElsewhere p root parts bytes i e → IsClaimedElsewhere p root parts bytes j d
       → ClaimedElsewhere i e ≡ ClaimedElsewhere j d
   one_node i e j d h k =
       let trees = (spelled_once p is bytes h.part.version k.part.version h.part.bound k.part.bound h.part.tree k.part.tree
@@ -83,7 +83,7 @@ module _ (p : Problem) (is : IsInstance p) (parts : List Part) (bytes : List ℕ
   one_target a b e d h k =
       let first = first_of parts [] _ _ h.first (Some e) (who-elsewhere parts [] e h.first.target apart refl h.first.is.1) in
       let second = first_of parts [] _ _ k.first (Some d) (who-elsewhere parts [] d k.first.target apart refl k.first.is.1) in
-      let files = same_part p is bytes (PricesFile h.part) (PricesFile k.part) h.is k.is in
+      let files = same_part p root is bytes (PricesFile h.part) (PricesFile k.part) h.is k.is in
       let same = sym first ∙ ap (λ (x : Part). first_at parts [] (claims_of x)) files ∙ second in
       let pair : (h.first.target, Some e) ≡ (k.first.target, Some d) = cc in
       let some : Some e ≡ Some d = ap (λ (w : Target × Option ℕ). w.1) pair in

@@ -3,13 +3,15 @@
 ghost use Rattle.std.specs.Prelude.{◌≡◌, ℕ, List};
 ghost use Rattle.tt_instance.specs.Problem.{Problem};
 ghost use Rattle.tt_instance.specs.Limits.{IsInstance};
-ghost use Rattle.tt_proof_sum.specs.Faults.{IsSumStop, IsUnfinished};
+ghost use Rattle.tt_path.specs.declared.facts.Fact.{Fact};
+ghost use Rattle.tt_proof_sum.specs.Faults.{IsSumStopOn, IsUnfinished};
 ghost use Rattle.tt_proof_sum.specs.declared.fault.FileFault.{FileFault};
 ghost use Rattle.tt_stop.specs.declared.stop.Stop.TheVariants.{Fault};
 
 /// Files that are added up have at most one fault, in one file, unless a fault says only that the check of a claim wasn't finished: such a claim
-/// may be right, so that a later fault may be there too.
+/// may be right, so that a later fault may be there too. This holds whatever facts are at the root of each tree; with none it is said of
+/// `IsSumStop`.
 pub fn sums_have_one_fault()
-    ensures { (p : Problem) (files : List (List ℕ)) (m n : ℕ) (f g : FileFault) → IsInstance p → IsSumStop p files m (Fault f) →
-        IsSumStop p files n (Fault g) → ¬ IsUnfinished f → ¬ IsUnfinished g → (m ≡ n) × (f ≡ g) }
+    ensures { (p : Problem) (root : List Fact) (files : List (List ℕ)) (m n : ℕ) (f g : FileFault) → IsInstance p →
+        IsSumStopOn p root files m (Fault f) → IsSumStopOn p root files n (Fault g) → ¬ IsUnfinished f → ¬ IsUnfinished g → (m ≡ n) × (f ≡ g) }
 {}

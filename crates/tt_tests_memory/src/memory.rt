@@ -7,6 +7,7 @@ use tt_app::{
     Answer, BestSearch, ImproveSearch, PageForm, PageNames, TreeEffort, UNNAMED, best, check,
     improve, page, report, solve, upgrade, validate,
 };
+use tt_branch::Start;
 use tt_instance::Instance;
 use tt_instance_read::read_instance;
 use tt_leaf::{Bound, Claim, ClaimList, Leaf};
@@ -213,8 +214,12 @@ fn the_call_upgrade(rt: HostRuntime) -> Result<(), Fail> {
 #[test]
 fn the_call_solve_that_finishes(rt: HostRuntime) -> Result<(), Fail> {
     let instance = read_instance(rt.alloc(), GAP.as_bytes())?;
+    let start = Start {
+        root: &[],
+        table: None,
+    };
     println!(rt; "{MARK}")?;
-    let outcome = tt_branch::solve(rt.alloc(), &instance, 100, 1, &mut Unwatched);
+    let outcome = tt_branch::solve(rt.alloc(), &instance, start, 100, 1, &mut Unwatched);
     println!(rt; "{MARK}")?;
     let outcome = outcome?;
     assert_eq!(rt;
@@ -228,8 +233,12 @@ fn the_call_solve_that_finishes(rt: HostRuntime) -> Result<(), Fail> {
 #[test]
 fn the_call_solve_of_one_node(rt: HostRuntime) -> Result<(), Fail> {
     let instance = read_instance(rt.alloc(), GAP.as_bytes())?;
+    let start = Start {
+        root: &[],
+        table: None,
+    };
     println!(rt; "{MARK}")?;
-    let outcome = tt_branch::solve(rt.alloc(), &instance, 1, 1, &mut Unwatched);
+    let outcome = tt_branch::solve(rt.alloc(), &instance, start, 1, 1, &mut Unwatched);
     println!(rt; "{MARK}")?;
     let outcome = outcome?;
     assert_eq!(rt;

@@ -25,7 +25,7 @@ const CHAIN: &str =
 fn found(alloc: Global, text: &str, nodes: u32) -> Result<(Bound, Vec<Vec<u8>>), Fail> {
     let instance = read_instance(alloc, text.as_bytes())?;
     let effort = Effort { nodes, seed: 1 };
-    let parts = find_parts(alloc, &instance, effort, &[], &mut Unwatched)?;
+    let parts = find_parts(alloc, &instance, &[], effort, &[], &mut Unwatched)?;
     Ok((parts.bound, parts.proofs))
 }
 
@@ -131,10 +131,10 @@ fn proofs_on_the_way(rt: HostRuntime) -> Result<(), Fail> {
             patience: u64::MAX,
             taken: Vec::new(rt.alloc()),
         };
-        find_parts(rt.alloc(), &instance, effort, &[], &mut watch)?;
+        find_parts(rt.alloc(), &instance, &[], effort, &[], &mut watch)?;
         let mut last = 0;
         for (points, texts) in watch.taken {
-            let parts = add_up(rt.alloc(), &instance, texts)?;
+            let parts = add_up(rt.alloc(), &instance, &[], texts)?;
             assert!(rt; parts.is_some_and(|parts| parts.bound == Bound::AtLeast(points)));
             last = points;
         }
@@ -156,7 +156,7 @@ fn searches_that_are_ended(rt: HostRuntime) -> Result<(), Fail> {
             patience,
             taken: Vec::new(rt.alloc()),
         };
-        let parts = find_parts(rt.alloc(), &instance, effort, &[], &mut watch)?;
+        let parts = find_parts(rt.alloc(), &instance, &[], effort, &[], &mut watch)?;
         assert_eq!(rt; parts.bound, Bound::AtLeast(bound), "{patience}");
     }
     Ok(())

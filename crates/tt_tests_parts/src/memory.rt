@@ -51,7 +51,7 @@ fn the_call_find_parts(rt: HostRuntime) -> Result<(), Fail> {
         seed: 1,
     };
     println!(rt; "{MARK}")?;
-    let parts = find_parts(rt.alloc(), &instance, effort, &[], &mut Unwatched);
+    let parts = find_parts(rt.alloc(), &instance, &[], effort, &[], &mut Unwatched);
     println!(rt; "{MARK}")?;
     assert!(rt; parts?.bound == Bound::AtLeast(5));
     Ok(())

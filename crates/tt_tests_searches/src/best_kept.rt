@@ -77,3 +77,12 @@ fn wishes_are_refused_by_name(rt: HostRuntime) -> Result<(), Fail> {
     assert!(rt; matches!(answer.err(), Some(KeptFault::Wishes(_))));
     Ok(())
 }
+
+#[test]
+fn a_bound_counts_the_rooms_of_lectures_that_stay(rt: HostRuntime) -> Result<(), Fail> {
+    let mut watch = Counting::new(rt.alloc(), PATIENT);
+    let wishes = "hold a A 0 0\nhold a B 1 1";
+    let answer = best_of(rt.alloc(), WEEK, None, wishes, &mut watch)?;
+    assert!(rt; answer.out.as_slice() == b"cost 1 bound 1 optimal\nkept 2\n".as_slice());
+    Ok(())
+}

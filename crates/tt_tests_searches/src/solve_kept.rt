@@ -39,3 +39,10 @@ fn a_proof_that_no_timetable_keeps_wishes(rt: HostRuntime) -> Result<(), Fail> {
     assert!(rt; answer.table.is_some() && answer.proof.is_some());
     Ok(())
 }
+
+#[test]
+fn a_bound_counts_the_rooms_of_lectures_that_stay(rt: HostRuntime) -> Result<(), Fail> {
+    let answer = solve_of(rt.alloc(), "hold a A 0 0\nhold a B 1 1")?;
+    assert!(rt; answer.out.as_slice() == b"cost 1 bound 1 finished\nkept 2\n".as_slice());
+    Ok(())
+}

@@ -7,7 +7,7 @@ use tt_instance_read::read_instance;
 use tt_path::{Fact, Pattern, Who};
 use tt_table::read_solution;
 use tt_testing_samples::{GAP, MINI, TOUR, repeated};
-use tt_wishes::{MAX_WISHES, WishesFault, broken_wishes, list_facts, read_wishes};
+use tt_wishes::{MAX_WISHES, WishesFault, broken_wishes, list_root, read_wishes};
 use tt_wishes_clash::{Clash, find_clash};
 
 /// The lectures of Tour: two in its first room and one in its second.
@@ -94,7 +94,7 @@ fn facts_of_wishes(rt: HostRuntime) -> Result<(), Fail> {
     let instance = read_instance(rt.alloc(), TOUR.as_bytes())?;
     let text = "closed B 0 *\nroom x A\nhold x B 2 *\nroom x A B\n";
     let wishes = read_wishes(rt.alloc(), &instance, text.as_bytes())?;
-    let facts = list_facts(rt.alloc(), &instance, &wishes)?;
+    let facts = list_root(rt.alloc(), &instance, &wishes)?;
     let wanted = [
         fact_in_second_room(Some(0), false),
         fact_in_second_room(None, false),

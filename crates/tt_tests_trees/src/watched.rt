@@ -2,7 +2,7 @@
 
 use std::alloc::Global;
 use std::test::Fail;
-use tt_branch::solve;
+use tt_branch::{Start, solve};
 use tt_instance_read::read_instance;
 use tt_leaf::Bound;
 use tt_proof_check::check_proof;
@@ -60,7 +60,11 @@ fn searched(alloc: Global, patience: u64) -> Result<(Asking, Bound, bool), Fail>
         patience,
         taken: Vec::new(alloc),
     };
-    let outcome = solve(alloc, &instance, 100, 1, &mut watch)?;
+    let start = Start {
+        root: &[],
+        table: None,
+    };
+    let outcome = solve(alloc, &instance, start, 100, 1, &mut watch)?;
     Ok((watch, outcome.bound, outcome.finished))
 }
 

@@ -4,5 +4,6 @@ pub mod Listing
 pub mod Loops
 pub mod Offsets
 pub mod PartLaws
+pub mod Roots
 pub mod RowLaws
 pub mod WishLaws

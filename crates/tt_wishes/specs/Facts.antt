@@ -1,11 +1,12 @@
 -- The facts that a wish is: patterns of cells, of which some entry matches each, or none does.
-use Rattle.std.specs.Prelude.{ℕ, true, false, not, List, [], ◌∷◌, Some, None, map, flat_map, filter}
+use Rattle.std.specs.Prelude.{ℕ, true, false, not, List, [], ◌∷◌, Some, None, map, flat_map, filter, take}
 use Rattle.tt_list_laws.specs.Words.{has_number}
 use Rattle.tt_instance.specs.Problem.{Problem}
 use Rattle.tt_instance.specs.Cells.{all_courses, all_rooms}
 use Rattle.tt_path.specs.declared.facts.Who.TheVariants.{Course}
 use Rattle.tt_path.specs.declared.facts.Pattern.{Pattern}
 use Rattle.tt_path.specs.declared.facts.Fact.{Fact}
+use Rattle.tt_wishes.specs.declared.format.TheConstants.{MAX_ROOT}
 use Rattle.tt_wishes.specs.declared.wish.Place.{Place}
 use Rattle.tt_wishes.specs.declared.wish.Wish.{Wish}
 use Rattle.tt_wishes.specs.declared.wish.Wish.TheVariants.{Hold, Rooms, Closed}
@@ -35,3 +36,7 @@ facts_of p (Closed g) = map (λ c. no_entry (pattern_at g c)) (all_courses p)
 -- The facts of all wishes, in their order.
 abbrev pub facts_of_all : Problem → List Wish → List Fact
 facts_of_all p ws = flat_map (facts_of p) ws
+
+-- The facts that wishes put at the root of a tree: those of all wishes, or the first 32,768 of them.
+abbrev pub root_of : Problem → List Wish → List Fact
+root_of p ws = take MAX_ROOT (facts_of_all p ws)

@@ -1,10 +1,13 @@
 //! The facts of wishes as a list.
 
-ghost use Rattle.std.specs.Prelude.{◌≡◌, ◌++◌, IfOk, OnOk};
-ghost use Rattle.tt_wishes.specs.Facts.{pattern_at, pattern_in, no_entry, facts_of, facts_of_all};
+ghost use Rattle.std.specs.Prelude.{◌≡◌, ◌++◌, List, take, IfOk, OnOk};
+ghost use Rattle.tt_path.specs.declared.facts.Fact.{Fact};
+ghost use Rattle.tt_wishes.specs.Facts.{pattern_at, pattern_in, no_entry, facts_of, root_of};
 ghost use Rattle.tt_wishes.specs.Inner.Listing.{facts_of_room};
+ghost use Rattle.tt_wishes.specs.declared.format.TheConstants.{MAX_ROOT};
 ghost use Rattle.tt_wishes.specs.declared.wish.Wish.TheVariants.{Rooms, Closed};
 
+use crate::format::MAX_ROOT;
 use crate::rooms::RoomList;
 use crate::wish::{Place, Wish};
 use std::alloc::{AllocError, Global};
@@ -108,17 +111,30 @@ fn add_facts(facts: &mut Vec<Fact>, instance: &Instance<'_>, wish: &Wish) -> Res
     }
 }
 
-/// Returns the facts of all wishes, in their order.
-pub fn list_facts(
+/// Adds the facts of a wish, unless a root has no room for more.
+fn add_if_few(facts: &mut Vec<Fact>, instance: &Instance<'_>, wish: &Wish) -> Result<(), AllocError>
+    ensures { OnOk result ((all : List Fact) → take MAX_ROOT facts.old.items ≡ take MAX_ROOT all →
+        take MAX_ROOT facts.new.items ≡ take MAX_ROOT (all ++ facts_of instance.now wish.now)) }
+{
+    if facts.len() >= MAX_ROOT {
+        return Ok(());
+    }
+    add_facts(facts, instance, wish)?;
+    Ok(())
+}
+
+/// Returns the facts that wishes put at the root of a tree: those of all wishes, in their order, or the first 32,768 of these.
+pub fn list_root(
     alloc: Global,
     instance: &Instance<'_>,
     wishes: &[Wish],
 ) -> Result<Vec<Fact>, AllocError>
-    ensures { IfOk result (λ facts. facts.items ≡ facts_of_all instance.now wishes.now) }
+    ensures { IfOk result (λ facts. facts.items ≡ root_of instance.now wishes.now) }
 {
     let mut facts = Vec::new(alloc);
     for wish in wishes {
-        add_facts(&mut facts, instance, wish)?;
+        add_if_few(&mut facts, instance, wish)?;
     }
+    facts.truncate(MAX_ROOT);
     Ok(facts)
 }

@@ -13,11 +13,11 @@ mod rooms;
 mod wish;
 mod words;
 
-pub use facts::list_facts;
+pub use facts::list_root;
 pub use fault::WishesFault;
-pub use format::MAX_WISHES;
+pub use format::{MAX_ROOT, MAX_WISHES};
 pub use keeping::{broken_wishes, keeps};
-pub use laws::wishes_are_facts;
+pub use laws::{kept_wishes_fit, wishes_are_facts};
 pub use reading::read_wishes;
 pub use rooms::RoomList;
 pub use tt_instance::Cell as Entry;

@@ -3,14 +3,18 @@ use Rattle.std.specs.Prelude.{◌≡◌, ℕ, ◌+◌, ◌<◌, ◌⊎◌, true,
 use Rattle.tt_instance.specs.Problem.{Problem}
 use Rattle.tt_instance.specs.declared.cell.Cell.{Cell}
 use Rattle.tt_rules.specs.Score.{hard, cost}
+use Rattle.tt_wishes.specs.Facts.{root_of}
+use Rattle.tt_wishes.specs.Spelling.{AreWishes}
 use Rattle.tt_wishes.specs.declared.wish.Wish.{Wish}
 use Rattle.tt_wishes_narrow.specs.Narrowed.{narrowed}
 use Rattle.tt_wishes_search.specs.Wished.{breaks, stays_kept}
 use Rattle.tt_wishes_best.specs.declared.wishing.Wishing.{Wishing}
 
--- The second instance is the first one, narrowed by the wishes.
-abbrev pub IsNarrowing : Wishing → Type 0
-IsNarrowing w = w.narrow.now ≡ narrowed w.instance.now w.wishes.now
+-- The wishes are the instance's, the second instance is the first one, narrowed by them, and the root has their facts.
+pub record IsNarrowing (w : Wishing) : Type 0 where
+  pub wishes : AreWishes w.instance.now w.wishes.now
+  pub is : w.narrow.now ≡ narrowed w.instance.now w.wishes.now
+  pub root_is : w.root.now ≡ root_of w.narrow.now w.wishes.now
 
 -- How often a timetable breaks hard rules and wishes.
 abbrev pub breaks_in_all : Problem → List Wish → List Cell → ℕ

@@ -1,7 +1,7 @@
 //! What is left to search for.
 
 ghost use Rattle.tt_table.specs.Table.{IsTimetable};
-ghost use Rattle.tt_best.specs.Weeks.{IsWeek};
+ghost use Rattle.tt_best.specs.Weeks.{IsWeekOn};
 ghost use Rattle.tt_wishes_best.specs.Kept.{IsNarrowing};
 
 use crate::comparing::weigh;
@@ -27,7 +27,7 @@ fn is_settled(wishing: Wishing<'_, '_>, table: &Timetable, bound: Bound) -> bool
 #[tactic(auto, using(crate::proofs::Narrowing::table_of_instance))]
 pub fn is_over<W: Watch>(wishing: Wishing<'_, '_>, week: &Week, watch: &mut W) -> bool
     requires narrow { IsNarrowing wishing }
-    requires week { IsWeek wishing.narrow.now week.now }
+    requires week { IsWeekOn wishing.narrow.now wishing.root.now week.now }
 {
     is_settled(wishing, &week.table, week.parts.bound) || watch.is_over()
 }
@@ -35,7 +35,7 @@ pub fn is_over<W: Watch>(wishing: Wishing<'_, '_>, week: &Week, watch: &mut W) -
 /// Gives the result so far to the watch, if it asks for it.
 pub fn keep_if_asked<W: WatchKept>(wishing: Wishing<'_, '_>, week: &Week, watch: &mut W)
     requires narrow { IsNarrowing wishing }
-    requires week { IsWeek wishing.narrow.now week.now }
+    requires week { IsWeekOn wishing.narrow.now wishing.root.now week.now }
 {
     if watch.is_keeping() {
         watch.keep(wishing, week);

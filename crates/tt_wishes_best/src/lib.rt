@@ -3,12 +3,14 @@
 
 mod bounds;
 mod comparing;
+mod limit;
 mod searching;
 mod solving;
 mod trying;
 mod watch;
 mod wishing;
 
+pub use limit::MAX_KEPT;
 pub use searching::find_best_kept;
 pub use solving::{Solved, solve_kept};
 pub use tt_best::{Rounds, Start, Week};

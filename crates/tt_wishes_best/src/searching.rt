@@ -2,19 +2,21 @@
 
 ghost use Rattle.std.specs.Prelude.{IfOk, IfSome, ◌≡◌};
 ghost use Rattle.tt_table.specs.Table.{IsTimetable};
-ghost use Rattle.tt_best.specs.Weeks.{IsWeek};
+ghost use Rattle.tt_best.specs.Weeks.{IsWeekOn};
 ghost use Rattle.tt_wishes_best.specs.Kept.{IsNarrowing, IsNoWorse, IsNoWorseThan};
 
 use crate::bounds::{is_over, keep_if_asked};
 use crate::comparing::{better_of, weigh};
-use crate::trying::{improve_week, try_repair};
+use crate::solving::{Solved, search_tree};
+use crate::trying::{first_table, improve_week};
 use crate::watch::WatchKept;
 use crate::wishing::Wishing;
 use std::alloc::{AllocError, Global};
 use tt_best::{
-    FIRST_NODES, Rounds, Start, Week, first_week, nodes_of, search_bounds, seed_of, steps_of,
+    FIRST_NODES, Rounds, Start, TREE_NODES, Week, nodes_of, parts_of_tree, search_bounds, seed_of,
+    steps_of,
 };
-use tt_parts::Effort;
+use tt_parts::{Effort, Parts, add_up_or_best};
 use tt_search::Search;
 use tt_table::Timetable;
 
@@ -45,8 +47,40 @@ fn better_than_given(
     }
 }
 
+/// Returns a timetable with the proofs of an earlier search, as far as they hold; without such proofs the results of a tree that begins with it, unless
+/// the search is over.
+#[tactic(auto, using(crate::proofs::Narrowing::table_of_narrowed))]
+fn first_week<W: WatchKept>(
+    alloc: Global,
+    wishing: Wishing<'_, '_>,
+    table: Timetable,
+    proofs: &[Vec<u8>],
+    seed: u64,
+    watch: &mut W,
+) -> Result<Week, AllocError>
+    requires narrow { IsNarrowing wishing }
+    requires table { IsTimetable wishing.instance.now table }
+    ensures { IfOk result (IsWeekOn wishing.entry.narrow.now wishing.entry.root.now) }
+{
+    if let Some(parts) = add_up_or_best(alloc, wishing.narrow, wishing.root, proofs)? {
+        return Ok(Week { table, parts });
+    }
+    if watch.is_over() {
+        let parts = Parts::none(alloc);
+        return Ok(Week { table, parts });
+    }
+    let Solved {
+        table,
+        bound,
+        proof,
+        finished: _,
+    } = search_tree(alloc, wishing, table, TREE_NODES, seed, watch)?;
+    let parts = parts_of_tree(alloc, wishing.narrow, wishing.root, bound, &proof)?;
+    Ok(Week { table, parts })
+}
+
 /// Returns the first timetable, repaired, and the first proofs.
-#[tactic(auto, using(crate::proofs::Narrowing::given_of_narrowed, crate::proofs::Narrowing::table_of_narrowed, crate::proofs::Narrowing::table_of_instance))]
+#[tactic(auto, using(crate::proofs::Narrowing::table_of_narrowed, crate::proofs::Narrowing::table_of_instance))]
 fn begin_repaired<W: WatchKept>(
     alloc: Global,
     wishing: Wishing<'_, '_>,
@@ -56,13 +90,14 @@ fn begin_repaired<W: WatchKept>(
 ) -> Result<Week, AllocError>
     requires narrow { IsNarrowing wishing }
     requires table { IfSome start.table (IsTimetable wishing.instance.now) }
-    ensures week { IfOk result (IsWeek wishing.entry.narrow.now) }
+    ensures week { IfOk result (IsWeekOn wishing.entry.narrow.now wishing.entry.root.now) }
     ensures no_worse { IfOk result (λ w. IsNoWorseThan wishing.entry.instance.now wishing.entry.wishes.now start.entry.table w.table) }
 {
-    let given = copy_given(&start.table)?;
-    let Week { table, parts } = first_week(alloc, wishing.narrow, start, rounds.seed, watch)?;
-    let repaired = try_repair(alloc, wishing, table, rounds.seed, watch)?;
-    let table = better_than_given(wishing, given, repaired);
+    let Start { table, proofs } = start;
+    let given = copy_given(&table)?;
+    let first = first_table(alloc, wishing, table, rounds.seed, watch)?;
+    let Week { table, parts } = first_week(alloc, wishing, first, proofs, rounds.seed, watch)?;
+    let table = better_than_given(wishing, given, table);
     Ok(Week { table, parts })
 }
 
@@ -76,7 +111,7 @@ fn begin<W: WatchKept>(
 ) -> Result<Week, AllocError>
     requires narrow { IsNarrowing wishing }
     requires table { IfSome start.table (IsTimetable wishing.instance.now) }
-    ensures week { IfOk result (IsWeek wishing.entry.narrow.now) }
+    ensures week { IfOk result (IsWeekOn wishing.entry.narrow.now wishing.entry.root.now) }
     ensures no_worse { IfOk result (λ w. IsNoWorseThan wishing.entry.instance.now wishing.entry.wishes.now start.entry.table w.table) }
 {
     let week = begin_repaired(alloc, wishing, rounds, start, watch)?;
@@ -88,7 +123,7 @@ fn begin<W: WatchKept>(
         nodes: FIRST_NODES,
         seed: rounds.seed,
     };
-    search_bounds(alloc, wishing.narrow, week, effort, watch)
+    search_bounds(alloc, wishing.narrow, wishing.root, week, effort, watch)
 }
 
 /// Makes another round, from the result of the one before it.
@@ -102,8 +137,8 @@ fn search_round<W: WatchKept>(
     watch: &mut W,
 ) -> Result<Week, AllocError>
     requires narrow { IsNarrowing wishing }
-    requires week { IsWeek wishing.narrow.now week }
-    ensures week { IfOk result (IsWeek wishing.entry.narrow.now) }
+    requires week { IsWeekOn wishing.narrow.now wishing.root.now week }
+    ensures week { IfOk result (IsWeekOn wishing.entry.narrow.now wishing.entry.root.now) }
     ensures no_worse { IfOk result (λ w. IsNoWorse wishing.entry.instance.now wishing.entry.wishes.now week.table w.table) }
 {
     let before = weigh(wishing, &week.table);
@@ -116,7 +151,7 @@ fn search_round<W: WatchKept>(
         return Ok(better);
     }
     let effort = Effort { nodes, seed };
-    search_bounds(alloc, wishing.narrow, better, effort, watch)
+    search_bounds(alloc, wishing.narrow, wishing.root, better, effort, watch)
 }
 
 /// Searches for a best timetable that keeps wishes, and for proofs of a lower bound for those that do, in rounds, until they meet or the watch
@@ -131,8 +166,8 @@ pub fn find_best_kept<W: WatchKept>(
 ) -> Result<Week, AllocError>
     requires narrow { IsNarrowing wishing }
     requires table { IfSome start.table (IsTimetable wishing.instance.now) }
-    // The result is a timetable, and the proofs add up to the bound, which holds for every feasible timetable of the narrowed instance.
-    ensures week { IfOk result (IsWeek wishing.entry.narrow.now) }
+    // The result is a timetable, and the proofs add up to the bound, which holds for every feasible timetable of the narrowed instance that fits the root.
+    ensures week { IfOk result (IsWeekOn wishing.entry.narrow.now wishing.entry.root.now) }
     ensures no_worse { IfOk result (λ w. IsNoWorseThan wishing.entry.instance.now wishing.entry.wishes.now start.entry.table w.table) }
 {
     let most = rounds.count.max(1);

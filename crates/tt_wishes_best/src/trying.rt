@@ -1,8 +1,8 @@
 //! Tries for a better timetable.
 
-ghost use Rattle.std.specs.Prelude.{IfOk};
+ghost use Rattle.std.specs.Prelude.{IfOk, IfSome};
 ghost use Rattle.tt_table.specs.Table.{IsTimetable};
-ghost use Rattle.tt_best.specs.Weeks.{IsWeek};
+ghost use Rattle.tt_best.specs.Weeks.{IsWeekOn};
 ghost use Rattle.tt_wishes_best.specs.Kept.{IsNarrowing, IsNoWorse};
 
 use crate::comparing::better_of;
@@ -10,12 +10,13 @@ use crate::wishing::Wishing;
 use std::alloc::{AllocError, Global};
 use tt_best::{Aiming, Week};
 use tt_leaf::Bound;
-use tt_search::{Search, improve};
+use tt_search::{Search, construct, improve};
 use tt_table::Timetable;
 use tt_watch::Watch;
 use tt_wishes_search::{Basis, Search as WishedSearch, Stay, Wished, improve_wished};
 
-/// The number of steps for each lecture in a run that repairs a timetable, the maximum number of its steps, and the number of runs.
+/// The number of steps for each lecture in a run that repairs a timetable or makes a first one, the maximum number of its steps, and the number of runs
+/// of a repair.
 const STEPS_OF_A_LECTURE: u64 = 1_000;
 
 const MOST_STEPS: u64 = 200_000;
@@ -25,12 +26,17 @@ const REPAIR_RUNS: u64 = 3;
 /// No price for lectures that leave their places.
 const FREE: Stay = Stay { period: 0, room: 0 };
 
+/// Returns the number of steps of a run for a timetable.
+fn steps_of(table: &Timetable) -> u64 {
+    let lectures = table.len() as u64;
+    lectures.saturating_mul(STEPS_OF_A_LECTURE).min(MOST_STEPS)
+}
+
 /// Returns the search that repairs a timetable.
 fn repair_of(table: &Timetable, seed: u64) -> WishedSearch {
-    let lectures = table.len() as u64;
     WishedSearch {
         seed,
-        steps: lectures.saturating_mul(STEPS_OF_A_LECTURE).min(MOST_STEPS),
+        steps: steps_of(table),
         runs: REPAIR_RUNS,
         stay: FREE,
     }
@@ -130,12 +136,49 @@ pub fn improve_week<W: Watch>(
     watch: &mut W,
 ) -> Result<Week, AllocError>
     requires narrow { IsNarrowing wishing }
-    requires week { IsWeek wishing.narrow.now week }
-    ensures week { IfOk result (IsWeek wishing.entry.narrow.now) }
+    requires week { IsWeekOn wishing.narrow.now wishing.root.now week }
+    ensures week { IfOk result (IsWeekOn wishing.entry.narrow.now wishing.entry.root.now) }
     ensures no_worse { IfOk result (λ w. IsNoWorse wishing.entry.instance.now wishing.entry.wishes.now week.table w.table) }
 {
     let Week { table, parts } = week;
     let found = try_narrowed(alloc, wishing, table, search, parts.bound, watch)?;
     let table = try_repair(alloc, wishing, found, search.seed.wrapping_add(1), watch)?;
     Ok(Week { table, parts })
+}
+
+/// Returns a constructed timetable, improved in the narrowed instance and repaired.
+#[tactic(auto, using(crate::proofs::Narrowing::table_of_instance))]
+fn constructed_table<W: Watch>(
+    alloc: Global,
+    wishing: Wishing<'_, '_>,
+    seed: u64,
+    watch: &mut W,
+) -> Result<Timetable, AllocError>
+    requires narrow { IsNarrowing wishing }
+    ensures { IfOk result (IsTimetable wishing.entry.instance.now) }
+{
+    let table = construct(alloc, wishing.narrow, seed)?;
+    let search = Search {
+        seed,
+        steps: steps_of(&table),
+    };
+    try_narrowed(alloc, wishing, table, search, Bound::AtLeast(0), watch)
+}
+
+/// Returns the timetable with which a search begins: the given one, or else a constructed one, repaired.
+pub fn first_table<W: Watch>(
+    alloc: Global,
+    wishing: Wishing<'_, '_>,
+    given: Option<Timetable>,
+    seed: u64,
+    watch: &mut W,
+) -> Result<Timetable, AllocError>
+    requires narrow { IsNarrowing wishing }
+    requires given { IfSome given (IsTimetable wishing.instance.now) }
+    ensures { IfOk result (IsTimetable wishing.entry.instance.now) }
+{
+    match given {
+        Some(table) => try_repair(alloc, wishing, table, seed, watch),
+        None => constructed_table(alloc, wishing, seed, watch),
+    }
 }

@@ -6,7 +6,7 @@ use tt_watch::{Unwatched, Watch};
 
 /// Watches a search in rounds under wishes, and may take its results on the way. Nothing is promised about when it is asked.
 pub trait WatchKept: Watch {
-    ghost use Rattle.tt_best.specs.Weeks.{IsWeek};
+    ghost use Rattle.tt_best.specs.Weeks.{IsWeekOn};
     ghost use Rattle.tt_wishes_best.specs.Kept.{IsNarrowing};
 
     /// Sees that a round begins. The first one is round 1; `most` is the maximum number of rounds.
@@ -18,7 +18,7 @@ pub trait WatchKept: Watch {
     /// Receives the result so far.
     fn keep(&mut self, wishing: Wishing<'_, '_>, week: &Week)
         requires narrow { IsNarrowing wishing }
-        requires week { IsWeek wishing.narrow.now week.now };
+        requires week { IsWeekOn wishing.narrow.now wishing.root.now week.now };
 }
 
 impl WatchKept for Unwatched {

@@ -1,5 +1,5 @@
 -- A tree that grows: its nodes in preorder, each with a mark and its place among the links.
-use Rattle.std.specs.Prelude.{◌≡◌, ℕ, ◌≤◌, Bool, true, false, List, [], length, map, Option, Some, count_by, slice_get, ⊤}
+use Rattle.std.specs.Prelude.{◌≡◌, ℕ, ◌≤◌, Bool, true, false, List, length, map, Option, Some, count_by, slice_get, ⊤}
 use Rattle.std.specs.List.{AllZip, filter_map}
 use Rattle.tt_instance.specs.Problem.{Problem}
 use Rattle.tt_instance.specs.declared.cell.Cell.{Cell}
@@ -32,17 +32,17 @@ IsKnown p best path (Opened g) = IsSplitOn p path g
 IsKnown p best path Unopened = ⊤
 
 -- A node of a tree on its path, and the same node of the tree that grows.
-pub record IsSameNode (p : Problem) (best : Option (List Cell)) (links : List Link) (x : OnPath) (e : TreeNode) : Type 0 where
+pub record IsSameNode (p : Problem) (root : List Fact) (best : Option (List Cell)) (links : List Link) (x : OnPath) (e : TreeNode) : Type 0 where
   pub node : x.node ≡ node_of p x.path e.mark
   pub known : IsKnown p best x.path e.mark
   pub link : e.link ≤ length links
-  pub path : path_at links e.link ≡ x.path
+  pub path : path_at root links e.link ≡ x.path
   pub patterns : ArePatterns p x.path
 
--- The nodes are those of a tree.
-pub record IsGrown (p : Problem) (best : Option (List Cell)) (links : List Link) (tree_nodes : List TreeNode) : Type 0 where
+-- The nodes are those of a tree below the root.
+pub record IsGrown (p : Problem) (root : List Fact) (best : Option (List Cell)) (links : List Link) (tree_nodes : List TreeNode) : Type 0 where
   pub tree : Tree
-  pub together : AllZip (IsSameNode p best links) (on_paths [] tree) tree_nodes
+  pub together : AllZip (IsSameNode p root best links) (on_paths root tree) tree_nodes
 
 -- ---- marks
 
@@ -77,17 +77,17 @@ HasMark tree_nodes k m = (e : TreeNode) × (slice_get tree_nodes k ≡ Some e) �
 -- -- the proof made of the tree
 
 -- The node of the proof for a node of the tree.
-abbrev pub node_at : Problem → List Link → TreeNode → Node
-node_at p links e = node_of p (path_at links e.link) e.mark
+abbrev pub node_at : Problem → List Fact → List Link → TreeNode → Node
+node_at p root links e = node_of p (path_at root links e.link) e.mark
 
 -- The value of a node of the tree, if it is a Cost leaf.
-abbrev pub worth_at : Problem → List Link → TreeNode → Option ℕ
-worth_at p links e = node_worth p (path_at links e.link) (node_at p links e)
+abbrev pub worth_at : Problem → List Fact → List Link → TreeNode → Option ℕ
+worth_at p root links e = node_worth p (path_at root links e.link) (node_at p root links e)
 
 -- The nodes of the proof for nodes of the tree, in their order.
-abbrev pub nodes_of : Problem → List Link → List TreeNode → List Node
-nodes_of p links tree_nodes = map (node_at p links) tree_nodes
+abbrev pub nodes_of : Problem → List Fact → List Link → List TreeNode → List Node
+nodes_of p root links tree_nodes = map (node_at p root links) tree_nodes
 
 -- The values of the nodes of the tree that are Cost leaves, in their order.
-abbrev pub worths_of : Problem → List Link → List TreeNode → List ℕ
-worths_of p links tree_nodes = filter_map (worth_at p links) tree_nodes
+abbrev pub worths_of : Problem → List Fact → List Link → List TreeNode → List ℕ
+worths_of p root links tree_nodes = filter_map (worth_at p root links) tree_nodes

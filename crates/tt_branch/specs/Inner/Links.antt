@@ -4,16 +4,26 @@ use Rattle.tt_path.specs.declared.facts.Fact.{Fact}
 use Rattle.tt_path.specs.declared.facts.Pattern.{Pattern}
 use Rattle.tt_branch.specs.declared.links.Link.{Link}
 
--- The facts of the node at a place. The place is 0 for the root, and the number of its link plus 1 for another node. The first number limits how
--- many links are followed.
+-- The facts of the node at a place that are not the root's. The place is 0 for the root, and the number of its link plus 1 for another node. The
+-- first number limits how many links are followed.
 abbrev pub chain : ℕ → List Link → ℕ → List Fact
 chain zero links at = []
 chain (suc n) links zero = []
 chain (suc n) links (suc i) = elim (slice_get links i) [ None ↦ [] | Some l ↦ chain n links l.parent ++ l.fact ∷ [] ]
 
--- The facts of the node at a place, from the root on. At most as many links are followed as the number of the place.
-abbrev pub path_at : List Link → ℕ → List Fact
-path_at links at = chain at links at
+-- The facts of the links to the node at a place, the first below the root before the others. At most as many links are followed as the number of the
+-- place.
+abbrev pub facts_at : List Link → ℕ → List Fact
+facts_at links at = chain at links at
+
+-- The facts of the node at a place: those of the root, and then those of the links to the node.
+abbrev pub path_at : List Fact → List Link → ℕ → List Fact
+path_at root links at = root ++ facts_at links at
+
+-- The path is the root's or that of a node below it: it begins with the facts of the root.
+pub record IsRooted (root path : List Fact) : Type 0 where
+  pub below : List Fact
+  pub whole : path ≡ root ++ below
 
 -- A parent comes before its children.
 abbrev pub AreLinks : List Link → Type 0

@@ -1,6 +1,6 @@
 //! The call `bound`.
 
-ghost use Rattle.std.specs.Prelude.{◌≡◌, ℕ, List, Some, Err, true, if◌then◌else◌, IfOk, IfErr};
+ghost use Rattle.std.specs.Prelude.{◌≡◌, ℕ, List, [], Some, Err, true, if◌then◌else◌, IfOk, IfErr};
 ghost use Rattle.tt_instance.specs.Problem.{Problem};
 ghost use Rattle.tt_instance.specs.Spelling.{Spells};
 ghost use Rattle.tt_leaf.specs.declared.leaf.Bound.{Bound};
@@ -39,7 +39,7 @@ pub fn bound<R: Source>(alloc: Global, instance: &[u8], proof: &mut R) -> Result
     ensures fault { IfErr result (IsBoundRefusal instance.now (R.remaining proof.old)) }
     // If a bound is derived, it is the answer, unless memory runs out or a read fails.
     ensures only { (p : Problem) (bytes : List ℕ) (b : Bound) → Spells instance.now p → R.remaining proof.old ≡ Some bytes →
-        IsProved p bytes b → AnswersBound result b }
+        IsProved p [] bytes b → AnswersBound result b }
     // If the instance is refused, the proof isn't read.
     ensures unread { IfErr result (λ f. IsOfInstance f → proof.new ≡ proof.old) }
     // A failed read is reported exactly if a read failed.

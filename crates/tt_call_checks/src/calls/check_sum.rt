@@ -2,16 +2,17 @@
 
 ghost use Rattle.std.specs.Prelude.{◌≡◌, ◌+◌, ◌<◌, ◌^◌, ℕ, List, Some, Err, true, if◌then◌else◌, IfOk, IfErr, MatchResult, slice_get, slice_index_or};
 ghost use Rattle.tt_rules.specs.Score.{IsFeasible};
+ghost use Rattle.tt_path.specs.Facts.{Fits};
 ghost use Rattle.tt_leaf.specs.declared.leaf.Bound.TheVariants.{AtLeast};
-ghost use Rattle.tt_proof_check.specs.Derives.{HoldsOfAll};
-ghost use Rattle.tt_proof_sum.specs.UpToFailedRead.{IsFileCheckedUpToFailedRead};
+ghost use Rattle.tt_proof_check.specs.Derives.{HoldsOn};
+ghost use Rattle.tt_proof_sum.specs.UpToFailedRead.{IsFileCheckedUpToFailedReadOn};
 ghost use Rattle.tt_stop.specs.Stops.{OnFault};
 ghost use Rattle.tt_text.specs.Failures.{is_err_and};
 ghost use Rattle.tt_proof_check.specs.Headline.{BreaksARule};
 ghost use Rattle.tt_proof_sum.specs.Added.{Give};
 ghost use Rattle.tt_proof_sum.specs.Faults as below;
-ghost use Rattle.tt_proof_sum.specs.Faults.{IsSumStop, IsUnfinished, all_points};
-ghost use Rattle.tt_proof_sum.specs.Sums.{IsSum};
+ghost use Rattle.tt_proof_sum.specs.Faults.{IsSumStopOn, IsUnfinished, all_points};
+ghost use Rattle.tt_proof_sum.specs.Sums.{IsSumOn};
 ghost use Rattle.tt_call_checks.specs.Checked.{IsFileFault, AnswersBroken};
 ghost use Rattle.tt_call_answers.specs.Sums.{IsSpelledAndFileCheckedUpToFailedRead, CertifiesSum};
 ghost use Rattle.tt_call_answers.specs.Refusals.{is_failed_read_at};
@@ -24,31 +25,35 @@ use tt_call_answers::{Answer, AppFault};
 use tt_instance::Instance;
 use tt_instance_read::read_instance;
 use tt_leaf::Bound;
-use tt_proof_sum::{SumStop, sum_proofs};
+use tt_path::Fact;
+use tt_proof_sum::{SumStop, sum_proofs_on};
 use tt_rules::score;
 use tt_table::{Timetable, read_solution};
 use tt_text_peek::Peek;
 
-/// Returns the bound of proofs, if some timetable breaks no hard rule: so the bound is a number.
+/// Returns the bound of proofs, whose trees have these facts at their roots, if some timetable breaks no hard rule and fits the facts: so the bound is
+/// a number.
 pub fn summed_bound<R: Peek>(
     alloc: Global,
     instance: &Instance<'_>,
+    root: &[Fact],
     table: &Timetable,
     proofs: &mut [R],
 ) -> Result<u64, SumStop>
-    requires { IsFeasible instance.now table.now }
-    ensures found { IfOk result (λ b. (files : List (List ℕ)) → Give R.remaining proofs.old files → IsSum instance.now files (AtLeast b)) }
-    ensures only { (files : List (List ℕ)) (b : ℕ) → Give R.remaining proofs.old files → (h : IsSum instance.now files (AtLeast b)) →
+    requires feasible { IsFeasible instance.now table.now }
+    requires fits { Fits instance.now table.now root.now }
+    ensures found { IfOk result (λ b. (files : List (List ℕ)) → Give R.remaining proofs.old files → IsSumOn instance.now root.now files (AtLeast b)) }
+    ensures only { (files : List (List ℕ)) (b : ℕ) → Give R.remaining proofs.old files → (h : IsSumOn instance.now root.now files (AtLeast b)) →
         all_points h.parts < 2 ^ 64 → MatchResult result (λ c. c ≡ b) (λ e. OnFault e.stop IsUnfinished) }
-    ensures holds { IfOk result (λ b. HoldsOfAll instance.now (AtLeast b)) }
-    ensures fault { IfErr result (λ e. (files : List (List ℕ)) → Give R.remaining proofs.old files → IsSumStop instance.now files e.file e.stop) }
+    ensures holds { IfOk result (λ b. HoldsOn instance.now (AtLeast b) root.now) }
+    ensures fault { IfErr result (λ e. (files : List (List ℕ)) → Give R.remaining proofs.old files → IsSumStopOn instance.now root.now files e.file e.stop) }
     ensures failed { (i : ℕ) (r : R) → slice_get proofs.new i ≡ Some r →
         R.has_failed r ≡ (if is_err_and result (below.is_failed_read_at (i + 1)) then true else R.has_failed (slice_index_or proofs.old i r)) }
     ensures up_to_failed_read { (i : ℕ) (r q : R) (bytes : List ℕ) → result ≡ Err (below.read_failed_at (i + 1)) → slice_get proofs.old i ≡ Some r →
-        slice_get proofs.new i ≡ Some q → R.remaining r ≡ Some bytes → IsFileCheckedUpToFailedRead instance.now bytes (R.remaining q) }
+        slice_get proofs.new i ≡ Some q → R.remaining r ≡ Some bytes → IsFileCheckedUpToFailedReadOn instance.now root.now bytes (R.remaining q) }
     ensures lower { IfErr result (λ e. OnFault e.stop below.HoldsNoStop) }
 {
-    match sum_proofs(alloc, instance, proofs)? {
+    match sum_proofs_on(alloc, instance, root, proofs)? {
         Bound::AtLeast(bound) => Ok(bound),
         Bound::Nothing => unreachable!(),
     }
@@ -88,6 +93,6 @@ pub fn check_sum<R: Peek>(
     if !score.feasible() {
         return Ok(broken_answer(alloc, &score)?);
     }
-    let bound = summed_bound(alloc, &instance, &table, proofs)?;
+    let bound = summed_bound(alloc, &instance, &[], &table, proofs)?;
     Ok(yes_answer(alloc, score.cost(), bound)?)
 }

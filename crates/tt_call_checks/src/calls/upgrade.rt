@@ -1,6 +1,6 @@
 //! The call `upgrade`.
 
-ghost use Rattle.std.specs.Prelude.{◌≡◌, ℕ, List, Some, Err, true, if◌then◌else◌, IfOk, IfErr};
+ghost use Rattle.std.specs.Prelude.{◌≡◌, ℕ, List, [], Some, Err, true, if◌then◌else◌, IfOk, IfErr};
 ghost use Rattle.tt_instance.specs.Problem.{Problem};
 ghost use Rattle.tt_instance.specs.Spelling.{Spells};
 ghost use Rattle.tt_leaf.specs.declared.leaf.Bound.{Bound};
@@ -37,7 +37,7 @@ pub fn upgrade<R: Source>(alloc: Global, instance: &[u8], proof: &mut R) -> Resu
     ensures fault { IfErr result (IsUpgradeRefusal instance.now (R.remaining proof.old)) }
     // If a bound is derived, the proof is written, unless memory runs out, a read fails or the text grows too large.
     ensures only { (p : Problem) (bytes : List ℕ) (b : Bound) → Spells instance.now p → R.remaining proof.old ≡ Some bytes →
-        IsProved p bytes b → AnswersUpgrade result b }
+        IsProved p [] bytes b → AnswersUpgrade result b }
     // If the instance is refused, the proof isn't read.
     ensures unread { IfErr result (λ f. IsOfInstance f → proof.new ≡ proof.old) }
     // A failed read is reported exactly if a read failed.

@@ -57,7 +57,7 @@ fn answer_of<W: Watch>(
         Some(table) => table.entries(),
         None => &[],
     };
-    let Parts { proofs, bound } = find_parts(alloc, instance, effort, guide, watch)?;
+    let Parts { proofs, bound } = find_parts(alloc, instance, &[], effort, guide, watch)?;
     let out = line_of(alloc, bound, proofs.as_slice().len() as u64)?;
     Ok(PartsAnswer { out, proofs })
 }

@@ -12,7 +12,7 @@ ghost use Rattle.tt_call_searches.specs.Solved.{IsProofFile, IsOverLong, IsTable
 ghost use Rattle.tt_call_answers.specs.declared.fault.AppFault.TheVariants as fault;
 
 use std::alloc::{AllocError, Global};
-use tt_branch::Outcome;
+use tt_branch::{Outcome, Start};
 use tt_call_answers::{Answer, AppFault};
 use tt_instance::Instance;
 use tt_instance_read::read_instance;
@@ -191,12 +191,16 @@ pub fn solve<W: Watch>(
 {
     let TreeEffort { seed, nodes } = tree;
     let instance = read_instance(alloc, instance)?;
+    let start = Start {
+        root: &[],
+        table: None,
+    };
     let Outcome {
         best,
         bound,
         proof,
         finished,
-    } = tt_branch::solve(alloc, &instance, nodes, seed, watch)?;
+    } = tt_branch::solve(alloc, &instance, start, nodes, seed, watch)?;
     let Some(text) = least_text(alloc, bound, &proof)? else {
         return Err(AppFault::ProofTooLarge);
     };

@@ -1,5 +1,5 @@
 -- The places that a path leaves open.
-use Rattle.std.specs.Prelude.{◌≡◌, ◌⊎◌, false, List, [], ◌∷◌, ◌++◌, if◌then◌else◌}
+use Rattle.std.specs.Prelude.{◌≡◌, ◌⊎◌, ℕ, false, List, [], ◌∷◌, ◌++◌, take, drop, if◌then◌else◌}
 use Rattle.tt_path.specs.declared.facts.Fact.{Fact}
 use Rattle.tt_proof_read.specs.Trees.{with_fact}
 
@@ -12,10 +12,11 @@ abbrev pub pending_after : List Fact → List Fact → List (List Fact)
 pending_after before [] = []
 pending_after before (f ∷ fs) = pending_after (before ++ f ∷ []) fs ++ other_side before f
 
--- the second children that are not read yet, the deepest first, each by its path
-abbrev pub pending : List Fact → List (List Fact)
-pending path = pending_after [] path
+-- the second children that are not read yet, the deepest first, each by its path; the first facts, `root` in number, belong to no split
+abbrev pub pending : ℕ → List Fact → List (List Fact)
+pending root path = pending_after (take root path) (drop root path)
 
--- the deepest second child that is not read yet is the next, if there is one
-abbrev pub ContinuesWith : List Fact → List Fact → Type 0
-ContinuesWith path next = (pending path ≡ []) ⊎ (pending path ≡ next ∷ pending next)
+-- the deepest second child that is not read yet is the next, if there is one; the facts of the root stay
+abbrev pub ContinuesWith : ℕ → List Fact → List Fact → Type 0
+ContinuesWith root path next =
+    (take root next ≡ take root path) × ((pending root path ≡ []) ⊎ (pending root path ≡ next ∷ pending root next))

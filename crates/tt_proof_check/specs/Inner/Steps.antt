@@ -1,5 +1,5 @@
 -- The change of a path by one node.
-use Rattle.std.specs.Prelude.{◌≡◌, true, List, length, Some, ⊤}
+use Rattle.std.specs.Prelude.{◌≡◌, ℕ, true, List, length, Some, ⊤}
 use Rattle.tt_instance.specs.Problem.{Problem}
 use Rattle.tt_path.specs.declared.facts.Fact.{Fact}
 use Rattle.tt_path.specs.declared.path.PathFault.{PathFault}
@@ -15,10 +15,10 @@ use Rattle.tt_proof_check.specs.declared.walk.NodeStop.TheVariants.{Rule, TooDee
 use Rattle.tt_proof_check.specs.Inner.Pending.{ContinuesWith}
 use Rattle.tt_path.specs.declared.path.TheConstants.{MAX_FACTS}
 
--- a split leads down to its first child, and a right leaf to the next place
-abbrev pub Steps : Problem → Bound → List Fact → Node → List Fact → Type 0
-Steps p b facts (Split g) next = next ≡ with_fact facts g true
-Steps p b facts (Leaf leaf) next = IsRight p facts b leaf × ContinuesWith facts next
+-- below a root of so many facts, a split leads down to its first child, and a right leaf to the next place
+abbrev pub Steps : Problem → ℕ → Bound → List Fact → Node → List Fact → Type 0
+Steps p root b facts (Split g) next = next ≡ with_fact facts g true
+Steps p root b facts (Leaf leaf) next = IsRight p facts b leaf × ContinuesWith root facts next
 
 -- only a leaf breaks a rule, and only a split can be too deep
 abbrev pub Stops : Problem → Bound → List Fact → Node → NodeStop → Type 0

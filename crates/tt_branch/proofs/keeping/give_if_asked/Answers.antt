@@ -11,14 +11,18 @@ use Rattle.tt_branch.proofs.keeping.give_if_asked.Goals as goal
 pub write_nodes-requires : goal.write_nodes-requires
 write_nodes-requires g c = λ κs.
     let p = g.P.Path.problem c.args.path.now in
+    let root = c.args.root.now in
     let s = c.args.search.now in
     let ok = subst IsInstance c.instance.ensures c.days.ensures.instance in
     let links = sym c.as_slice.ensures.value in
-    let each = writable p ok (table_of s.best) s.links.items s.tree_nodes.items c.requires.under_way.grown (omega arith) in (
+    let each = writable p ok root (table_of s.best) s.links.items s.tree_nodes.items c.requires.under_way.grown (omega arith) in (
       (refl, tt),
       (
-        subst AreLinks links c.requires.under_way.links,
-        subst (All (IsWritable p c.as_slice.result.now)) (sym c.as_slice-2.ensures.value)
-            (subst (λ (l : List Link). All (IsWritable p l) s.tree_nodes.items) links each),
+        c.requires.rooted,
+        (
+          subst AreLinks links c.requires.under_way.links,
+          subst (All (IsWritable p root c.as_slice.result.now)) (sym c.as_slice-2.ensures.value)
+              (subst (λ (l : List Link). All (IsWritable p root l) s.tree_nodes.items) links each),
+        ),
       ),
     )

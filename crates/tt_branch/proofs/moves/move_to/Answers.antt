@@ -8,7 +8,9 @@ pub returns-clause-moved : goal.returns-clause-moved
 returns-clause-moved g c =
     let old = g.P.Path.facts c.args.path.now in
     let facts = c.args.facts.now in
+    let root = c.args.root_depth in
     let kept = c.shared-kept.result in
-    let e = ap (λ (l : List Fact). l ++ reverse (take (length facts - kept) facts)) c.pop_to.ensures.facts
-    ∙ joined old facts kept c.shared-kept.ensures.reversed in
+    let s = c.shared-kept.ensures in
+    let e = ap (λ (l : List Fact). l ++ reverse (take (length facts - (kept - root)) facts)) c.pop_to.ensures.facts
+    ∙ joined old facts root kept s.root s.there s.reversed in
     subst (λ (l : List Fact). OnOk c.push_first.result (g.P.Path.facts c.push_first.new.path ≡ l)) e c.push_first.ensures.moved

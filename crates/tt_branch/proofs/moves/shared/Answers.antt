@@ -1,4 +1,4 @@
-use Rattle.std.proofs.Common.{sym, ◌∙◌, arith}
+use Rattle.std.proofs.Common.{sym, ◌∙◌, take, arith}
 use Rattle.tt_path.proofs.Same.{same_fact}
 use Rattle.tt_branch.proofs.Moving.{one_more}
 use Rattle.tt_branch.proofs.moves.shared.Goals as goal
@@ -11,6 +11,6 @@ loop-index-preserved g c =
     let same = same_fact c.fact.result _ (sym c.is_same.ensures ∙ c.if-not-is_same.false) in
     record {
       sum = omega arith;
-      same = one_more old facts c.loop-index.index c.loop-index.left c.fact.result _ (omega arith) (omega arith)
-          (omega arith) c.fact.ensures same i.same;
+      same = one_more old facts (take c.args.root_depth old) c.loop-index.index c.loop-index.left c.fact.result _ (omega arith)
+          (omega arith) (omega arith) c.fact.ensures same i.same;
     }

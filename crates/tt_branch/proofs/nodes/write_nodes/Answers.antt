@@ -10,26 +10,31 @@ pub node_for-requires : goal.node_for-requires
 node_for-requires g c = λ κs.
     let p = g.P.Path.problem c.args.path.now in
     let e = c.index-tree_nodes-left.result in
-    let w = writable_here p c.args.links.now c.args.tree_nodes.now (c.loop-left.left - 1) e c.requires.each
+    let w = writable_here p c.args.root.now c.args.links.now c.args.tree_nodes.now (c.loop-left.left - 1) e c.requires.each
     (omega arith) c.index-tree_nodes-left.is in
-    ((refl, tt), (c.requires.links, w.reached))
+    ((refl, tt), (c.loop-left.invariant.rooted, (c.requires.links, w.reached)))
 
 pub worth_of-requires : goal.worth_of-requires
 worth_of-requires g c = λ κs.
     let p = g.P.Path.problem c.args.path.now in
+    let root = c.args.root.now in
     let links = c.args.links.now in
     let e = c.index-tree_nodes-left.result in
     let same = c.in_ok-node.ensures.unchanged ∙ c.loop-left.invariant.same in
-    let w = writable_here p links c.args.tree_nodes.now (c.loop-left.left - 1) e c.requires.each (omega arith) c.index-tree_nodes-left.is in
-    let node = c.in_ok-node.ensures.node ∙ ap (λ (q : Problem). node_at q links e) c.loop-left.invariant.same in (
+    let w = writable_here p root links c.args.tree_nodes.now (c.loop-left.left - 1) e c.requires.each (omega arith)
+    c.index-tree_nodes-left.is in
+    let node = c.in_ok-node.ensures.node ∙ ap (λ (q : Problem). node_at q root links e) c.loop-left.invariant.same in (
       (refl, tt),
       (
-        c.requires.links,
+        c.in_ok-node.ensures.rooted,
         (
-          w.reached,
+          c.requires.links,
           (
-            subst (λ (q : Problem). IsNodeOf q c.in_ok-node.node) (sym same) (subst (IsNodeOf p) (sym node) w.numbers),
-            subst IsOnceNode (sym node) w.once,
+            w.reached,
+            (
+              subst (λ (q : Problem). IsNodeOf q c.in_ok-node.node) (sym same) (subst (IsNodeOf p) (sym node) w.numbers),
+              subst IsOnceNode (sym node) w.once,
+            ),
           ),
         ),
       ),

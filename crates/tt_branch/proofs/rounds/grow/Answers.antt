@@ -27,7 +27,13 @@ returns-then-is_over-clause-ends g c =
 pub give_if_asked-requires : goal.give_if_asked-requires
 give_if_asked-requires g c = λ κs.
     let i = c.loop-opened.invariant in
-    ((refl, tt), (subst (λ (q : Problem). IsUnderWay q c.loop-opened.search) (sym i.same) i.under_way, omega (arith, i.at_most)))
+    let root = c.args.root.now in (
+      (refl, tt),
+      (
+        i.rooted,
+        (subst (λ (q : Problem). IsUnderWay q root c.loop-opened.search) (sym i.same) i.under_way, omega (arith, i.at_most)),
+      ),
+    )
 
 pub loop-opened-preserved : goal.loop-opened-preserved
 loop-opened-preserved g c =
@@ -38,9 +44,10 @@ loop-opened-preserved g c =
     let new = c.open_next.new.search in
     record {
       same = e.unchanged ∙ same;
-      under_way = subst (λ (q : Problem). IsUnderWay q new) same e.under_way;
-      better = advance_twice p c.args.search.now.best c.loop-opened.search.best new.best i.better
-          (subst (λ (q : Problem). Advances q c.loop-opened.search.best new.best) same e.better);
+      rooted = e.rooted;
+      under_way = subst (λ (q : Problem). IsUnderWay q c.args.root.now new) same e.under_way;
+      better = advance_twice p c.args.root.now c.args.search.now.best c.loop-opened.search.best new.best i.better
+          (subst (λ (q : Problem). Advances q c.args.root.now c.loop-opened.search.best new.best) same e.better);
       opened = omega (arith, e.opened, i.opened);
       at_most = omega (arith, e.many, i.at_most);
     }

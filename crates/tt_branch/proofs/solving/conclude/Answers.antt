@@ -20,14 +20,18 @@ write_nodes-requires g c = λ κs.
     let p = g.P.Path.problem c.args.path.now in
     let s = c.args.search in
     let ok = subst IsInstance c.instance.ensures c.days.ensures.instance in
-    let at_most = few_ended c.args.ending.opened s.tree_nodes.items c.args.ending.finished c.requires.at_most c.requires.ends in
+    let root = c.args.root.now in
+    let at_most = few_ended root c.args.ending.opened s.tree_nodes.items c.args.ending.finished c.requires.at_most c.requires.ends in
     let links = sym c.as_slice.ensures.value in
-    let each = writable p ok (table_of s.best) s.links.items s.tree_nodes.items c.requires.under_way.grown at_most in (
+    let each = writable p ok root (table_of s.best) s.links.items s.tree_nodes.items c.requires.under_way.grown at_most in (
       (refl, tt),
       (
-        subst AreLinks links c.requires.under_way.links,
-        subst (All (IsWritable p c.as_slice.result.now)) (sym c.as_slice-2.ensures.value)
-            (subst (λ (l : List Link). All (IsWritable p l) s.tree_nodes.items) links each),
+        c.requires.rooted,
+        (
+          subst AreLinks links c.requires.under_way.links,
+          subst (All (IsWritable p root c.as_slice.result.now)) (sym c.as_slice-2.ensures.value)
+              (subst (λ (l : List Link). All (IsWritable p root l) s.tree_nodes.items) links each),
+        ),
       ),
     )
 
@@ -35,18 +39,21 @@ pub returns : goal.returns
 returns g c =
     let p = g.P.Path.problem c.args.path.now in
     let s = c.args.search in
+    let root = c.args.root.now in
     let e = c.args.ending in
     let ok = subst IsInstance c.instance.ensures c.days.ensures.instance in
     let links = c.as_slice.ensures.value in
     let items = c.as_slice-2.ensures.value in
     let nodes = c.in_ok-nodes.field-0.nodes.items in
     let lowest = c.in_ok-nodes.field-0.least in
-    let is = c.in_ok-nodes.ensures.nodes ∙ ap (λ (l : List Link). nodes_of p l c.as_slice-2.result.now) links
-    ∙ ap (nodes_of p s.links.items) items in
+    let is = c.in_ok-nodes.ensures.nodes ∙ ap (λ (l : List Link). nodes_of p root l c.as_slice-2.result.now) links
+    ∙ ap (nodes_of p root s.links.items) items in
     let shown = c.shown-bound.ensures p c.requires.under_way.kept in
-    let done = concluded p ok s c.requires.under_way e.opened c.requires.at_most nodes is e.finished lowest c.requires.begun c.requires.ends
+    λ given begun.
+    let done = concluded p ok root s c.requires.under_way e.opened c.requires.at_most nodes is given e.finished lowest begun
+    c.requires.ends
     (λ f. c.in_ok-nodes.ensures.least (not_from_false e.finished f)
-    ∙ ap (λ (l : List Link). least (worths_of p l c.as_slice-2.result.now)) links
-    ∙ ap (λ (es : List TreeNode). least (worths_of p s.links.items es)) items) in
-    subst (λ (t : Option (List Cell)). IsOutcome p e.opened t c.shown-bound.result nodes e.finished) (sym c.table_in.ensures)
-    (subst (λ (b : Bound). IsOutcome p e.opened (table_of s.best) b nodes e.finished) (sym shown) done)
+    ∙ ap (λ (l : List Link). least (worths_of p root l c.as_slice-2.result.now)) links
+    ∙ ap (λ (es : List TreeNode). least (worths_of p root s.links.items es)) items) in
+    subst (λ (t : Option (List Cell)). IsOutcome p root given e.opened t c.shown-bound.result nodes e.finished) (sym c.table_in.ensures)
+    (subst (λ (b : Bound). IsOutcome p root given e.opened (table_of s.best) b nodes e.finished) (sym shown) done)

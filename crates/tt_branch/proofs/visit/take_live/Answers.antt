@@ -6,6 +6,7 @@ use Rattle.tt_instance.specs.Cells.{InRange}
 use Rattle.tt_instance.specs.declared.cell.Cell.{Cell}
 use Rattle.tt_rules.specs.Score.{IsScore, IsFeasible, cost}
 use Rattle.tt_rules.proofs.Scores.{cost_is}
+use Rattle.tt_path.specs.Facts.{Fits}
 use Rattle.tt_path.proofs.LiveCells.{live_cells}
 use Rattle.tt_leaf.specs.declared.leaf.Bound.TheVariants.{AtLeast}
 use Rattle.tt_leaf_find.specs.Found.{Closes}
@@ -54,7 +55,8 @@ returns-clause-better g c =
     let h = solved p facts (table_of c.args.best.now) ok c.requires.pinned c.requires.unclosed in
     let t = c.in_ok-table.table in
     let score = c.score.result in
-    advance_to p c.args.best.now (record { table = t; cost = c.cost-cost.result })
+    advance_to p facts c.args.best.now (record { table = t; cost = c.cost-cost.result })
     (subst (IsBetter p (table_of c.args.best.now)) (sym c.in_ok-table.ensures) h.better)
     (subst (IsFeasible p) (sym c.in_ok-table.ensures) h.feasible)
     (c.cost-cost.ensures ∙ cost_is p t score (subst (λ (q : Problem). IsScore q t score) c.instance-2.ensures c.score.ensures))
+    (subst (λ (u : List Cell). Fits p u facts) (sym c.in_ok-table.ensures) h.fits)

@@ -1,5 +1,7 @@
+use Rattle.std.proofs.Common.{refl}
 use Rattle.std.specs.Option.{option_copied}
 use Rattle.std.proofs.lemmas.Result.{err_from_is_err_and}
+use Rattle.tt_call_best_kept.proofs.Narrowings.{narrowing}
 use Rattle.tt_call_best_kept.proofs.Refused.{tells_files, tells_names, tells_start}
 use Rattle.tt_call_best_kept.proofs.calling.best_kept.Goals as goal
 
@@ -25,3 +27,11 @@ returns-in_err-labels-clause-fault g c =
     (tells_names c.args.files (option_copied c.args.search.start) c.args.names read.instance read.wishes.items c.in_ok-table.table
     c.in_err-labels.field-0.0
     c.in_ok-instance.ensures.read.spelled c.in_ok-table.ensures.found c.in_err-labels.ensures.fault)
+
+pub find_best_kept-requires-clause-narrow : goal.find_best_kept-requires-clause-narrow
+find_best_kept-requires-clause-narrow g c =
+    narrowing c.args.files c.in_ok-instance.field-0 _ c.in_ok-instance.ensures.read refl refl c.deref.ensures.value c.deref-2.ensures.value
+
+pub answer_of-requires-clause-narrow : goal.answer_of-requires-clause-narrow
+answer_of-requires-clause-narrow g c =
+    narrowing c.args.files c.in_ok-instance.field-0 _ c.in_ok-instance.ensures.read refl refl c.deref.ensures.value c.deref-2.ensures.value

@@ -1,7 +1,8 @@
-use Rattle.std.proofs.Common.{◌≡◌, List, subst}
+use Rattle.std.proofs.Common.{◌≡◌, List, ap, subst, ◌∙◌}
 use Rattle.std.proofs.lemmas.Result.{err_from_is_err_and}
 use Rattle.tt_instance.specs.Problem.{Problem}
 use Rattle.tt_instance_read.proofs.Laws.{spelled_once}
+use Rattle.tt_wishes.specs.Facts.{root_of}
 use Rattle.tt_wishes.specs.declared.wish.Wish.{Wish}
 use Rattle.tt_wishes_narrow.specs.Narrowed.{narrowed}
 use Rattle.tt_call_best_kept.proofs.Refused.{tells_instance, tells_wishes}
@@ -34,5 +35,7 @@ returns-clause-read c =
     c.in_ok-instance.ensures.found in
     record {
       spelled = record { instance_is = c.in_ok-instance.ensures.found; wishes_are = c.in_ok-wishes.ensures.found };
+      wishes = c.in_ok-wishes.ensures.fits;
       narrow = subst (λ (p : Problem). narrow ≡ narrowed p wishes) same here;
+      root = c.in_ok-root.ensures ∙ ap (root_of narrow) c.deref-2.ensures.value;
     }

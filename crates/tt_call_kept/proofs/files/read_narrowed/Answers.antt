@@ -1,6 +1,7 @@
 use Rattle.std.proofs.Common.{length, sym, ap, ◌∙◌}
 use Rattle.std.proofs.lemmas.Result.{err_from_is_err_and}
 use Rattle.tt_call_kept.proofs.Refused.{tells_instance, tells_wishes, only_memory}
+use Rattle.tt_wishes.specs.Facts.{root_of}
 use Rattle.tt_wishes_narrow.specs.Narrowed.{narrowed}
 use Rattle.tt_call_kept.proofs.Summed.{narrowed_once}
 use Rattle.tt_call_kept.proofs.files.read_narrowed.Goals as goal
@@ -30,10 +31,13 @@ returns-in_err-wishes-clause-only c =
     c.in_ok-instance.ensures.found c.in_err-wishes.ensures.exact))
 
 pub returns-clause-only : goal.returns-clause-only
-returns-clause-only c = λ p ws spelled. narrowed_once c.args.files c.in_ok-narrow.field-0 c.len-count.result p ws (record {
-  problem = c.in_ok-instance.instance;
-  listed = c.in_ok-wishes.wishes.items;
-  spelled = record { instance_is = c.in_ok-instance.ensures.found; wishes_are = c.in_ok-wishes.ensures.found };
-  is = c.in_ok-narrow.ensures ∙ ap (narrowed c.in_ok-instance.instance) c.deref.ensures.value;
-  count = c.len-count.ensures ∙ sym c.deref.ensures.len ∙ ap length c.deref.ensures.value;
-}) spelled
+returns-clause-only c = λ p ws spelled.
+    let made = narrowed_once c.args.files c.in_ok-narrow.narrow c.in_ok-root.root.items c.len-count.result p ws (record {
+      problem = c.in_ok-instance.instance;
+      listed = c.in_ok-wishes.wishes.items;
+      spelled = record { instance_is = c.in_ok-instance.ensures.found; wishes_are = c.in_ok-wishes.ensures.found };
+      is = c.in_ok-narrow.ensures ∙ ap (narrowed c.in_ok-instance.instance) c.deref.ensures.value;
+      root_is = c.in_ok-root.ensures ∙ ap (root_of c.in_ok-narrow.narrow) c.deref-2.ensures.value;
+      count = c.len-count.ensures ∙ sym c.deref.ensures.len ∙ ap length c.deref.ensures.value;
+    }) spelled in
+    (made.narrowed_is, made.root_is, made.count)

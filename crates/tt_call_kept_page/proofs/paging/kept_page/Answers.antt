@@ -1,12 +1,10 @@
-use Rattle.std.proofs.Common.{◌≡◌, ℕ, List, Err, refl, sym, ap, subst}
+use Rattle.std.proofs.Common.{◌≡◌, ℕ, List, Err, refl, sym, ap, subst, ◌∙◌}
 use Rattle.std.specs.Io.KnownBytes.{Appends}
 use Rattle.std.proofs.lemmas.Result.{err_from_is_err_and}
-use Rattle.tt_instance.specs.Problem.{Problem}
+use Rattle.tt_wishes.specs.Facts.{root_of}
 use Rattle.tt_wishes.specs.declared.wish.Wish.{Wish}
 use Rattle.tt_wishes_narrow.specs.Narrowed.{narrowed}
 use Rattle.tt_proof_sum.specs.Added.{Give}
-use Rattle.tt_proof_sum.specs.Faults.{IsSumStop}
-use Rattle.tt_proof_sum.specs.Sums.{IsSum}
 use Rattle.tt_text.specs.Sinks.{TakesPart}
 use Rattle.tt_page.specs.Faults.{ExplainsSize}
 use Rattle.tt_page.specs.Limits.{IsWithinLimit}
@@ -14,7 +12,7 @@ use Rattle.tt_page.specs.Pages.{page_text}
 use Rattle.tt_page.specs.Proofs.{IsProvedOf}
 use Rattle.tt_page.specs.declared.proved.Proved.{Proved}
 use Rattle.tt_page.proofs.Kept.{proved_of_kept}
-use Rattle.tt_call_kept.proofs.Holding.{holds_of_narrowed}
+use Rattle.tt_call_kept.proofs.Summed.{made_holds, made_stop, made_sum}
 use Rattle.tt_call_kept_page.proofs.Telling.{narrowed_there, tells_instance, tells_names, tells_output, tells_solution, tells_sum, tells_wishes}
 use Rattle.tt_call_kept_page.proofs.paging.kept_page.Goals as goal
 
@@ -61,12 +59,14 @@ returns-in_err-bound-clause-fault g c =
     let made = subst (λ (us : List Wish). narrow ≡ narrowed c.in_ok-again.again us) c.deref.ensures.value c.in_ok-narrow.ensures in
     let is = narrowed_there c.args.texts.files.instance.now c.in_ok-instance.instance c.in_ok-again.again narrow ws
     c.in_ok-instance.ensures.found c.in_ok-again.ensures.found made in
+    let root_is = c.deref-3.ensures.value ∙ c.in_ok-root.ensures ∙ ap (root_of narrow) c.deref-2.ensures.value in
     let stop = c.in_err-bound.field-0.0 in
     rw (e.1, e.2)
     (tells_sum c.args.texts (Give g.R.Source.remaining c.args.proofs.now) _ _ c.in_ok-instance.instance c.in_ok-instance.ensures.found ws
     stop
     c.in_ok-wishes.ensures.found
-    (λ proofs given. subst (λ (q : Problem). IsSumStop q proofs stop.file stop.stop) is (c.in_err-bound.ensures.fault proofs given)))
+    (λ proofs given. made_stop narrow c.deref-3.result.now c.in_ok-instance.instance ws proofs stop is root_is
+    (c.in_err-bound.ensures.fault proofs given)))
 
 pub returns-in_err-page-clause-fault : goal.returns-in_err-page-clause-fault
 returns-in_err-page-clause-fault g c =
@@ -76,12 +76,14 @@ returns-in_err-page-clause-fault g c =
     let made = subst (λ (us : List Wish). narrow ≡ narrowed c.in_ok-again.again us) c.deref.ensures.value c.in_ok-narrow.ensures in
     let is = narrowed_there c.args.texts.files.instance.now c.in_ok-instance.instance c.in_ok-again.again narrow ws
     c.in_ok-instance.ensures.found c.in_ok-again.ensures.found made in
+    let root_is = c.deref-3.ensures.value ∙ c.in_ok-root.ensures ∙ ap (root_of narrow) c.deref-2.ensures.value in
     let bound = c.in_ok-bound.bound in
     rw (e.1, e.2)
     (tells_output c.args.texts (Give g.R.Source.remaining c.args.proofs.now) _ _ c.in_ok-instance.instance c.in_ok-table.table
     (record { spelled = c.in_ok-instance.ensures.found; solved = c.in_ok-table.ensures.found })
     c.in_ok-labels.labels ws bound c.in_err-page.field-0.0 c.in_ok-labels.ensures c.in_ok-wishes.ensures.found
-    (λ proofs given. subst (λ (q : Problem). IsSum q proofs bound) is (c.in_ok-bound.ensures.found proofs given))
+    (λ proofs given. made_sum narrow c.deref-3.result.now c.in_ok-instance.instance ws proofs bound is root_is
+    (c.in_ok-bound.ensures.found proofs given))
     (λ failed. subst (λ (x : Proved). TakesPart (g.W.Sink.contents c.args.sink.now) (g.W.Sink.contents c.page.new.sink)
     (page_text c.in_ok-instance.instance c.in_ok-table.table c.in_ok-labels.labels x
     c.args.texts.style.now)) c.kept-proved.ensures (c.in_err-page.ensures.part (ap (λ f. Err f) failed)))
@@ -100,6 +102,7 @@ returns-clause-written g c =
     let made = subst (λ (us : List Wish). narrow ≡ narrowed c.in_ok-again.again us) c.deref.ensures.value c.in_ok-narrow.ensures in
     let is = narrowed_there c.args.texts.files.instance.now c.in_ok-instance.instance c.in_ok-again.again narrow ws
     c.in_ok-instance.ensures.found c.in_ok-again.ensures.found made in
+    let root_is = c.deref-3.ensures.value ∙ c.in_ok-root.ensures ∙ ap (root_of narrow) c.deref-2.ensures.value in
     let bound = c.in_ok-bound.bound in
     let text : Proved → List ℕ = λ x. page_text c.in_ok-instance.instance c.in_ok-table.table c.in_ok-labels.labels x c.args.texts.style.now
     in
@@ -118,6 +121,7 @@ returns-clause-written g c =
       };
       listed = ws;
       spelled = c.in_ok-wishes.ensures.found;
-      sum = λ proofs given. subst (λ (q : Problem). IsSum q proofs bound) is (c.in_ok-bound.ensures.found proofs given);
-      holds = holds_of_narrowed c.in_ok-instance.instance narrow ws bound is c.in_ok-bound.ensures.holds;
+      sum = λ proofs given. made_sum narrow c.deref-3.result.now c.in_ok-instance.instance ws proofs bound is root_is
+          (c.in_ok-bound.ensures.found proofs given);
+      holds = made_holds narrow c.deref-3.result.now c.in_ok-instance.instance ws bound is root_is c.in_ok-bound.ensures.holds;
     }

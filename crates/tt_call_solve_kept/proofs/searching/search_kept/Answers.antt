@@ -1,4 +1,6 @@
-use Rattle.tt_call_kept.proofs.Holding.{holds_of_narrowed}
+use Rattle.std.specs.Prelude.{min}
+use Rattle.tt_wishes_best.specs.declared.limit.TheConstants.{MAX_KEPT}
+use Rattle.tt_call_best_kept.proofs.Keeping.{kept_holds}
 use Rattle.tt_call_solve_kept.proofs.Answering.{outcome_there, over_long, proof_given}
 use Rattle.tt_call_solve_kept.proofs.searching.search_kept.Goals as goal
 
@@ -12,8 +14,9 @@ returns-in_default-clause-fault g c =
       bound = solved.bound;
       nodes = solved.proof.items;
       finished = solved.finished;
-      outcome = outcome_there w.instance.now w.narrow.now w.wishes.now c.args.tree.nodes _ is.best solved.bound solved.proof.items
-          solved.finished c.requires.narrow is.outcome;
+      first = is.first;
+      outcome = outcome_there w is.first c.min-nodes.result (min c.args.tree.nodes MAX_KEPT) _ is.best solved.bound solved.proof.items
+          solved.finished c.requires.narrow c.min-nodes.ensures is.outcome;
       large = over_long solved.bound solved.proof.items c.deref.result.now c.in_ok-text.field-0 c.deref.ensures.value c.in_default.is
           c.in_ok-text.ensures;
     }
@@ -29,9 +32,10 @@ returns-clause-found g c =
       bound = solved.bound;
       nodes = solved.proof.items;
       finished = solved.finished;
-      outcome = outcome_there w.instance.now w.narrow.now w.wishes.now c.args.tree.nodes _ is.best solved.bound solved.proof.items
-          solved.finished c.requires.narrow is.outcome;
-      holds = holds_of_narrowed w.instance.now w.narrow.now w.wishes.now solved.bound c.requires.narrow is.outcome.outcome.holds;
+      first = is.first;
+      outcome = outcome_there w is.first c.min-nodes.result (min c.args.tree.nodes MAX_KEPT) _ is.best solved.bound solved.proof.items
+          solved.finished c.requires.narrow c.min-nodes.ensures is.outcome;
+      holds = kept_holds w c.requires.narrow solved.bound is.outcome.outcome.holds;
       table = solved.table;
       fits = is.table;
       no_worse = is.no_worse;

@@ -48,7 +48,7 @@ returns-clause-none c =
     let given = subst (λ l. AllZip Gives c.loop-proof.sources.items (texts_of l)) all c.loop-proof.invariant in
     let known = subst (λ (l : List (Peeked Rest)). AllZip Gives l texts) (sym c.as_mut_slice.ensures.value) given in
     let stopped = c.in-Err.ensures.fault texts known in
-    let long = c.sum_proofs.auto.sources ∙ zip_length Gives _ texts known in
+    let long = c.sum_proofs_on.auto.sources ∙ zip_length Gives _ texts known in
     none_by c.no_sum.result
-    (refused_by p texts stop.file stop.stop stopped (unread p texts stop _ long stopped c.in-Err.ensures.failed)
+    (refused_by p c.args.root.now texts stop.file stop.stop stopped (unread p c.args.root.now texts stop _ long stopped c.in-Err.ensures.failed)
     (λ b h within. c.in-Err.ensures.only texts b known h within)) c.no_sum.ensures.memory

@@ -2,4 +2,4 @@ use Rattle.tt_proof_check.proofs.OneFault.{one_fault}
 use Rattle.tt_proof_check.proofs.laws.proofs_have_one_fault.Goals as goal
 
 pub returns : goal.returns
-returns c = λ p s f g h k. one_fault p s f g h k
+returns c = λ p root s f g h k. one_fault p root s f g h k

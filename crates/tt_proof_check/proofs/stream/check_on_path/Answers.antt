@@ -18,9 +18,10 @@ returns-clause-fault g c =
     let checked = c.in_ok-check_tree.ensures in
     let f = c.in-Err-finish.fault in
     let p = g.P.Path.problem c.args.path.now in
+    let root = g.P.Path.facts c.args.path.now in
     let s = stream_at fresh (g.R.Source.remaining c.args.source.now) in
     let known = start.known k in
-    text_reported c.stop_from_text-in-Err-finish.result f (IsProofFault p s) c.stop_from_text-in-Err-finish.ensures
+    text_reported c.stop_from_text-in-Err-finish.result f (IsProofFault p root s) c.stop_from_text-in-Err-finish.ensures
     (λ calm. inr (
       reader.version,
       reader.bound,
@@ -43,7 +44,7 @@ returns-in-Ok-finish-clause-proved g c =
     let checked = c.in_ok-check_tree.ensures in
     let known = is_some (g.R.Source.remaining c.args.source.now) in
     let s = stream_at fresh (g.R.Source.remaining c.args.source.now) in
-    subst (λ (b : Bound). Proved (g.P.Path.problem c.args.path.now) known
+    subst (λ (b : Bound). Proved (g.P.Path.problem c.args.path.now) (g.P.Path.facts c.args.path.now) known
     (Visited g.L.NodeVisitor.visits 0 c.args.visitor.now c.check_tree.new.visitor) s b) (sym c.bound-bound.ensures) (record {
       version = reader.version;
       tree = checked.checked.tree;

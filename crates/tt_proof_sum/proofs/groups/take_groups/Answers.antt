@@ -48,9 +48,9 @@ returns-in-Ok-None-clause-joins g c =
     (λ k. subst (λ (x : Result (Option GroupClaim) TextFault). IsReadingOf r (stream_at r.fed now) x (stream_at after.fed later)) is
     (e.read u.sound k)) in
     reached_ok c.reached.result c.loop-claim.total c.bound.result _ c.reached.ensures
-    (λ enough before parts known of begins kept kind.
+    (λ enough root before parts known of begins kept kind.
     rw bound_is (joins p c.days.ensures.instance start c.args.table.now r now c.loop-claim.table c.loop-claim.number c.loop-claim.total
-    u parts before of begins known kept kind later after finish (omega (arith, enough, bound_is))))
+    u parts before of begins root known kept kind later after finish (omega (arith, enough, bound_is))))
 
 pub returns-in-Ok-None-clause-fault : goal.returns-in-Ok-None-clause-fault
 returns-in-Ok-None-clause-fault g c =
@@ -70,7 +70,7 @@ returns-in-Ok-None-clause-fault g c =
     (λ k. subst (λ (x : Result (Option GroupClaim) TextFault). IsReadingOf r (stream_at r.fed now) x (stream_at after.fed later)) is
     (e.read u.sound k)) in
     reached_err c.reached.result c.loop-claim.total c.bound.result _ c.reached.ensures
-    (λ below before parts bytes of begins known kind.
+    (λ below root before parts bytes of begins known kind.
     cheap_fault p c.days.ensures.instance start c.args.table.now r now c.loop-claim.table c.loop-claim.number c.loop-claim.total u parts
     before of begins bytes known kind later after finish (omega (arith, below, bound_is))
     (let small = c.bound.type_inv in omega (arith, small, bound_is)))
@@ -88,14 +88,14 @@ returns-in-Err-next_group-clause-fault g c =
     λ k. subst (λ (x : Result (Option GroupClaim) TextFault). IsReadingOf r (stream_at r.fed now) x (stream_at after.fed later))
     c.in-Err-next_group.is (c.next_group.ensures.read u.sound k) in
     reported_fault c.stop_from_text-in-Err-next_group.result (Text c.in-Err-next_group.fault) c.stop_from_text-in-Err-next_group.ensures _
-    (λ calm before parts bytes of begins known kind.
+    (λ calm root before parts bytes of begins known kind.
     text_fault p c.days.ensures.instance start c.args.table.now r now c.loop-claim.table c.loop-claim.number c.loop-claim.total u after
     later c.in-Err-next_group.fault parts before of begins says bytes known kind calm)
 
 pub returns-in-Err-clause-fault : goal.returns-in-Err-clause-fault
 returns-in-Err-clause-fault g c =
     reported_fault c.stop_from_text.result c.in-Err.fault c.stop_from_text.ensures _
-    (λ calm before parts bytes of begins known kind.
+    (λ calm root before parts bytes of begins known kind.
     header_fault c.args.instance.now parts bytes (g.R.Source.remaining c.args.source.now) (g.R.Source.remaining c.new.new.source) known kind
     c.in-Err.fault c.in-Err.ensures.read calm)
 
@@ -141,14 +141,14 @@ returns-in_err-take_claim-clause-fault g c =
     λ kn. subst (λ (x : Result (Option GroupClaim) TextFault). IsReadingOf r (stream_at r.fed now) x (stream_at after.fed later)) is
     (e.read u.sound kn) in
     let f = err_from_is_err_and c.from_residual.result c.from_residual.ensures.1 in
-    rw (f.1, f.2) (OnFault-weaker c.in_err-take_claim.field-0.0 _ _ (λ x explains before parts bytes of begins known kind.
+    rw (f.1, f.2) (OnFault-weaker c.in_err-take_claim.field-0.0 _ _ (λ x explains root before parts bytes of begins known kind.
     let kn : is_some start ≡ true = ap is_some known in
     claim_fault p c.days.ensures.instance start c.args.table.now r now c.loop-claim.table c.loop-claim.number c.loop-claim.total u parts
     before of begins k
     (claim_is p c.days.ensures.instance start c.args.table.now r now c.loop-claim.table c.loop-claim.number c.loop-claim.total u k
     claim) kn (stream_at after.fed later)
     (reading_claim p c.days.ensures.instance start c.args.table.now r now c.loop-claim.table c.loop-claim.number c.loop-claim.total u
-    after later e.known k says kn) bytes known kind x explains) c.in_err-take_claim.ensures.fault)
+    after later e.known k says kn) root bytes known kind x explains) c.in_err-take_claim.ensures.fault)
 
 pub loop-claim-preserved : goal.loop-claim-preserved
 loop-claim-preserved g c =

@@ -10,25 +10,27 @@ pub returns-in-Some-clause-fault : goal.returns-in-Some-clause-fault
 returns-in-Some-clause-fault g c =
     λ before parts bytes of begins known kind.
     let p = c.args.instance.now in
+    let root = c.args.root.now in
     let remaining = g.R.Source.remaining c.args.source.now in
-    let b = c.check_proof_with.new.visitor in
-    let visited = subst (λ (a : State). IsVisitedProof p remaining (TableVisited a b) c.in-Ok.bound) begins c.in-Ok.ensures.visited in
-    claimed_elsewhere p remaining before b parts of c.in-Ok.bound visited c.days.ensures.instance bytes known c.in-Some.clash
+    let b = c.check_proof_on.new.visitor in
+    let visited = subst (λ (a : State). IsVisitedProof p root remaining (TableVisited a b) c.in-Ok.bound) begins c.in-Ok.ensures.visited in
+    claimed_elsewhere p root remaining before b parts of c.in-Ok.bound visited c.days.ensures.instance bytes known c.in-Some.clash
     (sym c.clash.ensures ∙ c.in-Some.is)
 
 pub returns-clause-joins : goal.returns-clause-joins
 returns-clause-joins g c =
     λ before parts of begins.
     let p = c.args.instance.now in
+    let root = c.args.root.now in
     let remaining = g.R.Source.remaining c.args.source.now in
-    let b = c.check_proof_with.new.visitor in
-    let visited = subst (λ (a : State). IsVisitedProof p remaining (TableVisited a b) c.in-Ok.bound) begins c.in-Ok.ensures.visited in
-    joins p remaining before b parts of c.in-Ok.bound visited (sym c.clash.ensures ∙ c.in_default.is)
+    let b = c.check_proof_on.new.visitor in
+    let visited = subst (λ (a : State). IsVisitedProof p root remaining (TableVisited a b) c.in-Ok.bound) begins c.in-Ok.ensures.visited in
+    joins p root remaining before b parts of c.in-Ok.bound visited (sym c.clash.ensures ∙ c.in_default.is)
 
 pub returns-clause-proof : goal.returns-clause-proof
 returns-clause-proof g c =
-    newest c.args.instance.now (g.R.Source.remaining c.args.source.now) c.args.table.now c.check_proof_with.new.visitor c.requires
-    c.in-Ok.bound c.in-Ok.ensures.visited
+    newest c.args.instance.now c.args.root.now (g.R.Source.remaining c.args.source.now) c.args.table.now c.check_proof_on.new.visitor
+    c.requires c.in-Ok.bound c.in-Ok.ensures.visited
 
 pub returns-in-Err-clause-fault : goal.returns-in-Err-clause-fault
 returns-in-Err-clause-fault g c =

@@ -10,7 +10,7 @@ use Rattle.tt_proof_sum.proofs.prices.take_prices.Goals as goal
 pub returns-in-Err-clause-fault : goal.returns-in-Err-clause-fault
 returns-in-Err-clause-fault g c =
     at_mapped Prices c.in-Err.stop c.stop_from_prices.result c.stop_from_prices.ensures _
-    (OnFault-weaker c.in-Err.stop _ _ (λ f explains before parts bytes of begins known kind.
+    (OnFault-weaker c.in-Err.stop _ _ (λ f explains root before parts bytes of begins known kind.
     record { kind = kind; fault = explains bytes known }) c.in-Err.ensures.fault)
 
 pub returns-in-Err-clause-lower : goal.returns-in-Err-clause-lower
@@ -28,7 +28,7 @@ returns-in-Err-clause-up_to_failed_read g c =
 
 pub returns-in-Some-clause-fault : goal.returns-in-Some-clause-fault
 returns-in-Some-clause-fault g c =
-    λ before parts bytes of begins known kind.
+    λ root before parts bytes of begins known kind.
     let n = c.courses-courses.result in
     let found = c.in-Some.ensures.some in
     prices_claimed c.args.instance.now c.days.ensures.instance (g.R.Source.remaining c.args.source.now) c.in-Ok.claim n
@@ -37,10 +37,10 @@ returns-in-Some-clause-fault g c =
 
 pub returns-clause-joins : goal.returns-clause-joins
 returns-clause-joins g c =
-    λ before parts known of begins kept kind.
+    λ root before parts known of begins kept kind.
     let n = c.courses-courses.result in
     let b = c.mark_claim.new.self in
     prices_join c.args.instance.now c.days.ensures.instance (g.R.Source.remaining c.args.source.now) c.in-Ok.claim n
-    c.courses-courses.ensures.value c.in-Ok.ensures.right before parts of b
+    c.courses-courses.ensures.value c.in-Ok.ensures.right before parts of root b
     (subst (λ (a : State). first_owner a (claim_places n c.in-Ok.claim) ≡ None) begins c.in_default.ensures.none)
     (subst (λ (a : State). Marks a (claim_places n c.in-Ok.claim) b) begins c.mark_claim.ensures) known kept kind

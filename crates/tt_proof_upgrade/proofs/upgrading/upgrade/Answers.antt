@@ -1,4 +1,4 @@
-use Rattle.std.proofs.Common.{true, if◌then◌else◌, Err, refl, ap, subst, sym, ◌∙◌}
+use Rattle.std.proofs.Common.{[], true, if◌then◌else◌, Err, refl, ap, subst, sym, ◌∙◌}
 use Rattle.std.proofs.lemmas.Result.{err_from_is_err_and}
 use Rattle.std.specs.Prelude.{All}
 use Rattle.tt_stop.specs.declared.stop.Stop.TheVariants.{ReadFailed}
@@ -59,7 +59,7 @@ returns-in_err-bytes-clause-fault g c =
     let read = c.in-Ok.read in
     rw (e.1, e.2) (OnFault-weaker c.in_err-bytes.field-0.0 _ _
     (λ f tells bytes known. write_tells p (stream_of bytes) read.version read.bound read.nodes.items
-    (c.in-Ok.ensures.read bytes known) (subst (Proves p read.bound) c.deref.ensures.value c.in_ok-check_tree.ensures.proves) f tells)
+    (c.in-Ok.ensures.read bytes known) (subst (Proves p [] read.bound) c.deref.ensures.value c.in_ok-check_tree.ensures.proves) f tells)
     (rw c.deref-2.ensures.value at c.in_err-bytes.ensures.fault))
 
 pub returns-clause-found : goal.returns-clause-found
@@ -67,7 +67,7 @@ returns-clause-found g c =
     let p = c.args.instance.now in
     let read = c.in-Ok.read in
     λ bytes known. upgraded p bytes c.in_ok-bytes.bytes.items read.version read.bound read.nodes.items
-    (c.in-Ok.ensures.read bytes known) (subst (Proves p read.bound) c.deref.ensures.value c.in_ok-check_tree.ensures.proves)
+    (c.in-Ok.ensures.read bytes known) (subst (Proves p [] read.bound) c.deref.ensures.value c.in_ok-check_tree.ensures.proves)
     c.in-Ok.ensures.nodes
     (rw c.deref-2.ensures.value at c.in_ok-bytes.ensures.text)
     (λ tree e each. c.in_ok-bytes.ensures.again p tree (e ∙ sym c.deref-2.ensures.value)
@@ -84,7 +84,7 @@ pub returns-clause-holds : goal.returns-clause-holds
 returns-clause-holds g c =
     let p = c.args.instance.now in
     let read = c.in-Ok.read in
-    proof_sound p read.bound read.nodes.items (subst (Proves p read.bound) c.deref.ensures.value c.in_ok-check_tree.ensures.proves)
+    proof_sound p read.bound read.nodes.items (subst (Proves p [] read.bound) c.deref.ensures.value c.in_ok-check_tree.ensures.proves)
 
 pub returns-in_err-check_tree-clause-lower : goal.returns-in_err-check_tree-clause-lower
 returns-in_err-check_tree-clause-lower g c =

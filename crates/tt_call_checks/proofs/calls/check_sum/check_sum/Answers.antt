@@ -1,5 +1,7 @@
 use Rattle.std.proofs.Common.{◌+◌, ℕ, Err, refl, sym, ap, subst, ◌∙◌, inl, inr}
+use Rattle.std.proofs.lemmas.List.Elements.{All-nil}
 use Rattle.std.proofs.lemmas.Result.{err_from_is_err_and}
+use Rattle.tt_path.specs.Facts.{Holds}
 use Rattle.tt_proof_check.proofs.TextFaults.{err_same}
 use Rattle.tt_proof_check.proofs.Certifying.{points, no_points, is_feasible, not_broken, broken_found}
 use Rattle.tt_proof_sum.specs.Added.{Give}
@@ -76,8 +78,8 @@ returns-then-not-feasible-clause-yes g c =
     c.in_ok-instance.ensures.found c.in_ok-table.ensures.found c.score-score.result c.score-score.ensures files n b
     (points c.feasible.result _ c.feasible.ensures c.if-not-feasible.true) h within)
 
-pub summed_bound-requires : goal.summed_bound-requires
-summed_bound-requires g c = is_feasible c.args.instance.now c.args.solution.now c.in_ok-instance.instance c.in_ok-table.table
+pub summed_bound-requires-clause-feasible : goal.summed_bound-requires-clause-feasible
+summed_bound-requires-clause-feasible g c = is_feasible c.args.instance.now c.args.solution.now c.in_ok-instance.instance c.in_ok-table.table
     c.in_ok-instance.ensures.found c.in_ok-table.ensures.found c.score-score.result c.score-score.ensures
     (no_points c.feasible.result _ c.feasible.ensures c.if-not-feasible.false)
 
@@ -137,7 +139,7 @@ returns-clause-found g c =
           c.in_ok-table.ensures.found c.score-score.result c.score-score.ensures
           (Give g.R.Source.remaining c.args.proofs.now) c.in_ok-bound.bound
           (no_points c.feasible.result _ c.feasible.ensures c.if-not-feasible.false) c.in_ok-bound.ensures.found
-          c.in_ok-bound.ensures.holds);
+          (λ t ok. c.in_ok-bound.ensures.holds t ok (All-nil (Holds c.in_ok-instance.instance t))));
       answer = c.in_ok-yes_answer.ensures;
     })
 
@@ -183,3 +185,6 @@ returns-in_err-bound-clause-failed g c =
 
 pub returns-then-not-feasible-clause-failed : goal.returns-then-not-feasible-clause-failed
 returns-then-not-feasible-clause-failed g c = λ i r found. unread g.R.Source.has_failed c.args.proofs.now i r found
+
+pub summed_bound-requires-clause-fits : goal.summed_bound-requires-clause-fits
+summed_bound-requires-clause-fits g c = All-nil (Holds c.in_ok-instance.instance c.in_ok-table.table)

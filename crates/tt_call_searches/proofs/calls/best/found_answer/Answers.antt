@@ -1,6 +1,7 @@
 use Rattle.std.proofs.Common.{ℕ, List, refl, sym, ap, subst, ◌∙◌, arith}
 use Rattle.std.specs.Prelude.{Vec}
 use Rattle.std.specs.Global.{Global}
+use Rattle.tt_proof_check.proofs.Soundness.{holds_rootless}
 use Rattle.tt_proof_sum.specs.Sums.{IsSum}
 use Rattle.tt_parts.specs.Found.{texts_of}
 use Rattle.tt_call_searches.proofs.Certified.{whole}
@@ -18,8 +19,8 @@ returns c =
     let sum = subst (λ (files : List (List ℕ)). IsSum a.instance.now files parts.bound) (sym same) c.requires.parts.sum in
     let is = whole i solution.field-0.items a.instance.now a.table.now (texts_of copies.field-0.items) page.field-0 names
     a.look.now.labels.now a.look.now.style.now parts.bound a.cost
-    c.in-AtLeast.points spells solution.ensures.again c.requires.feasible c.requires.cost sum c.requires.parts.holds c.in-AtLeast.is
-    named page.ensures in
+    c.in-AtLeast.points spells solution.ensures.again c.requires.feasible c.requires.cost sum
+    (holds_rootless a.instance.now parts.bound c.requires.parts.holds) c.in-AtLeast.is named page.ensures in
     record {
       found = record {
         solution = solution.field-0.items;

@@ -1,6 +1,0 @@
-use Rattle.tt_wishes_best.proofs.Narrowing.{found_of_instance}
-use Rattle.tt_wishes_best.proofs.solving.solve_kept.Goals as goal
-
-pub found_or_constructed-requires-clause-found : goal.found_or_constructed-requires-clause-found
-found_or_constructed-requires-clause-found g c =
-    found_of_instance c.args.wishing c.in_ok-best.field-0.best c.requires.narrow c.in_ok-best.ensures.outcome.feasible
