@@ -135,7 +135,8 @@ shown_leaf p path (Opened g) s = (best_leaf p path, refl)
 shown_leaf p path Unopened s = (best_leaf p path, refl)
 
 pub opening : (p : Problem) (root facts : List Fact) (old new : Option Best) (links : List Link) (tree_nodes more : List TreeNode)
-    (place : ℕ) (e put : TreeNode) → IsGrown p root (table_of old) links tree_nodes → Advances p facts old new → slice_get tree_nodes place ≡ Some e
+    (place : ℕ) (e put : TreeNode) → IsGrown p root (table_of old) links tree_nodes → Advances p facts old new
+    → slice_get tree_nodes place ≡ Some e
     → e.mark ≡ Unopened → put.link ≡ e.link → IsKnown p (table_of new) (path_at root links e.link) put.mark
     → was_opened put.mark ≡ true → IsSingle put.mark → more ≡ slice_set tree_nodes place put → IsOpening p root new links tree_nodes more
 opening p root facts old new links tree_nodes more place e put grown better at waits same known opened single is =

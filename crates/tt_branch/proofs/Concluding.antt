@@ -232,7 +232,8 @@ module _ (p : Problem) (ok : IsInstance p) where
         prices = All-from_recursion HasShortPrices nodes (each_weaker (IsFit p) HasShortPrices (λ n f. short_prices n f.short) nodes fits);
         depth = λ tree e.
             leaves_low 65536 tree
-            (subst (λ l. All (λ x. length x.path ≤ 65536) l) (sym (whole_places [] u.grown.tree nodes spelled) ∙ whole_places [] tree nodes e)
+            (subst (λ l. All (λ x. length x.path ≤ 65536) l)
+            (sym (whole_places [] u.grown.tree nodes spelled) ∙ whole_places [] tree nodes e)
             (All-from_recursion (λ x. length x.path ≤ 65536) (on_paths [] u.grown.tree)
             (shallow_alone p root best links tree_nodes u.grown (omega arith))));
       };

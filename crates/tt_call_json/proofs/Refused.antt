@@ -13,13 +13,15 @@ use Rattle.tt_call_wishes.specs.Wished.{fault_from_solution, fault_from_wishes}
 use Rattle.tt_call_json.specs.Counts.{FailsGiven, IsCountsRefusal}
 
 -- an error of the solution is reported
-pub tells_solution : (i s : List ℕ) (w : Option (List ℕ)) (p : Problem) (f : SolutionFault) → Spells i p → FailsSolutionText f (solution_of p s)
+pub tells_solution : (i s : List ℕ) (w : Option (List ℕ)) (p : Problem) (f : SolutionFault) → Spells i p
+    → FailsSolutionText f (solution_of p s)
     → IsCountsRefusal i s w (fault_from_solution f)
 tells_solution i s w p solution.OutOfMemory spelled h = tt
 tells_solution i s w p f spelled h = record { problem = p; spelled = spelled; fails = h }
 
 -- an error of the wishes is reported
-pub tells_wishes : (i s : List ℕ) (w : Option (List ℕ)) (p : Problem) (t : List Cell) (f : WishesFault) → SpellsBoth i s p t → FailsGiven p w f
+pub tells_wishes : (i s : List ℕ) (w : Option (List ℕ)) (p : Problem) (t : List Cell) (f : WishesFault) → SpellsBoth i s p t
+    → FailsGiven p w f
     → IsCountsRefusal i s w (fault_from_wishes f)
 tells_wishes i s None p t f both h = absurd h
 tells_wishes i s (Some bytes) p t wishes.OutOfMemory both h = tt

@@ -64,7 +64,8 @@ pub tells_sum : (f : KeptFiles) (p : Problem) (ws : List Wish) (gives : List (Li
     → IsSumRefusal f gives (fault.Call (fault_from_sum s))
 tells_sum f p ws gives s spelled h = on s.file s.stop h
   where
-    on : (n : ℕ) (x : Stop FileFault) → ((proofs : List (List ℕ)) → gives proofs → IsSumStopOn (narrowed p ws) (root_of (narrowed p ws) ws) proofs n x)
+    on : (n : ℕ) (x : Stop FileFault) → ((proofs : List (List ℕ)) → gives proofs
+        → IsSumStopOn (narrowed p ws) (root_of (narrowed p ws) ws) proofs n x)
         → IsSumRefusal f gives (fault.Call (fault_at_file n x))
     on n (Fault e) h = record { problem = p; listed = ws; spelled = spelled; fails = h }
     on n ReadFailed h = record { problem = p; listed = ws; spelled = spelled; fails = h }
@@ -82,7 +83,8 @@ memory_silent e c b n is = rw is (inl refl)
 
 module _ (f : KeptFiles) (s : List ℕ) (p : Problem) (t : List Cell) (ws : List Wish) (spelled : SpellsAll f s p t ws) (c b n : ℕ) where
   -- if all files are spelled, an error of one of them is being out of memory
-  pub instance_silent : (e : InstanceFault) → Fails e (instance_of f.instance.now) → AnswersYes (Err (fault.Call (fault_from_instance e))) c b n
+  pub instance_silent : (e : InstanceFault) → Fails e (instance_of f.instance.now)
+      → AnswersYes (Err (fault.Call (fault_from_instance e))) c b n
   instance_silent e h = memory_silent (fault.Call (fault_from_instance e)) c b n
       (only_memory f p ws (fault.Call (fault_from_instance e)) spelled.kept (tells_instance f e h))
 

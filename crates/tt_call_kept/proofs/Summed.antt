@@ -42,7 +42,8 @@ pub same_root : (f : KeptFiles) (narrow : Problem) (root other : List Fact) (n :
 same_root f narrow root other n e is = rw e is
 
 -- it is made of those that the bytes spell
-pub narrowed_once : (f : KeptFiles) (narrow : Problem) (root : List Fact) (n : ℕ) (p : Problem) (ws : List Wish) → IsNarrowed f narrow root n
+pub narrowed_once : (f : KeptFiles) (narrow : Problem) (root : List Fact) (n : ℕ) (p : Problem) (ws : List Wish)
+    → IsNarrowed f narrow root n
     → SpellsKept f p ws → AreMade narrow root n p ws
 narrowed_once f narrow root n p ws is spelled =
     let e = spelled_kept_once f is.problem p is.listed ws is.spelled spelled in
@@ -66,7 +67,8 @@ sum_made narrow root n p ws proofs b made h within =
     rw (made.narrowed_is, made.root_is) there
 
 -- the same with both sides exchanged
-pub made_sum : (narrow : Problem) (root : List Fact) (p : Problem) (ws : List Wish) (proofs : List (List ℕ)) (b : Bound) → narrow ≡ narrowed p ws
+pub made_sum : (narrow : Problem) (root : List Fact) (p : Problem) (ws : List Wish) (proofs : List (List ℕ)) (b : Bound)
+    → narrow ≡ narrowed p ws
     → root ≡ root_of narrow ws → IsSumOn narrow root proofs b → IsSumKept p ws proofs b
 made_sum narrow root p ws proofs b is root_is sum =
     subst (λ (q : Problem). IsSumOn q (root_of q ws) proofs b) is (subst (λ (r : List Fact). IsSumOn narrow r proofs b) root_is sum)
@@ -91,7 +93,8 @@ summed f gives narrow root n b a is sum holds answer = record {
 }
 
 -- a stop for what was made of the wishes is one under them
-pub made_stop : (narrow : Problem) (root : List Fact) (p : Problem) (ws : List Wish) (proofs : List (List ℕ)) (s : SumStop) → narrow ≡ narrowed p ws
+pub made_stop : (narrow : Problem) (root : List Fact) (p : Problem) (ws : List Wish) (proofs : List (List ℕ)) (s : SumStop)
+    → narrow ≡ narrowed p ws
     → root ≡ root_of narrow ws → IsSumStopOn narrow root proofs s.file s.stop
     → IsSumStopOn (narrowed p ws) (root_of (narrowed p ws) ws) proofs s.file s.stop
 made_stop narrow root p ws proofs s is root_is h =
@@ -99,7 +102,9 @@ made_stop narrow root p ws proofs s is root_is h =
     (subst (λ (r : List Fact). IsSumStopOn narrow r proofs s.file s.stop) root_is h)
 
 -- a sum that was stopped is reported
-pub stopped : (f : KeptFiles) (gives : List (List ℕ) → Type 0) (narrow : Problem) (root : List Fact) (n : ℕ) (s : SumStop) → IsNarrowed f narrow root n
-    → ((proofs : List (List ℕ)) → gives proofs → IsSumStopOn narrow root proofs s.file s.stop) → IsSumRefusal f gives (fault.Call (fault_from_sum s))
+pub stopped : (f : KeptFiles) (gives : List (List ℕ) → Type 0) (narrow : Problem) (root : List Fact) (n : ℕ) (s : SumStop)
+    → IsNarrowed f narrow root n
+    → ((proofs : List (List ℕ)) → gives proofs → IsSumStopOn narrow root proofs s.file s.stop)
+    → IsSumRefusal f gives (fault.Call (fault_from_sum s))
 stopped f gives narrow root n s is h = tells_sum f is.problem is.listed gives s is.spelled
     (λ proofs given. made_stop narrow root is.problem is.listed proofs s is.is is.root_is (h proofs given))

@@ -72,7 +72,8 @@ module _ (a : PageTexts) (gives : List (List ℕ) → Type 0) (before after : Op
         → IsKeptPageRefusal a gives before after (fault.Call (fault_from_sum s))
     tells_sum ws s wished h = on s.file s.stop h
       where
-        on : (n : ℕ) (x : Stop FileFault) → ((proofs : List (List ℕ)) → gives proofs → IsSumStopOn (narrowed p ws) (root_of (narrowed p ws) ws) proofs n x)
+        on : (n : ℕ) (x : Stop FileFault) → ((proofs : List (List ℕ)) → gives proofs
+            → IsSumStopOn (narrowed p ws) (root_of (narrowed p ws) ws) proofs n x)
             → IsKeptPageRefusal a gives before after (fault.Call (fault_at_file n x))
         on n (Fault e) h =
             record { problem = p; listed = ws; spelled = record { instance_is = spelled; wishes_are = wished }; fails = h }

@@ -33,9 +33,11 @@ tells_files f limit ended (fault.Call app.ProofTooLarge) h = absurd h
 tells_files f limit ended e h = h
 
 -- a search in the instance that the wishes narrow, below their root
-pub outcome_there : (w : Wishing) (first : List Cell) (here limit : ℕ) (ended : Type 0) (best : Option (List Cell)) (b : Bound) (nodes : List Node)
+pub outcome_there : (w : Wishing) (first : List Cell) (here limit : ℕ) (ended : Type 0) (best : Option (List Cell)) (b : Bound)
+    (nodes : List Node)
     (finished : Bool) → IsNarrowing w → here ≡ limit → IsOutcomeUntil w.narrow.now w.root.now (Some first) here ended best b nodes finished
-    → IsOutcomeUntil (narrowed w.instance.now w.wishes.now) (root_of (narrowed w.instance.now w.wishes.now) w.wishes.now) (Some first) limit ended best b
+    → IsOutcomeUntil (narrowed w.instance.now w.wishes.now) (root_of (narrowed w.instance.now w.wishes.now) w.wishes.now)
+    (Some first) limit ended best b
     nodes finished
 outcome_there w first here limit ended best b nodes finished is same outcome =
     subst (λ (q : Problem). IsOutcomeUntil q (root_of q w.wishes.now) (Some first) limit ended best b nodes finished) is.is

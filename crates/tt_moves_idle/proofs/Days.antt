@@ -50,7 +50,8 @@ compact_week p t q ok days =
 -- a day is compact if no bit stands alone
 pub compact_day : (p : Problem) (t : List Cell) (q d taken left : ℕ) → IsTimetable p t → p.periods ≤ 64
     → ((s : ℕ) → s < 64 → has_bit taken s ≡ nat_lt 0 (entries_at p t q d s))
-    → ((s : ℕ) → s < 64 → has_bit left s ≡ (has_bit taken s && not ((nat_lt 0 s && has_bit taken (s - 1)) || (nat_lt (s + 1) 64 && has_bit taken (s + 1)))))
+    → ((s : ℕ) → s < 64 → has_bit left s ≡ (has_bit taken s && not
+    ((nat_lt 0 s && has_bit taken (s - 1)) || (nat_lt (s + 1) 64 && has_bit taken (s + 1)))))
     → list_any (has_bit left) bits ≡ false → IsCompactOn p t q d
 compact_day p t q d taken left ok short is apart none s = elim (cases_lt s 64) [
   | inl h ↦ sym (isolated_stand p t q d ok short (has_bit taken) is s h) ∙ sym (apart s h) ∙ none-bit left s none h

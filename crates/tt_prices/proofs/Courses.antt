@@ -30,7 +30,8 @@ and_itself true = refl
 and_itself false = refl
 
 -- a test of the entries of a course
-any_of : (c : ℕ) (t : List Cell) (q : Cell → Bool) → list_any (λ e. is_of c e && q e) (filter (is_of c) t) ≡ list_any (λ e. is_of c e && q e) t
+any_of : (c : ℕ) (t : List Cell) (q : Cell → Bool) → list_any (λ e. is_of c e && q e) (filter (is_of c) t)
+    ≡ list_any (λ e. is_of c e && q e) t
 any_of c t q =
     list_any-of_filter (λ e. is_of c e && q e) (is_of c) t
     ∙ list_any-same (λ e. is_of c e && (is_of c e && q e)) (λ e. is_of c e && q e) t (λ e. and_again (is_of c e) (q e))

@@ -18,7 +18,8 @@ use Rattle.tt_rules.proofs.Feasible.{in_range, one_in_each}
 
 module _ (p : Problem) (t : List Cell) (ok : IsFeasible p t) (rent : ℕ → Slot → ℕ) where
   -- what an entry pays is a rent of its room, and of its room in its period
-  in_some_room : (e : Cell) → InRange p e → rent e.room (slot_of e) ≤ sum_by (λ r. cond (is_in r e) (rent e.room (slot_of e)) 0) (all_rooms p)
+  in_some_room : (e : Cell) → InRange p e → rent e.room (slot_of e) ≤ sum_by (λ r. cond (is_in r e) (rent e.room (slot_of e)) 0)
+      (all_rooms p)
   in_some_room e range =
       once_at_least true (λ r. is_in r e) (rent e.room (slot_of e)) (all_rooms p)
       (any_below (λ r. is_in r e) (length p.rooms) e.room range.room (eq-eqb e.room e.room refl))
@@ -30,7 +31,8 @@ module _ (p : Problem) (t : List Cell) (ok : IsFeasible p t) (rent : ℕ → Slo
       (any_slot p (λ s. is_at s e) e.day e.period range.day range.period (at_itself e))
 
   -- in a room and a period the rent is that of the room in the period
-  there : (r : ℕ) (s : Slot) (e : Cell) → cond (is_in r e && is_at s e) (rent e.room (slot_of e)) 0 ≡ cond (is_in r e && is_at s e) (rent r s) 0
+  there : (r : ℕ) (s : Slot) (e : Cell) → cond (is_in r e && is_at s e) (rent e.room (slot_of e)) 0
+      ≡ cond (is_in r e && is_at s e) (rent r s) 0
   there r s e = cond-same (is_in r e && is_at s e) (rent e.room (slot_of e)) (rent r s) (λ h.
       let k = and_parts (is_in r e) (is_at s e) h in
       ap (λ i. rent i (slot_of e)) (eqb-true e.room r k.0) ∙ ap (rent r) (is_at-slot s e k.1))

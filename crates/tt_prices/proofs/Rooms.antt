@@ -72,7 +72,8 @@ module _ (p : Problem) (scale : ℕ) (groups : List PricedGroup) (rent : ℕ →
         ap (λ i. at i e.room) (of_course e m) ∙ ap (at c) same
 
     -- all lectures in one room
-    in_one_room : (r : ℕ) → ((e : Cell) → Contains t e → e.room ≡ r) → signed_sum cost_of t ≡ signed_sum (λ s. cost_of (cell c r s)) (map slot_of t)
+    in_one_room : (r : ℕ) → ((e : Cell) → Contains t e → e.room ≡ r)
+        → signed_sum cost_of t ≡ signed_sum (λ s. cost_of (cell c r s)) (map slot_of t)
     in_one_room r all =
         signed_sum-same_member cost_of (λ e. cost_of (cell c r (slot_of e))) t (λ e m. pays r e m (all e m))
         ∙ sym (signed_sum-of_map (λ s. cost_of (cell c r s)) slot_of t)
@@ -114,7 +115,8 @@ more_than_one x y (z ∷ xs) m apart = omega arith
 
 pub course_bounded : (p : Problem) (scale : ℕ) (groups : List PricedGroup) (rent : ℕ → Slot → ℕ) (c : ℕ) (b : ℤ) (lowest : Slot → ℤ)
     → (lectures p c ≡ 0 → b ≤ℤ pos 0)
-    → ((r : ℕ) → r < length p.rooms → (ss : List Slot) → IsChoice p c ss → b ≤ℤ signed_sum (λ s. cell_cost p scale groups rent (cell c r s)) ss)
+    → ((r : ℕ) → r < length p.rooms → (ss : List Slot) → IsChoice p c ss
+    → b ≤ℤ signed_sum (λ s. cell_cost p scale groups rent (cell c r s)) ss)
     → ((r : ℕ) → r < length p.rooms → (s : Slot) → lowest s ≤ℤ cell_cost p scale groups rent (cell c r s))
     → (2 ≤ lectures p c → (ss : List Slot) → IsChoice p c ss → b ≤ℤ (pos scale +ℤ signed_sum lowest ss))
     → (t : List Cell) → IsPlacing p c t → b ≤ℤ (pos (scale * stability_cost p t c) +ℤ signed_sum (cell_cost p scale groups rent) t)

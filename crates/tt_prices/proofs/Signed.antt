@@ -33,7 +33,8 @@ module _ {X : Type 0} where
   signed_sum-le f g [] le = omega (arith, ints)
   signed_sum-le f g (x ∷ xs) le = let e = signed_sum-le f g xs le.1 in omega (arith, ints, e, le.0)
 
-  pub signed_sum-of_filter : (f : X → ℤ) (p : X → Bool) (xs : List X) → signed_sum f (filter p xs) ≡ signed_sum (λ x. cond (p x) (f x) (pos 0)) xs
+  pub signed_sum-of_filter : (f : X → ℤ) (p : X → Bool) (xs : List X)
+      → signed_sum f (filter p xs) ≡ signed_sum (λ x. cond (p x) (f x) (pos 0)) xs
   signed_sum-of_filter f p [] = refl
   signed_sum-of_filter f p (x ∷ xs) = by_test (p x) (signed_sum-of_filter f p xs)
     where
@@ -56,7 +57,8 @@ pub signed_sum-append : {X : Type 0} (f : X → ℤ) (xs ys : List X) → signed
 signed_sum-append f [] ys = omega (arith, ints)
 signed_sum-append f (x ∷ xs) ys = let e = signed_sum-append f xs ys in omega (arith, ints, e)
 
-pub signed_sum-same_member : {X : Type 0} (f g : X → ℤ) (xs : List X) → ((x : X) → Contains xs x → f x ≡ g x) → signed_sum f xs ≡ signed_sum g xs
+pub signed_sum-same_member : {X : Type 0} (f g : X → ℤ) (xs : List X) → ((x : X) → Contains xs x → f x ≡ g x)
+    → signed_sum f xs ≡ signed_sum g xs
 signed_sum-same_member f g [] same = refl
 signed_sum-same_member f g (x ∷ xs) same =
     ap (λ z. z +ℤ signed_sum f xs) (same x (0, omega arith, refl))

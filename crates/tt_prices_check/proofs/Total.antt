@@ -25,7 +25,8 @@ pub total_word : (v base : ℤ) → IsWithin (2 ^ 57) v → IsWithin (2 ^ 30) ba
 total_word v base few small = sum-of (2 ^ 57) (2 ^ 30) v base (omega arith) few small
 
 -- The sum of the two is the least.
-pub least_total : (p : Problem) (scale : ℕ) (g : PricedGroup) (v base : ℤ) → IsLeastTimetable p scale g (Some v) → base ≡ pos (base_paid p scale g)
+pub least_total : (p : Problem) (scale : ℕ) (g : PricedGroup) (v base : ℤ) → IsLeastTimetable p scale g (Some v)
+    → base ≡ pos (base_paid p scale g)
     → IsWithin (2 ^ 57) v → IsWithin (2 ^ 30) base
     → IsLeast p scale g (Some (to_z w64 (of_z w64 (to_z w64 (of_z w64 v) +ℤ to_z w64 (of_z w64 base)))))
 least_total p scale g v base least is few small =

@@ -60,7 +60,8 @@ module _ (p : Problem) (scale : ℕ) (g : PricedGroup) (weights : List ℕ) (d :
         begun.is.counts i ∙ sym (count_prefix (λ s. day s (slice_index cs i)) (λ x. has_course x i) before (λ s x e. begins s x e i l))
         ∙ ap (λ n. count_by (λ s. day s (slice_index cs i)) (range_below n)) whole
 
-    pub capped-of_day : (i : ℕ) → i < length cs → slice_index key.counts i ≡ min (lectures_on p day (slice_index cs i)) (slice_index rules.caps i)
+    pub capped-of_day : (i : ℕ) → i < length cs → slice_index key.counts i
+        ≡ min (lectures_on p day (slice_index cs i)) (slice_index rules.caps i)
     capped-of_day i l = begun.counts i ∙ ap (λ n. min n (slice_index rules.caps i)) (counts-of_day i l)
 
     -- what is paid at the end of the day

@@ -15,7 +15,8 @@ module _ {X : Type 0} where
   pub pushed_last : (xs : List X) (y : X) → Contains (xs ++ y ∷ []) y
   pushed_last xs y = Contains-append_right xs (y ∷ []) y (0, omega arith, refl)
 
-  pub taken_cases : (xs : List X) (i : ℕ) (d x : X) → i < length xs → Contains (take (i + 1) xs) x → Contains (take i xs) x ⊎ (get_or xs i d ≡ x)
+  pub taken_cases : (xs : List X) (i : ℕ) (d x : X) → i < length xs → Contains (take (i + 1) xs) x
+      → Contains (take i xs) x ⊎ (get_or xs i d ≡ x)
   taken_cases xs i d x h m = pushed_cases (take i xs) (get_or xs i d) x (subst (λ (l : List X). Contains l x) (take_more xs i d h) m)
 
   pub taken_all : (xs : List X) (i : ℕ) (x : X) → length xs ≤ i → Contains xs x → Contains (take i xs) x

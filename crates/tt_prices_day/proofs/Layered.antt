@@ -53,7 +53,8 @@ module _ (p : Problem) (scale : ℕ) (g : PricedGroup) (weights : List ℕ) (d :
     pub long : length before ≡ s
     pub open_sets : AreOpenSets p cs d before
     pub begun : IsBegun p scale g cs weights d rules before node.key node.paid
-    pub fits : (i : ℕ) → i < length cs → is_counted g (slice_index cs i) ≡ true → count_by (λ x. has_course x i) before ≤ lectures p (slice_index cs i)
+    pub fits : (i : ℕ) → i < length cs → is_counted g (slice_index cs i) ≡ true
+        → count_by (λ x. has_course x i) before ≤ lectures p (slice_index cs i)
 
   -- Whether a layer has the nodes of the first s periods.
   pub record IsLayer (s : ℕ) (layer : List Node) : Type 0 where
@@ -107,7 +108,8 @@ module _ (p : Problem) (scale : ℕ) (g : PricedGroup) (weights : List ℕ) (d :
         omega (arith, e, sum_first f (length (before ++ x ∷ [])) p.periods (omega (arith, n, long, inside)))
 
     -- no course of a valid day has too many lectures
-    never_over : (day : Day) → IsPricedDay p g d day → (before : List CourseSet) (x : CourseSet) (node : Node) (letter : Letter) → length before ≡ s
+    never_over : (day : Day) → IsPricedDay p g d day → (before : List CourseSet) (x : CourseSet) (node : Node) (letter : Letter)
+        → length before ≡ s
         → Begins p (unpriced g) cs day (before ++ x ∷ []) → letter.set ≡ x → IsCourseSet p (unpriced g) cs weights x
         → (paid : ℤ) → IsBegun p scale g cs weights d rules before node.key paid → IsOver rules letter node → ⊥
     never_over day valid before x node letter long begins same set paid begun over =
@@ -132,7 +134,8 @@ module _ (p : Problem) (scale : ℕ) (g : PricedGroup) (weights : List ℕ) (d :
           | inr h ↦ omega (arith, over.2, taken, counted, few, set.own i h, begun.is.own i h)
         ]
 
-    pub low-more : AreFollowed rules scale letters layer next → (day : Day) → IsPricedDay p g d day → Begun day s layer → Begun day (s + 1) next
+    pub low-more : AreFollowed rules scale letters layer next → (day : Day) → IsPricedDay p g d day → Begun day s layer
+        → Begun day (s + 1) next
     low-more followed day valid old =
         let here : length old.before < p.periods = omega (arith, old.long, inside) in
         let found = complete.found (day s) (λ a c own_a own_c ea ec. valid.is.apart s a c inside own_a own_c ea ec) in
@@ -217,7 +220,8 @@ module _ (p : Problem) (scale : ℕ) (g : PricedGroup) (weights : List ℕ) (d :
         cap_is i k = ap (λ b. cond b (lectures p (slice_index cs i))
             (cond (has_number g.courses (slice_index cs i)) (slack p (slice_index cs i) + 1) 0)) k
 
-    pub layer-more : AreFollowed rules scale letters layer next → AreReached rules scale letters layer next → IsLayer s layer → IsLayer (s + 1) next
+    pub layer-more : AreFollowed rules scale letters layer next → AreReached rules scale letters layer next → IsLayer s layer
+        → IsLayer (s + 1) next
     layer-more followed reached old = record {
       low = λ day valid. low-more followed day valid (old.low day valid);
       found = found-more reached old.found;

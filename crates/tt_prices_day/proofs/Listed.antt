@@ -234,7 +234,8 @@ module _ (p : Problem) (g : PricedGroup) (shape : Shape) (d : ℕ) (is : IsShape
         omega (arith, ints, whole_day, ap pos points)
 
 -- the list of a day
-pub day-listed : (p : Problem) (g : PricedGroup) (shape : Shape) (d : ℕ) (is : IsShape p g shape) (layer ends : List Node) (entries : List PricedDay)
+pub day-listed : (p : Problem) (g : PricedGroup) (shape : Shape) (d : ℕ) (is : IsShape p g shape) (layer ends : List Node)
+    (entries : List PricedDay)
     → IsLayer p shape.scale g no_weights d shape.rules p.periods layer → AreEnded shape.rules shape.scale layer ends
     → AreEndsOf shape.rules shape.scale layer ends
     → ((x : Node) → Contains ends x → (y : PricedDay) × Contains entries y × IsEntryOf shape x y)

@@ -41,7 +41,8 @@ signed_sum-indices f [] = refl
 signed_sum-indices f (x ∷ xs) = signed_sum-head (λ i. f (slice_index (x ∷ xs) i)) (length xs) ∙ ap (λ z. f x +ℤ z) (signed_sum-indices f xs)
 
 -- the sum of a list of prices is the price of the set
-pub sum-of_prices : (g : PricedGroup) (cs : List ℕ) (d s : ℕ) (x : CourseSet) (prices : List ℤ) → prices ≡ map (λ c. g.price c (slot d s)) cs
+pub sum-of_prices : (g : PricedGroup) (cs : List ℕ) (d s : ℕ) (x : CourseSet) (prices : List ℤ)
+    → prices ≡ map (λ c. g.price c (slot d s)) cs
     → sum_of prices x ≡ set_price g cs d s x
 sum-of_prices g cs d s x prices is =
     let f : ℕ → ℤ = λ c. g.price c (slot d s) in
@@ -80,7 +81,8 @@ module _ (p : Problem) (g : PricedGroup) (d : ℕ) (day : Day) where
   -- the prices of sets are those of the periods that have them
   prices-of_sets : (s : ℕ) (xs : List CourseSet)
       → ((k : ℕ) (x : CourseSet) → slice_get xs k ≡ Some x → (i : ℕ) → i < length cs → has_course x i ≡ day (s + k) (slice_index cs i))
-      → prices_from g cs d s xs ≡ signed_sum (λ k. signed_sum (λ c. g.price c (slot d (s + k))) (filter (day (s + k)) cs)) (range_below (length xs))
+      → prices_from g cs d s xs ≡ signed_sum (λ k. signed_sum (λ c. g.price c (slot d (s + k))) (filter (day (s + k)) cs))
+      (range_below (length xs))
   prices-of_sets s [] same = refl
   prices-of_sets s (x ∷ xs) same =
       let h : ℕ → ℤ = λ n. signed_sum (λ c. g.price c (slot d n)) (filter (day n) cs) in

@@ -31,7 +31,8 @@ sum-of m n a b few wa wb =
     ∙ word-of (m + n) (a +ℤ b) few (within-plus m n a b wa wb)
 
 -- the sum fits
-pub sum-fits : (m n : ℕ) (a b : ℤ) → m + n ≤ 2 ^ 62 → IsWithin m a → IsWithin n b → FitsSigned w64 (to_z w64 (of_z w64 a) +ℤ to_z w64 (of_z w64 b))
+pub sum-fits : (m n : ℕ) (a b : ℤ) → m + n ≤ 2 ^ 62 → IsWithin m a → IsWithin n b
+    → FitsSigned w64 (to_z w64 (of_z w64 a) +ℤ to_z w64 (of_z w64 b))
 sum-fits m n a b few wa wb =
     subst (FitsSigned w64)
     (sym (ap (λ z. z +ℤ to_z w64 (of_z w64 b)) (word-of m a (omega arith) wa) ∙ ap (λ z. a +ℤ z) (word-of n b (omega arith) wb)))

@@ -76,11 +76,17 @@ module _ (m n : ℕ) (a b : ℤ) (few : m + n ≤ 2 ^ 100) (wa : IsWithin m a) (
 
 -- ---- no part
 
-pub no_parts : (p : Problem) (h : Header) (a : Account) → a.targets.curricula.items ≡ [] → a.targets.courses.items ≡ [] → IsPriceTable p [] a.prices
+pub no_parts : (p : Problem) (h : Header) (a : Account) → a.targets.curricula.items ≡ [] → a.targets.courses.items ≡ []
+    → IsPriceTable p [] a.prices
     → IsRentTable p [] a.rents → a.rents.prices.scale ≡ room_scale h → a.groups ≡ 0 → a.total ≡ pos 0 → IsAccountOf p h [] a
 no_parts p h a curricula courses prices rents scale counted total = record {
   passed = record {
-    apart = record { curricula = refl; courses = refl; each_curriculum = all_none (λ q. q < length p.curricula); each_course = all_none (λ c. c < length p.courses) };
+    apart = record {
+      curricula = refl;
+      courses = refl;
+      each_curriculum = all_none (λ q. q < length p.curricula);
+      each_course = all_none (λ c. c < length p.courses);
+    };
     once = refl;
     limits = all_none (IsWithinLimits p);
     least = all_none (λ g. (v : ℤ) × IsLeast p h.scale g (Some v));
@@ -91,14 +97,20 @@ no_parts p h a curricula courses prices rents scale counted total = record {
   rents = rents;
   scale = scale;
   counted = counted;
-  least = record { least = []; groups_are = refl; each = all_none (λ (g : PricedGroup × ℤ). IsLeast p h.scale g.0 (Some g.1)); adds_up = total };
+  least = record {
+    least = [];
+    groups_are = refl;
+    each = all_none (λ (g : PricedGroup × ℤ). IsLeast p h.scale g.0 (Some g.1));
+    adds_up = total;
+  };
   within = subst (IsWithin 0) (sym total) (omega (arith, ints), omega (arith, ints));
 }
 
 -- ---- one more group
 
 -- the rows of a group of the text
-pub rows_are : (p : Problem) (slots : ℕ) (rows : List PriceRow) → slots ≡ p.days * p.periods → parts.AreRows (row_form (sizes_of p)) (row_list rows)
+pub rows_are : (p : Problem) (slots : ℕ) (rows : List PriceRow) → slots ≡ p.days * p.periods
+    → parts.AreRows (row_form (sizes_of p)) (row_list rows)
     → AreRowsOf p slots rows
 rows_are p slots rows week are = record {
   week = week;
@@ -121,7 +133,8 @@ or_parts true b e = absurd cc
 or_parts false b e = (refl, e)
 
 module _ (p : Problem) (h : Header) (xs : List Part) (own : program.PricedGroup) (a : Account) (account : IsAccountOf p h xs a)
-    (group : IsGroup (sizes_of p) (parts.group_of own)) (periods : own.periods ≡ p.periods) (unlisted : has_listed a (group_of own) ≡ false) where
+    (group : IsGroup (sizes_of p) (parts.group_of own)) (periods : own.periods ≡ p.periods)
+    (unlisted : has_listed a (group_of own) ≡ false) where
   abbrev text : Group
   text = parts.group_of own
 
@@ -140,7 +153,8 @@ module _ (p : Problem) (h : Header) (xs : List Part) (own : program.PricedGroup)
   abbrev groups_are : groups_of p more ≡ groups_of p xs ++ group_of own ∷ []
   groups_are = groups_of-group xs text p ∙ ap (λ (x : PricedGroup). groups_of p xs ++ x ∷ []) same
 
-  unlisted_parts : (list_any (has_number a.targets.curricula.items) own.curricula.items ≡ false) × (list_any (has_number a.targets.courses.items) own.courses.items ≡ false)
+  unlisted_parts : (list_any (has_number a.targets.curricula.items) own.curricula.items ≡ false)
+      × (list_any (has_number a.targets.courses.items) own.courses.items ≡ false)
   unlisted_parts = or_parts (list_any (has_number a.targets.curricula.items) own.curricula.items)
       (list_any (has_number a.targets.courses.items) own.courses.items) unlisted
 
@@ -205,7 +219,8 @@ module _ (p : Problem) (h : Header) (xs : List Part) (own : program.PricedGroup)
 
     pub group_added : (new : Account) → new.targets.curricula.items ≡ a.targets.curricula.items ++ own.curricula.items
         → new.targets.courses.items ≡ a.targets.courses.items ++ own.courses.items
-        → IsPriceTable p (groups_of p xs ++ group_of own ∷ []) new.prices → new.rents ≡ a.rents → new.groups ≡ a.groups + 1 → new.total ≡ a.total +ℤ v
+        → IsPriceTable p (groups_of p xs ++ group_of own ∷ []) new.prices → new.rents ≡ a.rents → new.groups ≡ a.groups + 1
+        → new.total ≡ a.total +ℤ v
         → IsAccountOf p h more new
     group_added new curricula courses prices rents counted total = record {
       passed = more_passed;

@@ -64,7 +64,8 @@ record ContinuesWith (sizes : Sizes) (has_rooms : Bool) (all parts : List Part) 
 
 module _ (sizes : Sizes) (has_rooms : Bool) where
   goes_on : (s : Stream) (all parts : List Part) (rest end after : Stream) → ReadsParts sizes has_rooms s all end
-      → item_at sizes has_rooms end ≡ Ok (None, after) → ReadsParts sizes has_rooms s parts rest → ContinuesWith sizes has_rooms all parts rest end
+      → item_at sizes has_rooms end ≡ Ok (None, after) → ReadsParts sizes has_rooms s parts rest
+      → ContinuesWith sizes has_rooms all parts rest end
   goes_on s all [] rest end after reads finish part =
       record { more = all; split = refl; reads = subst (λ (x : Stream). ReadsParts sizes has_rooms x all end) part reads }
   goes_on s [] (k ∷ ks) rest end after reads finish part =
@@ -85,7 +86,8 @@ module _ (sizes : Sizes) (has_rooms : Bool) where
       → (more : List Part) × (all ≡ parts ++ k ∷ more)
   next_is all parts rest end after mid k g finish read = on g.more g.split g.reads
     where
-      on : (more : List Part) → all ≡ parts ++ more → ReadsParts sizes has_rooms rest more end → (more : List Part) × (all ≡ parts ++ k ∷ more)
+      on : (more : List Part) → all ≡ parts ++ more → ReadsParts sizes has_rooms rest more end → (more : List Part)
+          × (all ≡ parts ++ k ∷ more)
       on [] split reads = absurd (not_both_answers k mid after (sym read ∙ ap (item_at sizes has_rooms) reads ∙ finish))
       on (m ∷ ms) split reads =
           (ms, split ∙ ap (λ (z : Part). parts ++ z ∷ ms) (part_same m k reads.0 mid (sym reads.1 ∙ read)).0)

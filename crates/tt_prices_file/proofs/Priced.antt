@@ -41,7 +41,8 @@ prices_of-push p groups g c s =
 -- ---- the rows of a group
 
 -- the price in the rows is the one that they list
-pub price_listed : (periods : ℕ) (rows : List Row) (c : ℕ) (s : Slot) → price_in periods rows c s ≡ listed rows c (s.day * periods + s.period)
+pub price_listed : (periods : ℕ) (rows : List Row) (c : ℕ) (s : Slot)
+    → price_in periods rows c s ≡ listed rows c (s.day * periods + s.period)
 price_listed periods [] c s = refl
 price_listed periods (row ∷ rows) c s =
     ap (λ z. cond (row.course == c) z (price_in periods rows c s)) (unwrap_or-slice_get row.prices (s.day * periods + s.period) (pos 0))
@@ -204,7 +205,8 @@ module _ (p : Problem) (g : PricedGroup) where
           next : (a b : ℕ) → a < b → a + 1 ≤ b
           next a b l = omega (arith, l)
 
-      within_at : (n : ℕ) → All (IsWithin n) old.sums.items → (k : ℕ) → k < length new.sums.items → IsWithin (n + 1_000_000) (number_at new.sums.items k)
+      within_at : (n : ℕ) → All (IsWithin n) old.sums.items → (k : ℕ) → k < length new.sums.items
+          → IsWithin (n + 1_000_000) (number_at new.sums.items k)
       within_at n all k l = elim (cases_lt k start) [
         | inl h ↦ subst (IsWithin (n + 1_000_000)) (sym (before k h)) (kept k (omega (arith, l, added.whole)))
         | inr h ↦ elim (cases_lt k (start + length row.prices.items)) [
@@ -232,7 +234,8 @@ module _ (p : Problem) (g : PricedGroup) where
         sums = λ c j l k. at c j l k (row.course == c) refl;
       }
         where
-          at : (c j : ℕ) → c < length p.courses → j < old.slots → (a : Bool) → (row.course == c) ≡ a → number_at new.sums.items (c * old.slots + j)
+          at : (c j : ℕ) → c < length p.courses → j < old.slots → (a : Bool) → (row.course == c) ≡ a
+              → number_at new.sums.items (c * old.slots + j)
               ≡ number_at old.sums.items (c * old.slots + j) +ℤ cond (concerns p g c) (Listed (rows ++ row ∷ []) c j) (pos 0)
           at c j l k true e = subst (λ d. number_at new.sums.items (d * old.slots + j)
               ≡ number_at old.sums.items (d * old.slots + j) +ℤ cond (concerns p g d) (Listed (rows ++ row ∷ []) d j) (pos 0))
@@ -318,7 +321,8 @@ module _ (p : Problem) (g : PricedGroup) (items : List PriceRow) (i : ℕ) (row 
         next a b l = omega (arith, l)
 
 -- so many groups stay within the limit
-pub next_within : (p : Problem) (g : PricedGroup) (rows : List PriceRow) (old now : PriceTable) (groups : List PricedGroup) → IsGrownBy p g rows old now
+pub next_within : (p : Problem) (g : PricedGroup) (rows : List PriceRow) (old now : PriceTable) (groups : List PricedGroup)
+    → IsGrownBy p g rows old now
     → IsPriceTable p groups old → length groups < 2 ^ 32 → All (IsWithin (2 ^ 52)) now.sums.items
 next_within p g rows old now groups grown table few =
     let all = grown.within (length groups * 1_000_000) table.within in

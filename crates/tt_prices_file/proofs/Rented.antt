@@ -86,7 +86,8 @@ module _ (old part : List ℕ) (start : ℕ) (fits : start + length part ≤ len
 
 module _ (p : Problem) (xs : List RoomRents) (x : RoomRents) (old : RentTable) (table : IsRentTable p xs old)
     (inside : x.room < length p.rooms)
-    (few : length x.rents ≤ old.slots) (small : All (λ n. n ≤ MAX_AMOUNT) x.rents) (none : has_number (map (λ (y : RoomRents). y.room) xs) x.room ≡ false) where
+    (few : length x.rents ≤ old.slots) (small : All (λ n. n ≤ MAX_AMOUNT) x.rents)
+    (none : has_number (map (λ (y : RoomRents). y.room) xs) x.room ≡ false) where
   abbrev start : ℕ
   start = x.room * old.slots
 
@@ -124,7 +125,8 @@ module _ (p : Problem) (xs : List RoomRents) (x : RoomRents) (old : RentTable) (
       place : d * p.periods + s < old.slots
       place = subst (λ n. d * p.periods + s < n) (sym table.slots) (within_row d p.periods s p.days dl sl)
 
-  pub rented_more : (new : RentTable) → new.slots ≡ old.slots → new.prices.rents.items ≡ new_rents → new.rooms.items ≡ old.rooms.items ++ x.room ∷ []
+  pub rented_more : (new : RentTable) → new.slots ≡ old.slots → new.prices.rents.items ≡ new_rents
+      → new.rooms.items ≡ old.rooms.items ++ x.room ∷ []
       → IsRentTable p (xs ++ x ∷ []) new
   rented_more new slots is rooms = record {
     slots = slots ∙ table.slots;

@@ -38,13 +38,15 @@ range_more n = sym (map-id (range_below (n + 1))) ∙ map-range_with_len_more (�
 
 -- ---- what the tables say of a course
 
-pub prices_at : (p : Problem) (groups : List PricedGroup) (t : PriceTable) (c : ℕ) (prices : List ℤ) → IsPriceTable p groups t → c < length p.courses
+pub prices_at : (p : Problem) (groups : List PricedGroup) (t : PriceTable) (c : ℕ) (prices : List ℤ) → IsPriceTable p groups t
+    → c < length p.courses
     → ((k : ℕ) → k < t.slots → number_at prices k ≡ number_at t.sums.items (c * t.slots + k)) → ArePricesOf p groups c prices
 prices_at p groups t c prices table inside numbers d s dl sl =
     numbers (d * p.periods + s) (subst (λ n. d * p.periods + s < n) (sym table.slots) (within_row d p.periods s p.days dl sl))
     ∙ table.sums c d s inside dl sl
 
-pub rents_at : (p : Problem) (xs : List RoomRents) (t : RentTable) → IsRentTable p xs t → AreRentsOf p (rent_at p.periods xs) t.prices.rents.items
+pub rents_at : (p : Problem) (xs : List RoomRents) (t : RentTable) → IsRentTable p xs t
+    → AreRentsOf p (rent_at p.periods xs) t.prices.rents.items
 rents_at p xs t table r d s rl dl sl =
     ap (λ n. get_or t.prices.rents.items (r * n + (d * p.periods + s)) 0) (sym table.slots) ∙ table.rents r d s rl dl sl
 

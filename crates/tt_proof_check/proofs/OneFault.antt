@@ -142,7 +142,8 @@ module _ (p : Problem) (root : List Fact) (v : ℕ) (b : Bound) (s : Stream) whe
     | inr d ↦ sym (onward g f c a d.0 d.1 d.2)
   ]
     where
-      onward : (f g : TextFault) (a : NodeFails p root v b s f) (c : NodeFails p root v b s g) (more : List Node) → a.nodes ++ more ≡ c.nodes
+      onward : (f g : TextFault) (a : NodeFails p root v b s f) (c : NodeFails p root v b s g) (more : List Node)
+          → a.nodes ++ more ≡ c.nodes
           → ReadsNodes (sizes_of p) v (0 + length a.nodes) a.rest more c.rest → f ≡ g
       onward f g a c [] e r =
           let len : length c.nodes ≡ length a.nodes = ap length (sym e ∙ append-nil a.nodes) in
@@ -166,7 +167,8 @@ module _ (p : Problem) (root : List Fact) (v : ℕ) (b : Bound) (s : Stream) whe
   node_or_end : (f g : TextFault) → NodeFails p root v b s f → EndFails p root v b s g → ⊥
   node_or_end f g a c = node_read p v s c.rest c.tree c.reads f a.nodes a.rest a.tree a.next a.more a.reads a.begins a.fails
 
-  texts_fail : (f g : TextFault) → (NodeFails p root v b s f ⊎ EndFails p root v b s f) → (NodeFails p root v b s g ⊎ EndFails p root v b s g) → f ≡ g
+  texts_fail : (f g : TextFault) → (NodeFails p root v b s f ⊎ EndFails p root v b s f)
+      → (NodeFails p root v b s g ⊎ EndFails p root v b s g) → f ≡ g
   texts_fail f g (inl a) (inl c) = nodes_fail f g a c
   texts_fail f g (inl a) (inr c) = absurd (node_or_end f g a c)
   texts_fail f g (inr a) (inl c) = absurd (node_or_end g f c a)
@@ -250,7 +252,8 @@ module _ (p : Problem) (root : List Fact) (v : ℕ) (b : Bound) (s : Stream) whe
       ap reported.TooDeep (meets i j (λ t. IsDeepAt p root b t i) (λ t. IsDeepAt p root b t j) (by_depth i) (by_depth j) a c).0
 
   -- a leaf whose rule is checked isn't too deep
-  rule_or_depth : (i j : ℕ) (f : RuleFault) → IsReadTo p v s i (λ t. FailsAt p root b t i f) → IsReadTo p v s j (λ t. IsDeepAt p root b t j) → ⊥
+  rule_or_depth : (i j : ℕ) (f : RuleFault) → IsReadTo p v s i (λ t. FailsAt p root b t i f)
+      → IsReadTo p v s j (λ t. IsDeepAt p root b t j) → ⊥
   rule_or_depth i j f a c =
       let m = meets i j (λ t. FailsAt p root b t i f) (λ t. IsDeepAt p root b t j) (by_fault i f) (by_depth j) a c in
       let point = one_point (record { path = a.is.path; node = node.Leaf a.is.leaf }) (record { path = c.is.path; node = c.is.node })
@@ -302,7 +305,8 @@ one_fault p root s (reported.Rule i f) (reported.Text g) h k =
 one_fault p root s (reported.TooDeep i) (reported.Text g) h k =
     absurd (text_one p root s g i (λ b t. IsDeepAt p root b t i) (λ b t x. stops_by_depth p root b t i x) k h)
 one_fault p root s (reported.Rule i f) (reported.Rule j g) h k =
-    one_header (λ v b rest. IsReadTo p v rest i (λ t. FailsAt p root b t i f)) (λ v b rest. IsReadTo p v rest j (λ t. FailsAt p root b t j g))
+    one_header (λ v b rest. IsReadTo p v rest i (λ t. FailsAt p root b t i f))
+    (λ v b rest. IsReadTo p v rest j (λ t. FailsAt p root b t j g))
     (reported.Rule i f ≡ reported.Rule j g) s
     (λ v b rest x y. rules_fail p root v b rest i j f g x y) h k
 one_fault p root s (reported.TooDeep i) (reported.TooDeep j) h k =
@@ -310,10 +314,12 @@ one_fault p root s (reported.TooDeep i) (reported.TooDeep j) h k =
     (reported.TooDeep i ≡ reported.TooDeep j) s
     (λ v b rest x y. depths_fail p root v b rest i j x y) h k
 one_fault p root s (reported.Rule i f) (reported.TooDeep j) h k =
-    absurd (one_header (λ v b rest. IsReadTo p v rest i (λ t. FailsAt p root b t i f)) (λ v b rest. IsReadTo p v rest j (λ t. IsDeepAt p root b t j))
+    absurd (one_header (λ v b rest. IsReadTo p v rest i (λ t. FailsAt p root b t i f))
+    (λ v b rest. IsReadTo p v rest j (λ t. IsDeepAt p root b t j))
     ⊥ s (λ v b rest x y. rule_or_depth p root v b rest i j f x y) h k)
 one_fault p root s (reported.TooDeep i) (reported.Rule j g) h k =
-    absurd (one_header (λ v b rest. IsReadTo p v rest i (λ t. IsDeepAt p root b t i)) (λ v b rest. IsReadTo p v rest j (λ t. FailsAt p root b t j g))
+    absurd (one_header (λ v b rest. IsReadTo p v rest i (λ t. IsDeepAt p root b t i))
+    (λ v b rest. IsReadTo p v rest j (λ t. FailsAt p root b t j g))
     ⊥ s (λ v b rest x y. rule_or_depth p root v b rest j i g y x) h k)
 
 -- -- the faults of `certify`

@@ -90,7 +90,8 @@ pub same_length : (x y : Stack) → Some x ≡ Some y → length x ≡ length y
 same_length x y e = let same : x ≡ y = cc in ap length same
 
 -- after nodes that pass, a node is due, and its text fails
-node_fails : (p : Problem) (root : List Fact) (v : ℕ) (b : Bound) (s t : Stream) (f : TextFault) (nodes : List Node) (path : List Fact) (others : Stack)
+node_fails : (p : Problem) (root : List Fact) (v : ℕ) (b : Bound) (s t : Stream) (f : TextFault) (nodes : List Node)
+    (path : List Fact) (others : Stack)
     → stack_after (place root) nodes ≡ Some (path ∷ others) → All (Passes p b) (places_of (place root) nodes)
     → ReadsNodes (sizes_of p) v 0 s nodes t → node_at (sizes_of p) v (length nodes) t ≡ Err f → NodeFails p root v b s f
 node_fails p root v b s t f nodes path others stack passed reads fails =
@@ -122,7 +123,8 @@ child_as a c v w count more s i e same_sizes same_version same_count h =
     (subst (λ (k : ℕ). ExplainsChild c k count s i e) same_version (subst (λ (x : Sizes). ExplainsChild x v count s i e) same_sizes h))
 
 -- after nodes that pass, a node is due on a path that is too long; it has been read, or its text fails
-reported_child : (p : Problem) (root : List Fact) (v : ℕ) (b : Bound) (s t : Stream) (nodes : List Node) (i : ℕ) → IsDeepNext p root b nodes → length nodes ≡ i
+reported_child : (p : Problem) (root : List Fact) (v : ℕ) (b : Bound) (s t : Stream) (nodes : List Node) (i : ℕ)
+    → IsDeepNext p root b nodes → length nodes ≡ i
     → ReadsNodes (sizes_of p) v 0 s nodes t → (e : CheckFault) → ExplainsChild (sizes_of p) v i t i e
     → ExplainsNodes p root v b s e
 reported_child p root v b s t nodes i d len reads (reported.Text f) c =
@@ -162,13 +164,15 @@ nodes_fault p root s rest v b (reported.Text f) header h = inr (v, b, rest, head
 nodes_fault p root s rest v b (reported.Rule i f) header h = (v, b, rest, header, h)
 nodes_fault p root s rest v b (reported.TooDeep i) header h = (v, b, rest, header, h)
 
-module _ (p : Problem) (root : List Fact) (v : ℕ) (b : Bound) (known : Bool) (H : List Node → Type 0) (s : Stream) (old : Reader) (t : Stream)
+module _ (p : Problem) (root : List Fact) (v : ℕ) (b : Bound) (known : Bool) (H : List Node → Type 0) (s : Stream) (old : Reader)
+    (t : Stream)
     (path : List Fact) (m : Sofar p root v b known H s old t path) where
   -- if a place is open, a node is due
   is_due : 0 < old.places → Walked p root b m.nodes path true × (length (path ∷ pending (length root) path) ≡ old.places)
   is_due some = on m.due m.walked m.places
     where
-      on : (due : Bool) → Walked p root b m.nodes path due → length (stack_of (length root) due path) ≡ old.places → Walked p root b m.nodes path true
+      on : (due : Bool) → Walked p root b m.nodes path due → length (stack_of (length root) due path) ≡ old.places
+          → Walked p root b m.nodes path true
           × (length (path ∷ pending (length root) path) ≡ old.places)
       on true w e = (w, e)
       on false w e = absurd (omega (arith, e, some))
@@ -242,7 +246,8 @@ module _ (p : Problem) (root : List Fact) (v : ℕ) (b : Bound) (known : Bool) (
       → CheckedPart p root v b known H s u
   sofar_end new u goes says = on m.due m.walked m.places
     where
-      on : (due : Bool) → Walked p root b m.nodes path due → length (stack_of (length root) due path) ≡ old.places → CheckedPart p root v b known H s u
+      on : (due : Bool) → Walked p root b m.nodes path due → length (stack_of (length root) due path) ≡ old.places
+          → CheckedPart p root v b known H s u
       on true w e = absurd (omega (arith, e, goes.0))
       on false w e =
           let h = walked_end p root b m.nodes path w in

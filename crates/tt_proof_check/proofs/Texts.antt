@@ -97,15 +97,17 @@ module _ (p : Problem) (s : Stream) (v : ℕ) (b : Bound) (tree : Tree) (r : Rea
       (same_header ((h.0, h.1), h.2) ((v, b), r.headed) (sym h.3 ∙ r.header)) h.4
 
   pub bound_is : (root : List Fact) (known : Bool) (H : List Node → Type 0) (c : Bound) → known ≡ true → Proved p root known H s c → c ≡ b
-  bound_is root known H c k h = ap (λ (x : (ℕ × Bound) × Stream). x.0.1) (same_header ((h.version, c), (h.reads k).headed) ((v, b), r.headed)
+  bound_is root known H c k h = ap (λ (x : (ℕ × Bound) × Stream). x.0.1)
+      (same_header ((h.version, c), (h.reads k).headed) ((v, b), r.headed)
       (sym (h.reads k).header ∙ r.header))
 
   pub faultless : (root : List Fact) → IsShallowOn root tree → Derives p b root tree → (e : CheckFault) → IsProofFault p root s e → ⊥
   faultless root shallow d (reported.Text f) (inl h) = only_one (header_at s) ((v, b), r.headed) f r.header h
-  faultless root shallow d (reported.Text f) (inr h) = elim (header_is (λ w c rest. NodeFails p root w c rest f ⊎ EndFails p root w c rest f) h) [
-    | inl a ↦ node_read p v r.headed r.noded tree r.nodes f a.nodes a.rest a.tree a.next a.more a.reads a.begins a.fails
-    | inr a ↦ end_read p v r.headed r.noded tree r.nodes r.ended r.finish f a.tree a.rest a.reads a.fails
-  ]
+  faultless root shallow d (reported.Text f) (inr h) = elim (header_is
+      (λ w c rest. NodeFails p root w c rest f ⊎ EndFails p root w c rest f) h) [
+        | inl a ↦ node_read p v r.headed r.noded tree r.nodes f a.nodes a.rest a.tree a.next a.more a.reads a.begins a.fails
+        | inr a ↦ end_read p v r.headed r.noded tree r.nodes r.ended r.finish f a.tree a.rest a.reads a.fails
+      ]
   faultless root shallow d (reported.Rule i f) h =
       let a = header_is (λ w c rest. IsReadTo p w rest i (λ t. FailsAt p root c t i f)) h in
       never_fails p root b tree a.tree i f (tree_passes p root b tree shallow d)

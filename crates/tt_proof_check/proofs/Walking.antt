@@ -154,7 +154,8 @@ fails_at p root b nodes rest path (Leaf leaf) f tree e w s =
       within = w.within;
       fault = s;
       before = subst (λ (l : List OnPath). All (Passes p b) (take (length nodes) l)) (sym all)
-          (subst (λ (l : List OnPath). All (Passes p b) l) (sym (take_at passed (at path (Leaf leaf) ∷ behind) (length nodes) len)) w.passed);
+          (subst (λ (l : List OnPath). All (Passes p b) l) (sym (take_at passed (at path (Leaf leaf) ∷ behind) (length nodes) len))
+          w.passed);
     }
 
 -- nodes that pass, if the node due after them is on a path that is too long

@@ -124,7 +124,8 @@ module _ (p : Problem) (k : PricesPart) (right : ArePricesRight p k) where
           (between RoomCapacity Stability (λ a b. refl) ns ns) (each_two-of_map differ Stability ns ∙ distinct_below k.courses)
 
       cross : (f : ℕ → Target) → ((a b : ℕ) → same_target (f a) (RoomCapacity b) ≡ false)
-          → ((a b : ℕ) → same_target (f a) (Stability b) ≡ false) → (xs : List ℕ) → list_all (λ y. list_all (differ y) (room_targets k.courses)) (map f xs) ≡ true
+          → ((a b : ℕ) → same_target (f a) (Stability b) ≡ false) → (xs : List ℕ)
+          → list_all (λ y. list_all (differ y) (room_targets k.courses)) (map f xs) ≡ true
       cross f one two xs =
           across (map f xs) (map RoomCapacity ns) (map Stability ns) (between f RoomCapacity one xs ns) (between f Stability two xs ns)
 

@@ -81,7 +81,8 @@ module _ {W : Type 0} (C : W → Option (List ℕ)) (F : W → Bool) where
       }
 
   -- all chunks were put
-  pub name_put : (first now : Output W) (name rest : List ℕ) → length rest ≡ 0 → NamePut first now name rest → Puts C F first now (shown name)
+  pub name_put : (first now : Output W) (name rest : List ℕ) → length rest ≡ 0 → NamePut first now name rest
+      → Puts C F first now (shown name)
   name_put first now name rest none before =
       let empty : letters_text (utf8_lossy rest) ≡ [] = ap letters_text (utf8_lossy_empty rest none) ∙ ap (flat_map letter_text) chars-nil
       in

@@ -9,7 +9,8 @@ use Rattle.tt_stay_search.specs.declared.stay.Stay.{Stay}
 use Rattle.tt_stay.specs.declared.weight.Weight.{Weight}
 
 -- a timetable has one weight
-same_total : (p : Problem) (old t : List Cell) (s : Stay) (v w : Weight) → IsWeight p old t v → IsWeight p old t w → (u : Weight) → IsLower s v u
+same_total : (p : Problem) (old t : List Cell) (s : Stay) (v w : Weight) → IsWeight p old t v → IsWeight p old t w → (u : Weight)
+    → IsLower s v u
     → IsLower s w u
 same_total p old t s v w hv hw u low =
     let a : v.hard ≡ w.hard = hv.hard_is ∙ sym hw.hard_is in

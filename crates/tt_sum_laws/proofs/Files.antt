@@ -39,7 +39,8 @@ module _ (p : Problem) (root : List Fact) (is : IsInstance p) (files : List (Lis
   At n f = IsReachedOn p root files n (λ parts bytes. ExplainsAddedOn p root parts bytes f)
 
   -- a file that can be added has no fault
-  earlier : (m n : ℕ) (f g : FileFault) (r : At m f) (q : At n g) (ms : List (List ℕ)) → q.before ≡ r.before ++ r.bytes ∷ ms → IsUnfinished f
+  earlier : (m n : ℕ) (f g : FileFault) (r : At m f) (q : At n g) (ms : List (List ℕ)) → q.before ≡ r.before ++ r.bytes ∷ ms
+      → IsUnfinished f
   earlier m n f g r q ms split =
       let z = zip_split (IsPartOn p root) r.before r.bytes ms q.parts
       (subst (λ (l : List (List ℕ)). AllZip (IsPartOn p root) l q.parts) split q.each) in

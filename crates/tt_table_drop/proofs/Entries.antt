@@ -14,7 +14,8 @@ use Rattle.tt_table_drop.specs.Sifting.{IsEntry}
 use Rattle.tt_table_drop.specs.declared.row.Row.{Row}
 
 -- a number that isn't read below a bound isn't below it
-pub none_below : (limit bound : ℕ) (text : List ℕ) (f : NumberFault) (n : ℕ) → Err f ≡ number_of limit text → limit ≡ bound - 1 → SpellsNumber text n
+pub none_below : (limit bound : ℕ) (text : List ℕ) (f : NumberFault) (n : ℕ) → Err f ≡ number_of limit text → limit ≡ bound - 1
+    → SpellsNumber text n
     → bound ≤ n
 none_below limit bound text f n e is spelled = elim (cases_lt n bound) [
   | inl h ↦ let read = number_read limit text n spelled (omega (arith, is, h)) in absurd (let same = e ∙ read in cc)

@@ -46,7 +46,8 @@ pub words_full : (p : Problem) (before : List Wish) (end : ℕ) (ts : List Place
 words_full p before end ts t more split full = rw (split, full) refl
 
 -- the words are a wish
-pub words_step : (p : Problem) (before : List Wish) (end : ℕ) (ts : List Placed) (t : Placed) (more : List Placed) (w : Wish) → ts ≡ t ∷ more
+pub words_step : (p : Problem) (before : List Wish) (end : ℕ) (ts : List Placed) (t : Placed) (more : List Placed) (w : Wish)
+    → ts ≡ t ∷ more
     → nat_le MAX_WISHES (length before) ≡ false → wish_at end p t more ≡ Ok w → with_words p before end ts ≡ Ok (before ++ w ∷ [])
 words_step p before end ts t more w split room is = rw (split, room, is) refl
 

@@ -29,7 +29,8 @@ same_of_few n xs ys few e =
     sym (take_all n xs (omega (arith, few))) ∙ e ∙ take_all n ys short
 
 -- what is added to two lists that begin alike, of which one has few elements, leaves them so
-pub alike_added : {X : Type 0} (n : ℕ) (xs ys zs more : List X) → length xs < n → more ≡ xs ++ zs → take n xs ≡ take n ys → take n more ≡ take n (ys ++ zs)
+pub alike_added : {X : Type 0} (n : ℕ) (xs ys zs more : List X) → length xs < n → more ≡ xs ++ zs → take n xs ≡ take n ys
+    → take n more ≡ take n (ys ++ zs)
 alike_added n xs ys zs more few is e = ap (take n) is ∙ ap (λ l. take n (l ++ zs)) (same_of_few n xs ys few e)
 
 -- a list of enough elements begins like another one to which something is added

@@ -115,7 +115,8 @@ rows_read p before (row ∷ rows) ws limits zipped at_most =
 -- ---- a whole file
 
 -- wishes that are read are spelled
-pub wishes_spelled : (p : Problem) (bytes : List ℕ) (ws : List Wish) → IsWithinLimits p → wishes_of p bytes ≡ Ok ws → SpellsWishes p bytes ws
+pub wishes_spelled : (p : Problem) (bytes : List ℕ) (ws : List Wish) → IsWithinLimits p → wishes_of p bytes ≡ Ok ws
+    → SpellsWishes p bytes ws
 unfolding wishes_of
 wishes_spelled p bytes ws limits e =
     let taken = rows_take p [] (rows_of bytes) ws limits e in

@@ -41,7 +41,8 @@ lighter_then : (broken_t cost_t broken_u cost_u broken_v cost_v : ℕ) → (IsLi
 lighter_then broken_t cost_t broken_u cost_u broken_v cost_v one other below = grind (arith, below, one, other)
 
 -- a timetable that is lighter is no worse
-lighter_not : (broken_t cost_t broken_u cost_u : ℕ) → IsLighter broken_u cost_u broken_t cost_t → IsLighter broken_t cost_t broken_u cost_u → ⊥
+lighter_not : (broken_t cost_t broken_u cost_u : ℕ) → IsLighter broken_u cost_u broken_t cost_t
+    → IsLighter broken_t cost_t broken_u cost_u → ⊥
 lighter_not broken_t cost_t broken_u cost_u lighter below = grind (arith, lighter, below)
 
 -- ---- timetables

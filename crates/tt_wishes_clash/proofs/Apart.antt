@@ -93,7 +93,8 @@ held_in_other t c g d rooms other held kept =
     both_ways (has_number rooms x.entry.room) (other_unlisted rooms g.room x.entry.room a.1 x.room) listed
 
 -- a room of both lists
-same_room : (rooms others : List ℕ) (n m : ℕ) → Contains rooms m → m ≡ n → has_number others n ≡ true → list_any (has_number others) rooms ≡ true
+same_room : (rooms others : List ℕ) (n m : ℕ) → Contains rooms m → m ≡ n → has_number others n ≡ true
+    → list_any (has_number others) rooms ≡ true
 same_room rooms others n m member same there =
     any_member (has_number others) rooms m member (subst (λ (k : ℕ). has_number others k ≡ true) (sym same) there)
 

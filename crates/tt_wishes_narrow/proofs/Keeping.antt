@@ -99,7 +99,8 @@ module _ (p : Problem) (t : List Cell) (ok : IsFeasible p t) where
 
     -- nothing that is left out is an entry's period
     not_new : (e : Cell) → Contains t e
-        → list_any (λ b. (b.course == e.course) && (b.day == e.day) && (b.period == e.period)) (take (room_left p) (left_out p ws)) ≡ true → ⊥
+        → list_any (λ b. (b.course == e.course) && (b.day == e.day) && (b.period == e.period)) (take (room_left p) (left_out p ws))
+        ≡ true → ⊥
     not_new e m found =
         let at : Unavailability → Bool = λ b. (b.course == e.course) && (b.day == e.day) && (b.period == e.period) in
         let all = flat_map (courses_on p) (all_days p) in

@@ -17,7 +17,8 @@ or_right true = refl
 or_right false = refl
 
 -- one wish
-one_of_three : (p : Problem) (c r : ℕ) (s : Slot) (w : Wish) → rules_out p (cell c r s) w ≡ (holds_off p c s w || (excludes c r w || closes r s w))
+one_of_three : (p : Problem) (c r : ℕ) (s : Slot) (w : Wish)
+    → rules_out p (cell c r s) w ≡ (holds_off p c s w || (excludes c r w || closes r s w))
 one_of_three p c r s (Hold d g) = or_right (rules_out p (cell c r s) (Hold d g))
 one_of_three p c r s (Rooms d rooms) = or_right (rules_out p (cell c r s) (Rooms d rooms))
 one_of_three p c r s (Closed g) = refl
@@ -52,7 +53,8 @@ pulled_out true x n = all_true (range_below n)
 
 -- the marks of two rows say where the wishes leave no room
 no_room_by_marks : (p : Problem) (ws : List Wish) (c : ℕ) (s : Slot) (excluded closed : List Bool) → AreExcluded p ws c excluded
-    → AreClosed p ws s closed → (list_any (holds_off p c s) ws || list_all (λ r. slice_index_or excluded r false || slice_index_or closed r false)
+    → AreClosed p ws s closed → (list_any (holds_off p c s) ws || list_all
+    (λ r. slice_index_or excluded r false || slice_index_or closed r false)
     (range_below (length p.rooms))) ≡ list_all (λ r. is_ruled_out p ws (cell c r s)) (all_rooms p)
 no_room_by_marks p ws c s excluded closed e k =
     let h = list_any (holds_off p c s) ws in

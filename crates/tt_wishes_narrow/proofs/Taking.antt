@@ -8,7 +8,8 @@ use Rattle.tt_instance.specs.declared.rows.UnavailabilityRow.{UnavailabilityRow}
 use Rattle.tt_wishes.specs.declared.wish.Wish.{Wish}
 use Rattle.tt_wishes_narrow.specs.Narrowed.{left_out, room_left}
 
-pub taken_rows : (p : Problem) (ws : List Wish) (rows cut given : List UnavailabilityRow) (n : ℕ) → unavailabilities_seen rows ≡ left_out p ws
+pub taken_rows : (p : Problem) (ws : List Wish) (rows cut given : List UnavailabilityRow) (n : ℕ)
+    → unavailabilities_seen rows ≡ left_out p ws
     → n ≡ length p.unavailabilities → cut ≡ take (MAX_UNAVAILABILITIES - n) rows → given ≡ cut
     → unavailabilities_seen given ≡ take (room_left p) (left_out p ws)
 taken_rows p ws rows cut given n seen count some is =

@@ -11,7 +11,8 @@ returns-in_ok-descent-in-None-clause-begun g c =
     let p = c.args.instance.now in
     let root = c.args.root.now in
     let end = c.in_ok-descent-in-None.descent.table in
-    let begun = IfOk-weaker c.best_from-in-None.result (λ best. Keeps p root (table_of best) end) (λ best. BeginsAnew p root (table_of best))
+    let begun = IfOk-weaker c.best_from-in-None.result (λ best. Keeps p root (table_of best) end)
+    (λ best. BeginsAnew p root (table_of best))
     (λ best kept. record {
       start = c.in_ok-table-in-None.table;
       constructed = c.in_ok-table-in-None.ensures;

@@ -161,7 +161,8 @@ returns-clause-found g c =
     let root_is : c.deref-4.result.now ≡ root_of c.in_ok-narrow.narrow ws =
     c.deref-4.ensures.value ∙ c.in_ok-root.ensures ∙ ap (root_of c.in_ok-narrow.narrow) c.deref-3.ensures.value in
     inl (yes_kept c.args.files c.args.solution.now p c.in_ok-table.table ws spelled c.score-score.result c.score-score.ensures
-    (Give g.R.Source.remaining c.args.proofs.now) c.in_ok-narrow.narrow c.deref-4.result.now c.in_ok-bound.bound c.len-count.result c.cost.result
+    (Give g.R.Source.remaining c.args.proofs.now) c.in_ok-narrow.narrow c.deref-4.result.now c.in_ok-bound.bound c.len-count.result
+    c.cost.result
     c.in_ok-yes_answer.field-0 narrow_is root_is ok none
     (c.len-count.ensures ∙ sym c.deref-2.ensures.len ∙ ap length c.deref-2.ensures.value) c.cost.ensures c.in_ok-bound.ensures.found
     c.in_ok-bound.ensures.holds c.in_ok-yes_answer.ensures)

@@ -6,6 +6,7 @@ use Rattle.tt_instance.proofs.barred.add_rows.Given as goal
 abbrev pub invariant-loop-row : goal.invariant-loop-row
 invariant-loop-row l = record {
   long : length l.list.marks.items ≡ length l.fn.list.marks.items;
-  rows : unavailabilities_seen l.list.rows.items ≡ unavailabilities_seen l.fn.list.rows.items ++ unavailabilities_seen (take l.row-index l.rows);
+  rows : unavailabilities_seen l.list.rows.items ≡ unavailabilities_seen l.fn.list.rows.items
+      ++ unavailabilities_seen (take l.row-index l.rows);
   barred : IsBarred (length l.fn.list.marks.items) l.days l.list;
 }

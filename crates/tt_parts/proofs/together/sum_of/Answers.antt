@@ -50,5 +50,6 @@ returns-clause-none c =
     let stopped = c.in-Err.ensures.fault texts known in
     let long = c.sum_proofs_on.auto.sources ∙ zip_length Gives _ texts known in
     none_by c.no_sum.result
-    (refused_by p c.args.root.now texts stop.file stop.stop stopped (unread p c.args.root.now texts stop _ long stopped c.in-Err.ensures.failed)
+    (refused_by p c.args.root.now texts stop.file stop.stop stopped
+    (unread p c.args.root.now texts stop _ long stopped c.in-Err.ensures.failed)
     (λ b h within. c.in-Err.ensures.only texts b known h within)) c.no_sum.ensures.memory

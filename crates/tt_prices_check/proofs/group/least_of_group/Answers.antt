@@ -21,7 +21,12 @@ new-requires-clause-own c =
     let p = c.args.instance.now in
     let g = group_of c.args.group.now in
     let narrow = sym c.is_too_wide.ensures ∙ c.if-is_too_wide.false in
-    omega (arith, ap length c.in_ok-sizes.ensures.sizes, c.in_ok-sizes.ensures.counted, counted_within p g c.days.ensures.instance c.requires.in_range narrow)
+    omega (
+      arith,
+      ap length c.in_ok-sizes.ensures.sizes,
+      c.in_ok-sizes.ensures.counted,
+      counted_within p g c.days.ensures.instance c.requires.in_range narrow,
+    )
 
 pub new-requires-clause-narrow : goal.new-requires-clause-narrow
 new-requires-clause-narrow c =
@@ -52,7 +57,14 @@ new-requires-2-clause-narrow c =
     (sym c.is_too_wide.ensures ∙ c.if-is_too_wide.false)
 
 pub least_week-requires-clause-few : goal.least_week-requires-clause-few
-least_week-requires-clause-few c = omega (arith, c.deref-3.ensures.value, ap length c.deref-3.ensures.value, c.in_ok-week.ensures.all, c.days.ensures.value, c.days.ensures.within)
+least_week-requires-clause-few c = omega (
+  arith,
+  c.deref-3.ensures.value,
+  ap length c.deref-3.ensures.value,
+  c.in_ok-week.ensures.all,
+  c.days.ensures.value,
+  c.days.ensures.within,
+)
 
 pub returns-in-Ok-Some-clause-least : goal.returns-in-Ok-Some-clause-least
 returns-in-Ok-Some-clause-least c =

@@ -16,7 +16,8 @@ use Rattle.tt_prices_week.specs.declared.moves.PricedMove.{PricedMove}
 use Rattle.tt_prices_check.proofs.week.week_of.Goals as goal
 
 -- another day, at the end
-days_more : (p : Problem) (scale : ℕ) (g : PricedGroup) (old : List (Vec PricedMove Global)) (moves : Vec PricedMove Global) (days : List PricedDay)
+days_more : (p : Problem) (scale : ℕ) (g : PricedGroup) (old : List (Vec PricedMove Global)) (moves : Vec PricedMove Global)
+    (days : List PricedDay)
     → HasDays p scale g old → IsDayList p scale g (length old) days → AreMovesOf days moves.items → HasDays p scale g (old ++ moves ∷ [])
 days_more p scale g old moves days before list of_days d v l = elim (cases_lt d (length old)) [
   | inl h ↦
@@ -25,8 +26,11 @@ days_more p scale g old moves days before list of_days d v l = elim (cases_lt d 
   | inr h ↦
       let e : length old ≡ d = omega (arith, l, length-append old (moves ∷ [])) in
       let last : slice_index_or (old ++ moves ∷ []) d v ≡ moves =
-      sym (ap (λ n. slice_index_or (old ++ moves ∷ []) n v) e) ∙ get_or-append_seam old moves [] v in
-      (days, subst (λ n. IsDayList p scale g n days) e list, subst (λ (m : Vec PricedMove Global). AreMovesOf days m.items) (sym last) of_days)
+      sym (ap (λ n. slice_index_or (old ++ moves ∷ []) n v) e) ∙ get_or-append_seam old moves [] v in (
+        days,
+        subst (λ n. IsDayList p scale g n days) e list,
+        subst (λ (m : Vec PricedMove Global). AreMovesOf days m.items) (sym last) of_days,
+      )
 ]
 
 pub loop-day-preserved : goal.loop-day-preserved

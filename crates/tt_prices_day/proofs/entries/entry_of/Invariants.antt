@@ -13,7 +13,8 @@ invariant-loop-j l = record {
 abbrev pub invariant-loop-j-2 : goal.invariant-loop-j-2
 invariant-loop-j-2 l = record {
   long : length l.amounts ≡ 32;
-  lectures : (k : ℕ) → k < length l.shape.counted.items → slice_index l.amounts k ≡ slice_index l.node.key.counts (slice_index l.shape.counted.items k);
+  lectures : (k : ℕ) → k < length l.shape.counted.items → slice_index l.amounts k
+      ≡ slice_index l.node.key.counts (slice_index l.shape.counted.items k);
   further : (k : ℕ) (x : Own) → k < l.j → slice_index l.amounts (length l.shape.counted.items + k)
       ≡ min (further_at l.node (slice_index_or l.shape.own.items k x)) (slice_index_or l.shape.own.items k x).slack;
   value : l.overrun ≡ sum_by (λ own. further_at l.node own - own.slack) (take l.j l.shape.own.items);

@@ -8,7 +8,8 @@ use Rattle.tt_prices.specs.Limits.{IsWithin}
 use Rattle.tt_prices_day.proofs.Within.{within-more, within-plus, within-pos, within-fits, word-of, sum-of, scaled-le}
 use Rattle.tt_prices_day.proofs.node.next_node.Goals as goal
 
-points_within : (z : ℤ) (scale ones beyond : ℕ) → z ≡ pos (scale * (2 * ones + 5 * beyond)) → scale ≤ 1000 → ones ≤ 64 → beyond ≤ 4080 → IsWithin (2 ^ 30) z
+points_within : (z : ℤ) (scale ones beyond : ℕ) → z ≡ pos (scale * (2 * ones + 5 * beyond)) → scale ≤ 1000 → ones ≤ 64
+    → beyond ≤ 4080 → IsWithin (2 ^ 30) z
 points_within z scale ones beyond is few some more =
     subst (IsWithin (2 ^ 30)) (sym is) (within-pos (scale * (2 * ones + 5 * beyond)) (2 ^ 30)
     (omega (arith, scaled-le scale (2 * ones + 5 * beyond) 20528 few (omega (arith, some, more)))))

@@ -8,6 +8,8 @@ abbrev pub invariant-loop-course : goal.invariant-loop-course
 invariant-loop-course l = record {
   whole : length l.own.items ≡ l.course-index;
   inside : (j : ℕ) (x : Own) → j < l.course-index → (slice_index_or l.own.items j x).place < length l.courses;
-  are : (j : ℕ) (x : Own) → j < l.course-index → slice_index l.courses (slice_index_or l.own.items j x).place ≡ slice_index l.group.courses.items j;
-  slacks : (j : ℕ) (x : Own) → j < l.course-index → (slice_index_or l.own.items j x).slack ≡ slack l.instance (slice_index l.group.courses.items j);
+  are : (j : ℕ) (x : Own) → j < l.course-index → slice_index l.courses (slice_index_or l.own.items j x).place
+      ≡ slice_index l.group.courses.items j;
+  slacks : (j : ℕ) (x : Own) → j < l.course-index → (slice_index_or l.own.items j x).slack
+      ≡ slack l.instance (slice_index l.group.courses.items j);
 }

@@ -79,5 +79,6 @@ loop-i-preserved g c =
 pub returns-clause-derived : goal.returns-clause-derived
 returns-clause-derived g c =
     let past : length c.args.nodes.now ≤ c.loop-i.i = omega arith in
-    midway_end (g.P.Path.problem c.args.path.now) (g.P.Path.facts c.args.path.now) c.args.bound c.args.nodes.now c.requires.tree c.loop-i.i past
+    midway_end (g.P.Path.problem c.args.path.now) (g.P.Path.facts c.args.path.now) c.args.bound c.args.nodes.now c.requires.tree
+    c.loop-i.i past
     (g.P.Path.facts c.loop-i.path) c.loop-i.invariant.walked

@@ -46,7 +46,8 @@ take-requires g c = λ κs.
     let p = g.P.Path.problem c.args.path.now in
     let root = g.P.Path.facts c.args.path.now in
     let n = c.in-Ok-Some.node in
-    let long = walked_root p root c.args.reader.now.bound inv.sofar.nodes (g.P.Path.facts c.loop-node.path) inv.sofar.due inv.sofar.walked in (
+    let long = walked_root p root c.args.reader.now.bound inv.sofar.nodes (g.P.Path.facts c.loop-node.path) inv.sofar.due
+    inv.sofar.walked in (
       (refl, tt),
       (
         subst (λ (q : Problem). IsNodeOf q n) (sym inv.problem)
@@ -162,7 +163,8 @@ returns-in-Err-TooDeep-clause-fault g c =
     let path = g.P.Path.facts c.loop-node.path in
     let new = c.next_node.new.self in
     let u = stream_at new.fed (g.R.Source.remaining c.next_node.new.source) in
-    OnFault-weaker c.deep_fault.result (ExplainsChild new.sizes new.version new.count u (c.loop-node.count + 1)) (ExplainsNodes p root v b s)
+    OnFault-weaker c.deep_fault.result (ExplainsChild new.sizes new.version new.count u (c.loop-node.count + 1))
+    (ExplainsNodes p root v b s)
     (λ f. sofar_deep p root v b known _ s old t path inv.sofar new u n (e.state inv.sofar.sound)
     (λ j. e.read inv.sofar.sound (inv.known j)) c.loop-node.count f inv.count
     (stops_as _ p c.bound-bound.result b path n TooDeep inv.problem c.bound-bound.ensures taken.stops) k)
@@ -219,7 +221,8 @@ returns-in-Err-TooDeep-clause-up_to_failed_read g c =
     let here = e.cut_short inv.sofar.sound (inv.known k) _ child.0 in
     let first = inv.failing k _ here.0 in (
       first.0,
-      sofar_deep p root _ b true Unvisited _ old _ path first.1 new _ n (e.state inv.sofar.sound) (λ _. here.1) old.count (Text read_failed) refl
+      sofar_deep p root _ b true Unvisited _ old _ path first.1 new _ n (e.state inv.sofar.sound) (λ _. here.1) old.count
+          (Text read_failed) refl
           (stops_as _ p c.bound-bound.result b path n TooDeep inv.problem c.bound-bound.ensures taken.stops) refl child.1,
     )
 

@@ -13,7 +13,8 @@ invariant-loop-node g l = record {
       (stream_at l.fn.reader.fed (g.R.Source.remaining l.fn.source)) l.reader (stream_at l.reader.fed (g.R.Source.remaining l.source))
       (g.P.Path.facts l.path);
   failing : BeforeFailure l.fn.reader.fed (g.R.Source.remaining l.fn.source) l.reader.fed (g.R.Source.remaining l.source)
-      (λ s t. Sofar (g.P.Path.problem l.fn.path) (g.P.Path.facts l.fn.path) l.fn.reader.version l.fn.reader.bound true Unvisited s l.reader t
+      (λ s t. Sofar (g.P.Path.problem l.fn.path) (g.P.Path.facts l.fn.path) l.fn.reader.version l.fn.reader.bound true Unvisited s
+      l.reader t
       (g.P.Path.facts l.path));
   problem : g.P.Path.problem l.path ≡ g.P.Path.problem l.fn.path;
   count : l.count ≡ l.reader.count;

@@ -11,5 +11,6 @@ on_error (Err e) P h = h
 pub returns-clause-part : goal.returns-clause-part
 returns-clause-part g c =
     let text = report_text c.args.instance.now c.args.table.now c.args.by in
-    on_error c.flush.result _ (part_written g.W.Sink.contents g.W.Sink.has_failed c.new-out.result c.put_report.new.out c.flush.new.self _ _ text
+    on_error c.flush.result _ (part_written g.W.Sink.contents g.W.Sink.has_failed c.new-out.result c.put_report.new.out
+    c.flush.new.self _ _ text
     c.new-out.ensures.held c.new-out.ensures.sink (search rules) c.put_report.ensures c.flush.ensures.puts)

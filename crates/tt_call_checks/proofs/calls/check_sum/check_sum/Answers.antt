@@ -79,7 +79,8 @@ returns-then-not-feasible-clause-yes g c =
     (points c.feasible.result _ c.feasible.ensures c.if-not-feasible.true) h within)
 
 pub summed_bound-requires-clause-feasible : goal.summed_bound-requires-clause-feasible
-summed_bound-requires-clause-feasible g c = is_feasible c.args.instance.now c.args.solution.now c.in_ok-instance.instance c.in_ok-table.table
+summed_bound-requires-clause-feasible g c = is_feasible c.args.instance.now c.args.solution.now c.in_ok-instance.instance
+    c.in_ok-table.table
     c.in_ok-instance.ensures.found c.in_ok-table.ensures.found c.score-score.result c.score-score.ensures
     (no_points c.feasible.result _ c.feasible.ensures c.if-not-feasible.false)
 
