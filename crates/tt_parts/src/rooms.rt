@@ -1,16 +1,15 @@
 //! Bounds on the seats that rooms lack.
 
-ghost use Rattle.std.specs.Prelude.{All, IfOk};
-ghost use Rattle.tt_leaf.specs.Ranges.{IsClaimOf};
+ghost use Rattle.tt_leaf_find.specs.Found.{IsAnswer};
 
 use std::alloc::{AllocError, Global};
 use tt_instance::Instance;
 use tt_leaf::{Bound, Claim, ClaimList, Leaf};
-use tt_leaf_find::best_claims;
+use tt_leaf_find::{best_claims, priced_claims};
 use tt_leaf_rules::claim_value;
 use tt_parts_rents::find_rents;
 use tt_path::{Fact, Path, PathFault};
-use tt_path_trail::TrailPath;
+use tt_proof_check::start_path;
 use tt_proof_read::Node;
 use tt_proof_write::{WriteFault, write_proof};
 
@@ -24,19 +23,18 @@ struct Claims {
     points: u64,
 }
 
-/// Extracts the claims about seats from other claims.
-fn seats_of<'i, P: Path<'i>>(
-    alloc: Global,
-    path: &P,
-    claims: Vec<Claim>,
-) -> Result<Claims, AllocError>
-    requires { All (IsClaimOf (P.problem path.now)) claims.items }
+/// Extracts the claims about seats from a leaf of claims; there are none in another leaf.
+fn seats_of<'i, P: Path<'i>>(alloc: Global, path: &P, leaf: Leaf) -> Result<Claims, AllocError>
+    requires { IsAnswer (P.problem path.now) leaf }
 {
     let mut seats = Claims {
         list: Vec::new(alloc),
         points: 0,
     };
-    for claim in claims {
+    let Leaf::Cost(claims) = leaf else {
+        return Ok(seats);
+    };
+    for claim in claims.into_vec() {
         if matches!(claim, Claim::Capacity { .. } | Claim::Prices { .. }) {
             seats.points = seats.points.saturating_add(claim_value(path, &claim));
             seats.list.push(claim)?;
@@ -52,21 +50,22 @@ pub struct RoomsProof {
     pub points: u64,
 }
 
-/// Returns the path with these facts; `None` if they are too many.
-fn path_of<'p, 'i>(
-    alloc: Global,
-    instance: &'p Instance<'i>,
-    root: &[Fact],
-) -> Result<Option<TrailPath<'p, 'i>>, AllocError> {
-    let mut path = TrailPath::new(alloc, instance)?;
-    for fact in root {
-        match path.push(*fact) {
-            Ok(()) => {}
-            Err(PathFault::TooDeep) => return Ok(None),
-            Err(PathFault::OutOfMemory) => return Err(AllocError),
-        }
+/// Returns the claims about seats that are worth more: those of each course alone, or, below facts, those with prices over groups of courses that
+/// compete for rooms. Without facts a file of rents proves no less than these.
+fn find_seats<'i, P: Path<'i>>(alloc: Global, path: &P) -> Result<Claims, AllocError> {
+    let alone = seats_of(alloc, path, best_claims(alloc, path)?)?;
+    if path.depth() == 0 {
+        return Ok(alone);
     }
-    Ok(Some(path))
+    let Some(leaf) = priced_claims(alloc, path)? else {
+        return Ok(alone);
+    };
+    let together = seats_of(alloc, path, leaf)?;
+    Ok(if alone.points < together.points {
+        together
+    } else {
+        alone
+    })
 }
 
 /// Returns a proof of one leaf below a root, which prices the seats that the rooms lack; `None` if its value would be 0.
@@ -75,13 +74,12 @@ fn find_leaf(
     instance: &Instance<'_>,
     root: &[Fact],
 ) -> Result<Option<RoomsProof>, AllocError> {
-    let Some(path) = path_of(alloc, instance, root)? else {
-        return Ok(None);
+    let path = match start_path(alloc, instance, root) {
+        Ok(path) => path,
+        Err(PathFault::TooDeep) => return Ok(None),
+        Err(PathFault::OutOfMemory) => return Err(AllocError),
     };
-    let Leaf::Cost(claims) = best_claims(alloc, &path)? else {
-        return Ok(None);
-    };
-    let seats = seats_of(alloc, &path, claims.into_vec())?;
+    let seats = find_seats(alloc, &path)?;
     let points = seats.points;
     if points == 0 {
         return Ok(None);

@@ -8,7 +8,7 @@ use tt_instance::Instance;
 use tt_path::{Fact, Path, PathFault};
 use tt_path_trail::TrailPath;
 
-/// Creates a path with the facts of the root.
+/// Creates a path with the facts of a root, in their order.
 pub fn start_path<'p, 'i>(
     alloc: Global,
     instance: &'p Instance<'i>,
