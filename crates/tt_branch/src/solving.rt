@@ -15,7 +15,6 @@ ghost use Rattle.tt_branch.specs.declared.limit.TheConstants.{MAX_OPENED};
 
 use crate::best::{Best, Turns, bound_of, first_best};
 use crate::improvement::Improvement;
-use crate::moves::push_root;
 use crate::nodes::{Written, write_nodes};
 use crate::rounds::{Ending, grow};
 use crate::search::Search;
@@ -23,8 +22,9 @@ use crate::visit::{best_worth, open_at};
 use std::alloc::{AllocError, Global};
 use tt_instance::Instance;
 use tt_leaf::Bound;
-use tt_path::{Fact, Path};
+use tt_path::{Fact, Path, PathFault};
 use tt_path_trail::TrailPath;
+use tt_proof_check::start_path;
 use tt_proof_read::Node;
 use tt_reason::find_reason;
 use tt_table::Timetable;
@@ -154,6 +154,23 @@ fn turns_in(
     })
 }
 
+/// Creates the path of a root.
+fn path_of<'p, 'i>(
+    alloc: Global,
+    instance: &'p Instance<'i>,
+    root: &[Fact],
+) -> Result<TrailPath<'p, 'i>, AllocError>
+    requires { length root.now ≤ MAX_FACTS }
+    ensures problem { IfOk result (λ s. s.problem ≡ instance.now) }
+    ensures facts { IfOk result (λ s. s.facts ≡ root.now) }
+{
+    match start_path(alloc, instance, root) {
+        Ok(path) => Ok(path),
+        Err(PathFault::OutOfMemory) => Err(AllocError),
+        Err(PathFault::TooDeep) => unreachable!(),
+    }
+}
+
 /// Searches for a best timetable by a tree below a root of facts. Returns the best timetable that it found and a proof of a lower bound for those that
 /// fit the root, of at most `nodes` nodes if each is closed, and of fewer than twice as many otherwise; if each is closed, the cost and the bound are
 /// equal, or no timetable exists that fits and breaks no hard rule. If a timetable is given that fits and breaks no hard rule, the best one is at most as
@@ -174,8 +191,7 @@ pub fn solve<W: Watch>(
     ensures { IfOk result (λ o. IsOutcomeUntil instance.now start.entry.root.now start.entry.table nodes (W.has_ended watch.new) o.best o.bound o.proof.items
         o.finished) }
 {
-    let mut path = TrailPath::new(alloc, instance)?;
-    push_root(&mut path, start.root)?;
+    let mut path = path_of(alloc, instance, start.root)?;
     let improvement = Improvement {
         seed,
         goal: best_worth(alloc, &path)?,

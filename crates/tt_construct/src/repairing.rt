@@ -9,10 +9,13 @@ use tt_instance::Instance;
 use tt_plans_odds::{CERTAIN, Dice, Heat, POINT, logarithm};
 
 /// The maximum number of attempts, of which each has twice as many steps as the one before.
-const MOST_ATTEMPTS: u32 = 5;
+const MOST_ATTEMPTS: u32 = 6;
 
-/// The number of attempts after which no other is made unless the last one left fewer rules broken than the one before.
+/// The number of attempts after which no other is made if the last one left many rules broken, and no fewer than the one before.
 const SURE_ATTEMPTS: u32 = 3;
+
+/// One broken rule for this many lectures is few.
+const LECTURES_OF_ONE: i64 = 32;
 
 /// The number of steps of the first attempt for each lecture.
 const STEPS: u64 = 2_000;
@@ -90,15 +93,16 @@ fn anneal(periods: &mut Periods, dice: &mut Dice, steps: u64) {
     }
 }
 
-/// Makes attempts until no rule is broken, or another attempt has little hope: so a week that has no timetable takes little time.
+/// Makes attempts until no rule is broken, or another attempt has little hope: so a week that is far from having a timetable takes little time.
 fn attempt(periods: &mut Periods, dice: &mut Dice) {
-    let mut steps = STEPS
-        .saturating_mul(u64::from(periods.lectures()))
-        .min(MOST_STEPS);
+    let lectures = periods.lectures();
+    let few = i64::from(lectures) / LECTURES_OF_ONE;
+    let mut steps = STEPS.saturating_mul(u64::from(lectures)).min(MOST_STEPS);
     for number in 1..=MOST_ATTEMPTS {
         let before = periods.broken;
         anneal(periods, dice, steps);
-        let is_stuck = number >= SURE_ATTEMPTS && periods.broken >= before;
+        let is_far = periods.broken > few && periods.broken >= before;
+        let is_stuck = number >= SURE_ATTEMPTS && is_far;
         if periods.broken == 0 || is_stuck {
             return;
         }

@@ -130,7 +130,7 @@ td:target, .grid:target, tr:target { outline: 3px solid var(--link); outline-off
   .grid:not(.day) thead, .grid:not(.day) tbody th { display: none; }
   .grid:not(.day) tbody { display: flex; flex-direction: column; }
   .grid:not(.day) tr { display: contents; }
-  .grid:not(.day) td { display: block; order: 15; height: auto; border-width: 1px; }
+  .grid:not(.day) td { display: block; order: 15; width: auto; height: auto; border-width: 1px; }
   .grid:not(.day) td:not(:has(div)) { display: none; }
   .grid:not(.day) td:nth-child(2) { order: 1; }
   .grid:not(.day) td:nth-child(3) { order: 2; }

@@ -14,8 +14,8 @@ pub solve_over-requires : goal.solve_over-requires
 solve_over-requires g c = λ κs.
     let root = c.args.start.root.now in
     let best = c.in_ok-best.best in
-    let same = sym (c.in_ok-push_root.ensures.unchanged ∙ c.in_ok-path.ensures.problem) in
-    let facts = c.in_ok-push_root.ensures.pushed ∙ ap (λ (l : List Fact). l ++ root) c.in_ok-path.ensures.facts in (
+    let same = sym c.in_ok-path.ensures.problem in
+    let facts = c.in_ok-path.ensures.facts in (
       (refl, tt),
       (
         record { below = []; whole = facts ∙ sym (append-nil root) },
@@ -39,7 +39,7 @@ returns g c =
     let given = c.args.start.table in
     let best = c.in_ok-best.best in
     let ended = g.W.Watch.has_ended c.solve_over.new.watch in
-    let same = c.in_ok-push_root.ensures.unchanged ∙ c.in_ok-path.ensures.problem in
+    let same = c.in_ok-path.ensures.problem in
     IfOk-weaker c.solve_over.result
     (λ o. (t : Option (List Cell)) → BeginsWell p root t (table_of best)
     → IsOutcomeUntil p root t c.args.nodes ended o.best o.bound o.proof.items o.finished)
