@@ -9,17 +9,18 @@ use tt_plans_odds::{CERTAIN, Dice, Heat, NAT, POINT, logarithm};
 pub const ROUNDS: u64 = 40;
 
 /// The amount that a missing day costs more while it is hot, in quarters of a point: a plan that gives up a day has more freedom, so heat
-/// prefers it.
+/// prefers it. In a heavy week it costs no more.
 const DEARER_DAYS: i64 = 3 * POINT;
 
 /// The part of the way from the coldest temperature to the hottest one from which on it is hot, in hundredths.
 const DEARER_WAY: i64 = 40;
 
-/// The temperatures at which the hot part of a cycle begins and ends.
+/// The temperatures at which the hot part of a cycle begins and ends, and the most that a missing day costs more there.
 #[derive(Clone, Copy)]
 pub struct Cooling {
     hottest: i64,
     coldest: i64,
+    dearer: i64,
 }
 
 /// Returns the temperature after the steps of a part that were made: it falls by the same factor in the same time, from one level to
@@ -43,6 +44,7 @@ impl Cooling {
         Cooling {
             hottest: load.hottest(),
             coldest: Load::coldest(),
+            dearer: if load.is_heavy() { 0 } else { DEARER_DAYS },
         }
     }
 
@@ -60,9 +62,9 @@ impl Cooling {
         let height = self.hottest.saturating_sub(self.coldest);
         let way = height.saturating_mul(DEARER_WAY) / 100;
         let more = above
-            .saturating_mul(DEARER_DAYS)
+            .saturating_mul(self.dearer)
             .checked_div(way)
             .unwrap_or(0);
-        DAY_COST.wrapping_add(more.clamp(0, DEARER_DAYS))
+        DAY_COST.wrapping_add(more.clamp(0, self.dearer))
     }
 }

@@ -24,6 +24,9 @@ const HOTTEST: i64 = 90;
 /// The temperature at which a plan forgets its start at a load of 1, in hundredths of a point.
 const MELTING: i64 = 1_500;
 
+/// The load from which on a week is heavy: its best plans give up many days in any case.
+const HEAVY: u64 = 2 * UNIT;
+
 /// The average number of curricula of a course, as a multiple of three: what a lecture that moves changes.
 #[derive(Clone, Copy)]
 pub struct Load {
@@ -57,9 +60,9 @@ impl Load {
         }
     }
 
-    /// Returns its root, in units.
-    fn root(self) -> u64 {
-        self.units.saturating_mul(UNIT).isqrt()
+    /// Checks whether the week is heavy.
+    pub fn is_heavy(self) -> bool {
+        self.units >= HEAVY
     }
 
     /// Returns the level at the end of the hot part of a cycle.
@@ -77,12 +80,9 @@ impl Load {
         level(COOL, UNIT)
     }
 
-    /// Returns the level at the beginning of a cycle: it grows with the load to the power of 1.75.
+    /// Returns the level at the beginning of a cycle.
     pub fn hottest(self) -> i64 {
-        let quarter_root = self.root().saturating_mul(UNIT).isqrt().max(1);
-        let square = self.units.saturating_mul(self.units);
-        let power = square.checked_div(quarter_root).unwrap_or(UNIT);
-        level(HOTTEST, power)
+        level(HOTTEST, self.units)
     }
 
     /// Returns the level at which a plan forgets its start.
