@@ -5,6 +5,7 @@ use std::test::Fail;
 use tt_instance_read::read_instance;
 use tt_leaf::Bound;
 use tt_parts::{Effort, add_up, copy_texts, find_parts};
+use tt_path::{Fact, Pattern, Who};
 use tt_proof_sum::sum_proofs;
 use tt_table::Entry;
 use tt_testing_samples::{GAP, MINI, WIDE};
@@ -21,6 +22,10 @@ const PAIR: &str =
 /// least.
 const CHAIN: &str =
     "Name: Chain\nCourses: 3\nRooms: 2\nDays: 3\nPeriods_per_day: 3\nCurricula: 2\nConstraints: 0\n\nCOURSES:\na t1 3 3 10\nb t2 1 1 10\nc t3 1 1 10\n\nROOMS:\nR 20\nS 20\n\nCURRICULA:\nq 2 a b\nr 2 a c\n\nUNAVAILABILITY_CONSTRAINTS:\n\nEND.\n";
+
+/// Two lectures with the large room as the only one that seats them, in one of two periods each.
+const HALL: &str =
+    "Name: Hall\nCourses: 2\nRooms: 2\nDays: 1\nPeriods_per_day: 2\nCurricula: 0\nConstraints: 0\n\nCOURSES:\na t1 1 1 30\nb t2 1 1 30\n\nROOMS:\nL 30\nS 10\n\nCURRICULA:\n\nUNAVAILABILITY_CONSTRAINTS:\n\nEND.\n";
 
 fn found(alloc: Global, text: &str, nodes: u32) -> Result<(Bound, Vec<Vec<u8>>), Fail> {
     let instance = read_instance(alloc, text.as_bytes())?;
@@ -44,6 +49,31 @@ fn what_parts_come_to(rt: HostRuntime) -> Result<(), Fail> {
             (Bound::AtLeast(bound), proofs),
             "{text}"
         );
+    }
+    Ok(())
+}
+
+/// Returns the fact that a course isn't in the first room in the second period of the first day.
+fn not_in_hall(course: u32) -> Fact {
+    Fact {
+        pattern: Pattern {
+            who: Who::Course(course),
+            room: Some(0),
+            day: Some(0),
+            period: Some(1),
+        },
+        holds: false,
+    }
+}
+
+#[test]
+fn a_room_that_is_closed_lacks_seats_of_two_courses(rt: HostRuntime) -> Result<(), Fail> {
+    let instance = read_instance(rt.alloc(), HALL.as_bytes())?;
+    let effort = Effort { nodes: 0, seed: 1 };
+    let closed = [not_in_hall(0), not_in_hall(1)];
+    for (root, bound) in [(&closed[..0], 0), (&closed[..1], 0), (&closed[..], 20)] {
+        let parts = find_parts(rt.alloc(), &instance, root, effort, &[], &mut Unwatched)?;
+        assert_eq!(rt; parts.bound, Bound::AtLeast(bound));
     }
     Ok(())
 }
