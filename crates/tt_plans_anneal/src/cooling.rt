@@ -65,6 +65,6 @@ impl Cooling {
             .saturating_mul(self.dearer)
             .checked_div(way)
             .unwrap_or(0);
-        DAY_COST.wrapping_add(more.clamp(0, self.dearer))
+        DAY_COST.wrapping_add(more.clamp(0, DEARER_DAYS))
     }
 }
