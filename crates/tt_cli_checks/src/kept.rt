@@ -7,7 +7,8 @@ use tt_call_kept::{KeptFault, KeptFiles, check_kept, sum_kept};
 use tt_cli_arguments::Showing;
 use tt_cli_progress::{Shown, World, clear, ticker_of};
 use tt_cli_saving::{
-    CommandFault, Input, InputFile, Inputs, LastUnread, Reply, fault_over, proof_files,
+    CommandFault, Input, InputFile, Inputs, LastUnread, Naming, Reply, fault_over_named,
+    proof_files,
 };
 
 /// The paths of the files.
@@ -18,12 +19,18 @@ pub struct KeptRequest<'a> {
     /// A timetable that is checked too.
     pub solution: Option<&'a str>,
     pub proofs: &'a [&'a str],
+    pub naming: Naming,
 }
 
 /// Returns the fault of a call, with the last proof that couldn't be read, if there is one.
-fn kept_fault(alloc: Global, fault: KeptFault, unread: &LastUnread<'_>) -> CommandFault {
+fn kept_fault(
+    alloc: Global,
+    fault: KeptFault,
+    naming: Naming,
+    unread: &LastUnread<'_>,
+) -> CommandFault {
     match fault {
-        KeptFault::Call(fault) => fault_over(alloc, fault, unread.get()),
+        KeptFault::Call(fault) => fault_over_named(alloc, fault, naming, unread.get()),
         fault => CommandFault::from(fault),
     }
 }
@@ -33,12 +40,13 @@ fn sum_files<R: World, E: Write>(
     rt: &R,
     files: KeptFiles<'_>,
     solution: Option<InputFile<'_>>,
-    proofs: &[&str],
+    request: KeptRequest<'_>,
     shown: &Shown<'_, R, E>,
 ) -> Result<Reply, CommandFault> {
     let alloc = rt.alloc();
     let unread = Cell::new(None);
-    let mut proofs = proof_files(rt, proofs, true, shown, &unread)?;
+    let KeptRequest { proofs, naming, .. } = request;
+    let mut proofs = proof_files(rt, proofs, naming, true, shown, &unread)?;
     let answer = match solution {
         None => sum_kept(alloc, files, &mut proofs),
         Some(solution) => {
@@ -48,7 +56,7 @@ fn sum_files<R: World, E: Write>(
     };
     match answer {
         Ok(answer) => Ok(Reply::to(alloc, answer)?),
-        Err(fault) => Err(kept_fault(alloc, fault, &unread)),
+        Err(fault) => Err(kept_fault(alloc, fault, naming, &unread)),
     }
 }
 
@@ -64,7 +72,7 @@ pub fn answer_kept<R: World, E: Write>(
     let instance = inputs.add(Input::Instance, request.instance)?;
     let solution = inputs.add_given(Input::Solution, request.solution)?;
     let wishes = inputs.add(Input::Wishes, request.wishes)?;
-    inputs.add_proofs(request.proofs)?;
+    inputs.add_proofs(request.proofs, request.naming)?;
     let instance = instance.read(rt)?;
     let wishes = wishes.read(rt)?;
     let files = KeptFiles {
@@ -72,7 +80,7 @@ pub fn answer_kept<R: World, E: Write>(
         wishes: &wishes,
     };
     let shown = RefCell::new(ticker_of(rt, err, command, showing));
-    let reply = sum_files(rt, files, solution, request.proofs, &shown);
+    let reply = sum_files(rt, files, solution, request, &shown);
     clear(&shown);
     reply
 }

@@ -10,6 +10,7 @@ use tt_call_kept::KeptFault;
 use tt_call_wished::WishedFault;
 use tt_call_wishes::ValidateFault;
 use tt_cli_files::WriteFault;
+use tt_proof_sum::FileFault;
 
 /// The reason why a command is refused.
 #[derive(Debug, Drop, Error)]
@@ -18,6 +19,9 @@ pub enum CommandFault {
     OutOfMemory,
     #[error("{0}")]
     Call(AppFault),
+    /// The proof of a command that takes one has this fault.
+    #[error("proof: {0}")]
+    Proof(FileFault),
     #[error("{0}")]
     Changes(ChangesFault),
     #[error("{0}")]

@@ -32,6 +32,25 @@ pub enum Input {
     NumberedProof(u64),
 }
 
+/// How faults and progress call the proofs of a command.
+#[derive(Clone, Copy, Debug, PartialEq, Eq)]
+pub enum Naming {
+    /// `proof`, if the command takes one.
+    Alone,
+    /// `proof 1`, `proof 2` and so on, if it takes several.
+    Numbered,
+}
+
+impl Naming {
+    /// Returns the file of the proof with this number, from 1 on.
+    fn input(self, number: u64) -> Input {
+        match self {
+            Naming::Alone => Input::Proof,
+            Naming::Numbered => Input::NumberedProof(number),
+        }
+    }
+}
+
 /// The reason why a file isn't read.
 #[derive(Debug, Drop, Error)]
 pub enum ReadFault {
@@ -171,12 +190,12 @@ impl<'a> Inputs<'a> {
         }
     }
 
-    /// Adds several proofs.
-    pub fn add_proofs(&mut self, paths: &[&'a str]) -> Result<(), CommandFault> {
+    /// Adds proofs.
+    pub fn add_proofs(&mut self, paths: &[&'a str], naming: Naming) -> Result<(), CommandFault> {
         let mut number: u64 = 0;
         for path in paths {
             number = number.saturating_add(1);
-            self.add(Input::NumberedProof(number), path)?;
+            self.add(naming.input(number), path)?;
         }
         Ok(())
     }

@@ -17,10 +17,12 @@ pub use clash::show_clash;
 pub use fault::CommandFault;
 pub use folder::{Folder, FolderFile};
 pub use front::WISHES_LINE;
-pub use inputs::{Input, InputFile, Inputs, MAX_FILE_BYTES, ReadFault, read_if_given};
+pub use inputs::{Input, InputFile, Inputs, MAX_FILE_BYTES, Naming, ReadFault, read_if_given};
 pub use keeper::{Keeper, KeptTable};
 pub use remembering::Remembering;
 pub use reply::Reply;
 pub use shelf::{NoShelf, Shelf};
-pub use sources::{LastUnread, ProofFile, fault_over, fault_over_proof, proof_files};
+pub use sources::{
+    LastUnread, ProofFile, fault_over, fault_over_named, fault_over_proof, proof_files,
+};
 pub use targets::{Found, Prepared, Target, reply_with};

@@ -4,6 +4,7 @@ ghost use Rattle.std.specs.Prelude.{◌≡◌, ◌≤◌, true, length, IfOk};
 
 use crate::fault::CommandFault;
 use crate::front::Front;
+use crate::inputs::Naming;
 use std::alloc::{AllocError, Global};
 use std::cell::Cell;
 use std::io;
@@ -27,7 +28,8 @@ pub type LastUnread<'p> = Cell<Option<Unread<'p>>>;
 pub struct ProofFile<'r, 'p, 't, R: World, E: Write> {
     rt: &'r R,
     path: &'p str,
-    number: u64,
+    /// The number that progress shows, from 1 on.
+    number: Option<u64>,
     shown: &'r Shown<'t, R, E>,
     unread: &'r LastUnread<'p>,
     file: Option<OpenProof<'r, 't, R, E>>,
@@ -72,7 +74,7 @@ impl<'r, 'p, 't, R: World, E: Write> ProofFile<'r, 'p, 't, R, E> {
     fn open(&mut self) -> io::Result<()>
         ensures { self.new.failed ≡ self.old.failed }
     {
-        let mut file = open_counted(self.rt, self.path, Some(self.number), self.shown)?;
+        let mut file = open_counted(self.rt, self.path, self.number, self.shown)?;
         if self.is_under_wishes {
             self.front = Some(Front::read_from(&mut file)?);
         }
@@ -147,6 +149,7 @@ impl<'r, 'p, 't, R: World, E: Write> Source for ProofFile<'r, 'p, 't, R, E> {
 pub fn proof_files<'r, 'p, 't, R: World, E: Write>(
     rt: &'r R,
     paths: &[&'p str],
+    naming: Naming,
     is_under_wishes: bool,
     shown: &'r Shown<'t, R, E>,
     unread: &'r LastUnread<'p>,
@@ -158,7 +161,10 @@ pub fn proof_files<'r, 'p, 't, R: World, E: Write>(
         let file = ProofFile {
             rt,
             path,
-            number,
+            number: match naming {
+                Naming::Alone => None,
+                Naming::Numbered => Some(number),
+            },
             shown,
             unread,
             file: None,
@@ -184,6 +190,23 @@ pub fn fault_over(alloc: Global, fault: AppFault, unread: Option<Unread<'_>>) ->
             },
             Err(_) => CommandFault::OutOfMemory,
         },
+    }
+}
+
+/// Returns the fault of a call that sums proofs, with the file that couldn't be read, if there is one. The fault of a proof that is called by no
+/// number has none.
+pub fn fault_over_named(
+    alloc: Global,
+    fault: AppFault,
+    naming: Naming,
+    unread: Option<Unread<'_>>,
+) -> CommandFault {
+    match (naming, fault) {
+        (Naming::Alone, AppFault::Sum(_, fault)) => CommandFault::Proof(fault),
+        (Naming::Alone, AppFault::ReadFailedIn(_)) => {
+            fault_over(alloc, AppFault::ReadFailed, unread)
+        }
+        (_, fault) => fault_over(alloc, fault, unread),
     }
 }
 

@@ -43,13 +43,15 @@ const CHECK: [&str; 6] = ["check", "a.ctt", "a.sol", "a.proof", "--wishes", "a.w
 
 #[test]
 fn a_bound_holds_of_the_timetables_that_keep_wishes(rt: HostRuntime) -> Result<(), Fail> {
-    for words in [BOUND, SUM] {
+    for (words, refused) in [
+        (BOUND, "refused: proof: TooCheap at node 0\n"),
+        (SUM, "refused: proof 1: TooCheap at node 0\n"),
+    ] {
         for proof in [PROOF, WISHED_PROOF] {
             let outcome = kept(rt.alloc(), &words, proof, CLOSED, "")?;
             assert_eq!(rt; outcome.answer(), (0, "bound 5\nkept 1\n", ""));
         }
         let outcome = kept(rt.alloc(), &words, PROOF, "", "")?;
-        let refused = "refused: proof 1: TooCheap at node 0\n";
         assert_eq!(rt; outcome.answer(), (2, "", refused));
     }
     Ok(())
@@ -92,7 +94,7 @@ fn wishes_are_refused_before_the_solution_and_the_proof(rt: HostRuntime) -> Resu
         (
             CLOSED,
             "a R 0 0 a R 0 1",
-            "refused: proof 1: Expected CTTP at byte 0\n",
+            "refused: proof: Expected CTTP at byte 0\n",
         ),
     ] {
         let outcome = kept(rt.alloc(), &CHECK, "wish", wishes, solution)?;

@@ -6,7 +6,7 @@ use std::io::Write;
 use tt_call_checks::bound;
 use tt_cli_arguments::BoundRequest;
 use tt_cli_progress::{World, clear, open_counted, ticker_of};
-use tt_cli_saving::{CommandFault, Input, Inputs, Reply, fault_over_proof};
+use tt_cli_saving::{CommandFault, Input, Inputs, Naming, Reply, fault_over_proof};
 use tt_text::Reading;
 
 /// Returns the answer of `bound`.
@@ -21,6 +21,7 @@ pub fn answer_bound<R: World, E: Write>(
             wishes,
             solution: None,
             proofs: &[request.proof],
+            naming: Naming::Alone,
         };
         return answer_kept(rt, err, "bound", kept, request.showing);
     }

@@ -7,7 +7,7 @@ use std::io::Write;
 use tt_call_checks::check;
 use tt_cli_arguments::CheckRequest;
 use tt_cli_progress::{World, clear, open_counted, ticker_of};
-use tt_cli_saving::{CommandFault, Input, Inputs, Reply, fault_over_proof};
+use tt_cli_saving::{CommandFault, Input, Inputs, Naming, Reply, fault_over_proof};
 use tt_text::{Pieces, Reading};
 
 /// Returns the answer of `check`.
@@ -22,6 +22,7 @@ pub fn answer_check<R: World, E: Write>(
             wishes,
             solution: Some(request.solution),
             proofs: &[request.proof],
+            naming: Naming::Alone,
         };
         return answer_kept(rt, err, "check", kept, request.showing);
     }

@@ -15,8 +15,8 @@ use tt_cli_arguments::{GivenWeeks, PageRequest};
 use tt_cli_files::{Batch, Draft, Label, OutputFault, Place, Ready, Role, StandardStream, finish};
 use tt_cli_progress::{Shown, World, Written, clear, ticker_of};
 use tt_cli_saving::{
-    CommandFault, Input, Inputs, LastUnread, Prepared, Reply, Target, fault_over, proof_files,
-    read_if_given,
+    CommandFault, Input, Inputs, LastUnread, Naming, Prepared, Reply, Target, fault_over,
+    proof_files, read_if_given,
 };
 use tt_page::{STYLE, Sheet};
 use tt_text::{Sink, Writing};
@@ -260,7 +260,15 @@ fn put_page<R: World, O: Write, E: Write>(
     shown: &Shown<'_, R, E>,
 ) -> Result<Reply, CommandFault> {
     let unread = Cell::new(None);
-    let mut proofs = proof_files(rt, proofs, texts.wishes.is_some(), shown, &unread)?;
+    let is_under_wishes = texts.wishes.is_some();
+    let mut proofs = proof_files(
+        rt,
+        proofs,
+        Naming::Numbered,
+        is_under_wishes,
+        shown,
+        &unread,
+    )?;
     let Prepared { label, ready } = output;
     match make_page(rt, ready, texts, &mut proofs, out, shown) {
         Ok(Made::Written(reply)) => Ok(reply),
@@ -323,7 +331,7 @@ fn open_page<R: World>(
     let solution = inputs.add(Input::Solution, request.solution)?;
     let older = inputs.add_given(Input::OlderSolution, request.older)?;
     let wishes = inputs.add_given(Input::Wishes, request.wishes)?;
-    inputs.add_proofs(&request.proofs)?;
+    inputs.add_proofs(&request.proofs, Naming::Numbered)?;
     let target = Target {
         role: Role::Page,
         path: request.out,

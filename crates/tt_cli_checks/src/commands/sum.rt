@@ -6,7 +6,9 @@ use std::io::Write;
 use tt_call_checks::{check_sum, sum};
 use tt_cli_arguments::SumRequest;
 use tt_cli_progress::{Shown, World, clear, ticker_of};
-use tt_cli_saving::{CommandFault, Input, InputFile, Inputs, Reply, fault_over, proof_files};
+use tt_cli_saving::{
+    CommandFault, Input, InputFile, Inputs, Naming, Reply, fault_over, proof_files,
+};
 
 /// Sums the bounds that proofs derive, and shows the progress of reading them.
 fn sum_files<R: World, E: Write>(
@@ -18,7 +20,7 @@ fn sum_files<R: World, E: Write>(
 ) -> Result<Reply, CommandFault> {
     let alloc = rt.alloc();
     let unread = Cell::new(None);
-    let mut files = proof_files(rt, proofs, false, shown, &unread)?;
+    let mut files = proof_files(rt, proofs, Naming::Numbered, false, shown, &unread)?;
     let answer = match solution {
         None => sum(alloc, instance, &mut files),
         Some(solution) => {
@@ -44,13 +46,14 @@ pub fn answer_sum<R: World, E: Write>(
             wishes,
             solution: request.solution,
             proofs: &request.proofs,
+            naming: Naming::Numbered,
         };
         return answer_kept(rt, err, "sum", kept, request.showing);
     }
     let mut inputs = Inputs::new(rt.alloc());
     let instance = inputs.add(Input::Instance, request.instance)?;
     let solution = inputs.add_given(Input::Solution, request.solution)?;
-    inputs.add_proofs(&request.proofs)?;
+    inputs.add_proofs(&request.proofs, Naming::Numbered)?;
     let instance = instance.read(rt)?;
     let shown = RefCell::new(ticker_of(rt, err, "sum", request.showing));
     let reply = sum_files(rt, &instance, solution, &request.proofs, &shown);
