@@ -40,7 +40,7 @@ pub enum Request<'a> {
 }
 
 /// The version, and the toolchain with which the program was proved, as `rt version` names it.
-const VERSION: &str = "0.1 (rattle-kit-13f logic dac8208d650f15bf)";
+const VERSION: &str = "1.0 (rattle-kit-13f logic dac8208d650f15bf)";
 
 /// The commands, in the order in which a user meets them.
 const COMMANDS: [Description<'static>; 12] = [
