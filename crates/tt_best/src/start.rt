@@ -22,11 +22,8 @@ use tt_search::{construct, descend};
 use tt_table::Timetable;
 use tt_watch::Watch;
 
-/// The maximum number of nodes of a tree that are opened.
-const MOST_TREE_NODES: u32 = 1_000;
-
-/// The number of courses over all nodes of a tree that are opened. A node of a larger week takes longer, and raises the bound less.
-const COURSES_OF_TREE: u32 = 30_000;
+/// The number of nodes of a tree that are opened.
+pub const TREE_NODES: u32 = 1_000;
 
 /// The version of the proof of a tree.
 const VERSION: u8 = 2;
@@ -38,14 +35,6 @@ pub struct Start<'a> {
     pub table: Option<Timetable>,
     /// The texts of proofs; those that don't hold are left out.
     pub proofs: &'a [Vec<u8>],
-}
-
-/// Returns the number of nodes of a tree that are opened.
-pub fn tree_nodes(instance: &Instance<'_>) -> u32 {
-    COURSES_OF_TREE
-        .checked_div(instance.courses())
-        .unwrap_or(MOST_TREE_NODES)
-        .min(MOST_TREE_NODES)
 }
 
 /// Checks whether a timetable breaks fewer hard rules than another one, or as many at a lower cost.
@@ -178,7 +167,7 @@ fn search_tree<W: Watch>(
         bound,
         proof,
         ..
-    } = solve(alloc, instance, tree, tree_nodes(instance), seed, watch)?;
+    } = solve(alloc, instance, tree, TREE_NODES, seed, watch)?;
     Ok(Week {
         parts: parts_of_tree(alloc, instance, &[], bound, &proof)?,
         table: table_after(alloc, instance, given, best, seed)?,

@@ -13,8 +13,8 @@ use crate::watch::WatchKept;
 use crate::wishing::Wishing;
 use std::alloc::{AllocError, Global};
 use tt_best::{
-    FIRST_NODES, Rounds, Start, Week, nodes_of, parts_of_tree, search_bounds, seed_of, steps_of,
-    tree_nodes,
+    FIRST_NODES, Rounds, Start, TREE_NODES, Week, nodes_of, parts_of_tree, search_bounds, seed_of,
+    steps_of,
 };
 use tt_parts::{Effort, Parts, add_up_or_best};
 use tt_search::Search;
@@ -74,14 +74,7 @@ fn first_week<W: WatchKept>(
         bound,
         proof,
         finished: _,
-    } = search_tree(
-        alloc,
-        wishing,
-        table,
-        tree_nodes(wishing.narrow),
-        seed,
-        watch,
-    )?;
+    } = search_tree(alloc, wishing, table, TREE_NODES, seed, watch)?;
     let parts = parts_of_tree(alloc, wishing.narrow, wishing.root, bound, &proof)?;
     Ok(Week { table, parts })
 }
