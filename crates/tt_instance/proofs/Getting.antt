@@ -54,19 +54,19 @@ module _ (a : Parts) (p : Problem) (is_seen : problem_seen a ≡ p) (instance : 
       (within_rows course_seen a.courses.rows.items i x p.courses are lt) is
 
   -- the seats of a room are within the limit
-  pub room_within : (i : ℕ) (x : RoomRow) → i < length p.rooms → x ≡ get_or a.rooms.rows.items i x → x.capacity ≤ 1000000
+  pub room_within : (i : ℕ) (x : RoomRow) → i < length p.rooms → x ≡ get_or a.rooms.items i x → x.capacity ≤ 1000000
   room_within i x lt is =
-      let are : map room_seen a.rooms.rows.items ≡ p.rooms = ap (λ (q : Problem). q.rooms) is_seen in
-      holds_at room_seen a.rooms.rows.items i x (λ r. r.capacity ≤ 1000000) instance.within.each_room
-      (within_rows room_seen a.rooms.rows.items i x p.rooms are lt) is
+      let are : map room_seen a.rooms.items ≡ p.rooms = ap (λ (q : Problem). q.rooms) is_seen in
+      holds_at room_seen a.rooms.items i x (λ r. r.capacity ≤ 1000000) instance.within.each_room
+      (within_rows room_seen a.rooms.items i x p.rooms are lt) is
 
   -- the members of a curriculum are within the limit
-  pub curriculum_within : (i : ℕ) (x : CurriculumRow) → i < length p.curricula → x ≡ get_or a.curricula.rows.items i x
+  pub curriculum_within : (i : ℕ) (x : CurriculumRow) → i < length p.curricula → x ≡ get_or a.curricula.items i x
       → length x.members.courses.items ≤ 4096
   curriculum_within i x lt is =
-      let are : map curriculum_seen a.curricula.rows.items ≡ p.curricula = ap (λ (q : Problem). q.curricula) is_seen in
-      let kept = holds_at curriculum_seen a.curricula.rows.items i x (IsCurriculum (length (courses_seen a.courses.rows.items)))
-      instance.within.each_curriculum (within_rows curriculum_seen a.curricula.rows.items i x p.curricula are lt) is in
+      let are : map curriculum_seen a.curricula.items ≡ p.curricula = ap (λ (q : Problem). q.curricula) is_seen in
+      let kept = holds_at curriculum_seen a.curricula.items i x (IsCurriculum (length (courses_seen a.courses.rows.items)))
+      instance.within.each_curriculum (within_rows curriculum_seen a.curricula.items i x p.curricula are lt) is in
       kept.0
 
 -- the number that a row has for its teacher

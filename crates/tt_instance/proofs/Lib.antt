@@ -11,7 +11,6 @@ pub mod FreshLaws
 pub mod Getting
 pub mod Limits
 pub mod MoreBarred
-pub mod Naming
 pub mod Places
 pub mod Shared
 pub mod Slots

@@ -1,14 +1,13 @@
 -- An instance with more unavailabilities.
-use Rattle.std.proofs.Common.{◌≡◌, ◌≤◌, ◌+◌, ◌<◌, Bool, true, not, List, ◌++◌, length, map, ap, ◌∙◌, arith}
+use Rattle.std.proofs.Common.{◌≡◌, ◌≤◌, ◌+◌, Bool, true, not, List, ◌++◌, length, arith}
 use Rattle.std.specs.Prelude.{All}
 use Rattle.std.proofs.lemmas.List.{length-map, length-append}
 use Rattle.std.proofs.lemmas.List.Elements.{All-append, All-weaker}
 use Rattle.tt_list_laws.specs.Words.{each_two}
-use Rattle.tt_instance.specs.Problem.{Course, Unavailability, Problem}
-use Rattle.tt_instance.specs.Columns.{ids_of}
+use Rattle.tt_instance.specs.Problem.{Unavailability, Problem}
 use Rattle.tt_instance.specs.Barring.{IsUnavailabilityOf, with_unavailabilities}
 use Rattle.tt_instance.specs.Limits.{IsInstance, same_unavailability}
-use Rattle.tt_instance.specs.Seen.{courses_seen, problem_seen}
+use Rattle.tt_instance.specs.Seen.{course_seen, problem_seen}
 use Rattle.tt_instance.specs.Inner.Indexed.{IsIndexedParts, IsInWeek, IsExcluding}
 use Rattle.tt_instance.specs.declared.limit.TheConstants.{MAX_UNAVAILABILITIES}
 use Rattle.tt_instance.specs.declared.parts.Parts.{Parts}
@@ -17,10 +16,9 @@ use Rattle.tt_instance.specs.declared.parts.Parts.{Parts}
 pub in_marks : (a : Parts) → IsInstance (problem_seen a) → IsIndexedParts a → (bs : List Unavailability)
     → All (IsUnavailabilityOf (problem_seen a)) bs → All (IsInWeek (length a.unavailabilities.marks.items) a.days) bs
 in_marks a ok indexed bs all =
-    let cs = courses_seen a.courses.rows.items in
-    let ids : length a.courses.ids ≡ length cs = ap length indexed.courses.ids_are ∙ length-map cs (λ c. c.id) in
+    let seen = length-map a.courses.rows.items course_seen in
     All-weaker (IsUnavailabilityOf (problem_seen a)) (IsInWeek (length a.unavailabilities.marks.items) a.days)
-    (λ b u. (omega (arith, u.0, ids, indexed.unavailabilities.len), u.1, omega (arith, u.2, ok.within.periods))) bs all
+    (λ b u. (omega (arith, u.0, seen, indexed.unavailabilities.len), u.1, omega (arith, u.2, ok.within.periods))) bs all
 
 -- it is within the limits
 pub barred_instance : (p : Problem) (bs : List Unavailability) → IsInstance p → length p.unavailabilities + length bs ≤ MAX_UNAVAILABILITIES

@@ -1,5 +1,5 @@
 -- An instance with other unavailabilities.
-use Rattle.std.specs.Prelude.{ℕ, ◌<◌, List, length}
+use Rattle.std.specs.Prelude.{◌<◌, List, length}
 use Rattle.tt_instance.specs.Problem.{Unavailability, Problem}
 
 -- The course, the day and the period are the instance's.

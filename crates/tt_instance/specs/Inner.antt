@@ -1,4 +1,3 @@
 -- Definitions on which no part of the trusted statement rests.
 pub mod Flags
-pub mod Hashing
 pub mod Indexed

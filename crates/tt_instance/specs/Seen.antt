@@ -51,7 +51,7 @@ problem_seen a = record {
   days = a.days;
   periods = a.periods;
   courses = courses_seen a.courses.rows.items;
-  rooms = rooms_seen a.rooms.rows.items;
-  curricula = curricula_seen a.curricula.rows.items;
+  rooms = rooms_seen a.rooms.items;
+  curricula = curricula_seen a.curricula.items;
   unavailabilities = unavailabilities_seen a.unavailabilities.rows.items;
 }

@@ -139,7 +139,7 @@ impl<'a> Instance<'a> {
         ensures value { result ≡ length self.now.rooms }
         ensures within { result ≤ MAX_ROOMS }
     {
-        self.parts.rooms.rows.len() as u32
+        self.parts.rooms.len() as u32
     }
 
     /// Returns the number of curricula.
@@ -147,7 +147,7 @@ impl<'a> Instance<'a> {
         ensures value { result ≡ length self.now.curricula }
         ensures within { result ≤ MAX_CURRICULA }
     {
-        self.parts.curricula.rows.len() as u32
+        self.parts.curricula.len() as u32
     }
 
     /// Returns the number of teachers.
@@ -199,7 +199,7 @@ impl<'a> Instance<'a> {
         ensures value { result ≡ capacity self.now room }
         ensures within { result ≤ MAX_SEATS }
     {
-        self.parts.rooms.rows[room as usize].capacity
+        self.parts.rooms[room as usize].capacity
     }
 
     /// Returns the members of a curriculum, each once, in the order of their first mention.
@@ -208,7 +208,7 @@ impl<'a> Instance<'a> {
         ensures value { result.now ≡ members self.now curriculum }
         ensures within { length result.now ≤ MAX_MEMBERS }
     {
-        self.parts.curricula.rows[curriculum as usize]
+        self.parts.curricula[curriculum as usize]
             .members
             .courses
             .as_slice()
@@ -255,7 +255,7 @@ impl<'a> Instance<'a> {
         requires { room < length self.now.rooms }
         ensures { slice_get (room_ids self.now) room ≡ Some result.now }
     {
-        self.parts.rooms.rows[room as usize].id
+        self.parts.rooms[room as usize].id
     }
 
     /// Returns the name of a curriculum as it is in the file.
@@ -263,25 +263,7 @@ impl<'a> Instance<'a> {
         requires { curriculum < length self.now.curricula }
         ensures { slice_get (curriculum_ids self.now) curriculum ≡ Some result.now }
     {
-        self.parts.curricula.rows[curriculum as usize].id
-    }
-
-    /// Returns the course with this name.
-    pub fn course_named(&self, name: &[u8]) -> Option<u32>
-        ensures value { result ≡ index_of_name (course_ids self.now) name.now }
-        ensures within { IfSome result (λ c. c < length self.now.courses) }
-    {
-        let course = self.parts.courses.ids.find(name)?;
-        Some(course as u32)
-    }
-
-    /// Returns the room with this name.
-    pub fn room_named(&self, name: &[u8]) -> Option<u32>
-        ensures value { result ≡ index_of_name (room_ids self.now) name.now }
-        ensures within { IfSome result (λ r. r < length self.now.rooms) }
-    {
-        let room = self.parts.rooms.ids.find(name)?;
-        Some(room as u32)
+        self.parts.curricula[curriculum as usize].id
     }
 
     /// Returns whether a course is a member of a curriculum; false if either is out of range.
@@ -290,7 +272,6 @@ impl<'a> Instance<'a> {
     {
         self.parts
             .curricula
-            .rows
             .get(curriculum as usize)
             .is_some_and(|row| row.members.marks.has(course as usize))
     }

@@ -6,8 +6,7 @@ mod cell;
 mod instance;
 mod limit;
 mod marks;
-mod name_hasher;
-mod names;
+mod name_list;
 mod parts;
 mod rows;
 
@@ -20,10 +19,9 @@ pub use limit::{
     MISSING_DAY_COST,
 };
 pub use marks::Marks;
-pub use name_hasher::NameHasher;
-pub use names::Names;
+pub use name_list::NameList;
 pub use parts::Parts;
 pub use rows::{
-    CourseList, CourseRow, CurriculumList, CurriculumRow, MemberList, RoomList, RoomRow,
-    UnavailabilityList, UnavailabilityRow,
+    CourseList, CourseRow, CurriculumRow, MemberList, RoomRow, UnavailabilityList,
+    UnavailabilityRow,
 };

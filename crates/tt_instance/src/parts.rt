@@ -1,6 +1,6 @@
 //! The parts of an instance.
 
-use crate::rows::{CourseList, CurriculumList, RoomList, UnavailabilityList};
+use crate::rows::{CourseList, CurriculumRow, RoomRow, UnavailabilityList};
 
 /// The contents of the bytes of an instance.
 #[derive(Drop)]
@@ -9,7 +9,7 @@ pub struct Parts<'a> {
     pub days: u32,
     pub periods: u32,
     pub courses: CourseList<'a>,
-    pub rooms: RoomList<'a>,
-    pub curricula: CurriculumList<'a>,
+    pub rooms: Vec<RoomRow<'a>>,
+    pub curricula: Vec<CurriculumRow<'a>>,
     pub unavailabilities: UnavailabilityList,
 }

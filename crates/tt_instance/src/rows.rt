@@ -1,7 +1,7 @@
 //! The rows of an instance's tables.
 
 use crate::marks::Marks;
-use crate::names::Names;
+use crate::name_list::NameList;
 
 /// A course, with the number of its teacher.
 #[derive(Debug, Drop)]
@@ -14,13 +14,11 @@ pub struct CourseRow<'a> {
     pub students: u32,
 }
 
-/// Courses, and the numbers of their names.
+/// Courses, and the names of their teachers.
 #[derive(Drop)]
 pub struct CourseList<'a> {
     pub rows: Vec<CourseRow<'a>>,
-    pub ids: Names<'a>,
-    pub teachers: Names<'a>,
-    pub lectures: u32,
+    pub teachers: NameList<'a>,
 }
 
 /// A room.
@@ -28,13 +26,6 @@ pub struct CourseList<'a> {
 pub struct RoomRow<'a> {
     pub id: &'a [u8],
     pub capacity: u32,
-}
-
-/// Rooms, and the numbers of their names.
-#[derive(Drop)]
-pub struct RoomList<'a> {
-    pub rows: Vec<RoomRow<'a>>,
-    pub ids: Names<'a>,
 }
 
 /// Courses, each once, and for each course of the instance whether it is one of them.
@@ -49,13 +40,6 @@ pub struct MemberList {
 pub struct CurriculumRow<'a> {
     pub id: &'a [u8],
     pub members: MemberList,
-}
-
-/// Curricula, and the numbers of their names.
-#[derive(Drop)]
-pub struct CurriculumList<'a> {
-    pub rows: Vec<CurriculumRow<'a>>,
-    pub ids: Names<'a>,
 }
 
 /// A course that must not have a lecture in a period of a day.

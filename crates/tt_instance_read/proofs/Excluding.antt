@@ -91,10 +91,6 @@ module _ (count : ℕ) where
       → All (λ q. All (λ c. c < count) q.members.courses.items) rows
   all_within rows all k d h = members_within (get_or rows k d).members (all k d h)
 
--- there are as many names as courses
-ids_count : (a : Parts) → IsIndexedParts a → length a.courses.ids ≡ length a.courses.rows.items
-ids_count a is = ap length is.courses.ids_are ∙ simp length-map
-
 -- for each course, the courses that have its teacher
 abbrev teacher_rows_of : List CourseRow → List (List Bool)
 teacher_rows_of rows = map (λ x. flags_of rows x.teacher) rows
@@ -116,14 +112,14 @@ row_for_each p courses first courses_are first_is =
 -- each member has a row
 pub members_have_rows : (p : Parts) (courses : List CourseRow) (curricula : List CurriculumRow) (first : List (List Bool))
     → IsIndexedParts p
-    → courses ≡ p.courses.rows.items → curricula ≡ p.curricula.rows.items → first ≡ teacher_rows_of courses
+    → courses ≡ p.courses.rows.items → curricula ≡ p.curricula.items → first ≡ teacher_rows_of courses
     → All (λ q. All (λ c. c < length first) q.members.courses.items) curricula
 members_have_rows p courses curricula first is courses_are curricula_are first_is =
-    let size : length p.courses.ids ≡ length first =
-    ids_count p is ∙ sym (ap length courses_are) ∙ sym (length-map courses (λ x. flags_of courses x.teacher)) ∙ sym (ap length first_is) in
+    let size : length p.courses.rows.items ≡ length first =
+    sym (ap length courses_are) ∙ sym (length-map courses (λ x. flags_of courses x.teacher)) ∙ sym (ap length first_is) in
     subst (All (λ (q : CurriculumRow). All (λ c. c < length first) q.members.courses.items)) (sym curricula_are)
-    (subst (λ n. All (λ (q : CurriculumRow). All (λ c. c < n) q.members.courses.items) p.curricula.rows.items) size
-    (all_within (length p.courses.ids) p.curricula.rows.items is.curricula.marked))
+    (subst (λ n. All (λ (q : CurriculumRow). All (λ c. c < n) q.members.courses.items) p.curricula.items) size
+    (all_within (length p.courses.rows.items) p.curricula.items is.curricula))
 
 -- the marks of these rows are the courses with the same teacher
 teacher_at : (p : Parts) (a b : ℕ) → IsIndexedParts p → mark_at (teacher_rows_of p.courses.rows.items) a b ≡ one_teacher
@@ -144,7 +140,7 @@ teacher_at p a b is = elim (slice_get_cases p.courses.rows.items a).1 [
 -- the rows of conflicts: those of teachers, with the members of curricula added, and each course's own mark cleared
 pub rows_reported : (p : Parts) (courses : List CourseRow) (curricula : List CurriculumRow) (first added cleared : List (List Bool))
     → IsIndexedParts p
-    → courses ≡ p.courses.rows.items → curricula ≡ p.curricula.rows.items
+    → courses ≡ p.courses.rows.items → curricula ≡ p.curricula.items
     → first ≡ teacher_rows_of courses
     → ((a b : ℕ) → mark_at added a b ≡
     (mark_at first a b || list_any (λ q. has_number q.members.courses.items a && has_number q.members.courses.items b) curricula))
@@ -156,6 +152,6 @@ rows_reported p courses curricula first added cleared is courses_are curricula_a
     ap (λ rows. mark_at rows a b) (first_is ∙ ap teacher_rows_of courses_are) ∙ teacher_at p a b is in
     let curriculum : list_any both curricula ≡ one_curriculum (problem_seen p) a b =
     ap (list_any both) curricula_are
-    ∙ sym (list_any-of_map (λ q. has_number q.members a && has_number q.members b) curriculum_seen p.curricula.rows.items) in
+    ∙ sym (list_any-of_map (λ q. has_number q.members a && has_number q.members b) curriculum_seen p.curricula.items) in
     less a b ∙ ap (λ x. not (a == b) && x) (more a b ∙ ap (λ x. x || list_any both curricula) teacher
     ∙ ap (λ x. one_teacher (problem_seen p) a b || x) curriculum)

@@ -1,5 +1,6 @@
 pub mod Beginnings
 pub mod Counted
+pub mod Inner
 pub mod Reading
 pub mod Words
 pub use Rattle.tt_instance.specs.Cells

@@ -84,7 +84,7 @@ pub fn conflict_rows(alloc: Global, parts: &Parts<'_>) -> Result<Vec<Marks>, All
     ensures { IfOk result (λ v. IsExcluding (problem_seen parts.now) v.items) }
 {
     let mut rows = teacher_rows(alloc, &parts.courses.rows)?;
-    add_curricula(&mut rows, &parts.curricula.rows);
+    add_curricula(&mut rows, &parts.curricula);
     clear_own(&mut rows);
     Ok(rows)
 }

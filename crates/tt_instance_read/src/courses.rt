@@ -2,15 +2,15 @@
 
 ghost use Rattle.std.specs.Prelude.{◌≡◌, ◌+◌, ◌^◌, ◌<◌, ◌≤◌, [], length, OnOk, IfOk};
 ghost use Rattle.tt_instance_read.specs.Reading.{Gives, course_at, courses_at};
-ghost use Rattle.tt_instance.specs.Inner.Indexed.{IsIndexed};
+ghost use Rattle.tt_instance_read.specs.Inner.Named.{AreCoursesNamed};
 ghost use Rattle.tt_instance.specs.Seen.{courses_seen};
 
 use crate::fault::InstanceFault;
 use crate::fields::{read_limited, read_token};
+use crate::named::NamedCourses;
 use std::alloc::Global;
-use tt_instance::{
-    CourseList, CourseRow, MAX_LECTURES, MAX_MIN_DAYS, MAX_SEATS, NameHasher, Names,
-};
+use tt_instance::{CourseRow, MAX_LECTURES, MAX_MIN_DAYS, MAX_SEATS};
+use tt_names::{NameHasher, Names};
 use tt_text::Tokens;
 
 /// Reads another course after those of the list.
@@ -18,13 +18,13 @@ use tt_text::Tokens;
 fn read_course<'a>(
     tokens: &mut Tokens<'a>,
     end: usize,
-    list: &mut CourseList<'a>,
+    list: &mut NamedCourses<'a>,
 ) -> Result<(), InstanceFault>
-    requires indexed { IsIndexed list.old }
+    requires indexed { AreCoursesNamed list.old }
     requires at_most { length list.old.rows.items < 2 ^ 31 }
     ensures read { Gives (λ _. (courses_seen list.new.rows.items, tokens.new)) result
         (course_at end (courses_seen list.old.rows.items) tokens.old) }
-    ensures indexed { OnOk result (IsIndexed list.new) }
+    ensures indexed { OnOk result (AreCoursesNamed list.new) }
     ensures one_more { OnOk result (length list.new.rows.items ≡ length list.old.rows.items + 1) }
 {
     let id = read_token(tokens, end)?;
@@ -55,14 +55,15 @@ pub fn read_courses<'a>(
     end: usize,
     hasher: NameHasher,
     count: u32,
-) -> Result<CourseList<'a>, InstanceFault>
+) -> Result<NamedCourses<'a>, InstanceFault>
     requires { count < 2 ^ 31 }
     ensures read { Gives (λ l. (courses_seen l.rows.items, tokens.new)) result
         (courses_at end count [] tokens.old) }
-    ensures indexed { IfOk result IsIndexed }
+    ensures indexed { IfOk result AreCoursesNamed }
     ensures len { IfOk result (λ l. length l.ids ≤ count) }
+    ensures each { IfOk result (λ l. length l.ids ≡ length l.rows.items) }
 {
-    let mut list = CourseList {
+    let mut list = NamedCourses {
         rows: Vec::new(alloc),
         ids: Names::new(alloc, hasher),
         teachers: Names::new(alloc, hasher),

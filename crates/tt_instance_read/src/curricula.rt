@@ -2,15 +2,16 @@
 
 ghost use Rattle.std.specs.Prelude.{◌<◌, ◌^◌, [], length, OnOk, IfOk};
 ghost use Rattle.tt_instance_read.specs.Reading.{Gives, member_at, members_at, curriculum_at, curricula_at};
-ghost use Rattle.tt_instance.specs.Inner.Indexed.{IsMarked, IsCurriculaIndexed};
+ghost use Rattle.tt_instance.specs.Inner.Indexed.{IsMarked};
+ghost use Rattle.tt_instance_read.specs.Inner.Named.{AreCurriculaNamed};
 ghost use Rattle.tt_instance.specs.Seen.{curricula_seen};
 
 use crate::fault::InstanceFault;
 use crate::fields::{read_course_name, read_limited, read_token};
+use crate::named::NamedCurricula;
 use std::alloc::Global;
-use tt_instance::{
-    CurriculumList, CurriculumRow, MAX_MEMBERS, Marks, MemberList, NameHasher, Names,
-};
+use tt_instance::{CurriculumRow, MAX_MEMBERS, Marks, MemberList};
+use tt_names::{NameHasher, Names};
 use tt_text::Tokens;
 
 /// Reads another member and adds it if it is new.
@@ -65,13 +66,13 @@ fn read_curriculum<'a>(
     tokens: &mut Tokens<'a>,
     end: usize,
     ids: &Names<'_>,
-    list: &mut CurriculumList<'a>,
+    list: &mut NamedCurricula<'a>,
 ) -> Result<(), InstanceFault>
-    requires indexed { IsCurriculaIndexed (length ids.now) list.old }
+    requires indexed { AreCurriculaNamed (length ids.now) list.old }
     requires at_most { length ids.now < 2 ^ 32 }
     ensures read { Gives (λ _. (curricula_seen list.new.rows.items, tokens.new)) result
         (curriculum_at end ids.now (curricula_seen list.old.rows.items) tokens.old) }
-    ensures indexed { OnOk result (IsCurriculaIndexed (length ids.now) list.new) }
+    ensures indexed { OnOk result (AreCurriculaNamed (length ids.now) list.new) }
 {
     let id = read_token(tokens, end)?;
     if !list.ids.put(id.bytes)? {
@@ -94,13 +95,13 @@ pub fn read_curricula<'a>(
     ids: &Names<'_>,
     hasher: NameHasher,
     count: u32,
-) -> Result<CurriculumList<'a>, InstanceFault>
+) -> Result<NamedCurricula<'a>, InstanceFault>
     requires { length ids.now < 2 ^ 32 }
     ensures read { Gives (λ l. (curricula_seen l.rows.items, tokens.new)) result
         (curricula_at end ids.now count [] tokens.old) }
-    ensures indexed { IfOk result (IsCurriculaIndexed (length ids.now)) }
+    ensures indexed { IfOk result (AreCurriculaNamed (length ids.now)) }
 {
-    let mut list = CurriculumList {
+    let mut list = NamedCurricula {
         rows: Vec::new(alloc),
         ids: Names::new(alloc, hasher),
     };

@@ -9,6 +9,7 @@ mod faulty;
 mod fields;
 mod header;
 mod instance;
+mod named;
 mod parts;
 mod rooms;
 mod unavailabilities;

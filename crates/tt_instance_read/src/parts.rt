@@ -1,8 +1,9 @@
 //! The parts of an instance, from the bytes that spell them.
 
-ghost use Rattle.std.specs.Prelude.{◌<◌, ◌≤◌, ◌^◌, length, IfOk};
+ghost use Rattle.std.specs.Prelude.{◌≡◌, ◌<◌, ◌≤◌, ◌^◌, length, IfOk};
 ghost use Rattle.tt_instance_read.specs.Reading.{Gives, places_at, groups_at, instance_of};
-ghost use Rattle.tt_instance.specs.Inner.Indexed.{IsIndexed, IsRoomsIndexed, IsCurriculaIndexed, IsBarred, IsIndexedParts};
+ghost use Rattle.tt_instance.specs.Inner.Indexed.{IsBarred, IsIndexedParts};
+ghost use Rattle.tt_instance_read.specs.Inner.Named.{AreCoursesNamed, AreRoomsNamed, AreCurriculaNamed};
 ghost use Rattle.tt_instance.specs.Seen.{courses_seen, rooms_seen, curricula_seen, unavailabilities_seen, problem_seen};
 ghost use Rattle.tt_instance_read.specs.Counted.{counts_seen};
 
@@ -11,13 +12,12 @@ use crate::curricula::read_curricula;
 use crate::fault::{InstanceFault, Word};
 use crate::fields::read_word;
 use crate::header::{Header, read_header, read_name};
+use crate::named::{NamedCourses, NamedCurricula, NamedRooms};
 use crate::rooms::read_rooms;
 use crate::unavailabilities::read_unavailabilities;
 use std::alloc::Global;
-use tt_instance::{
-    CourseList, CurriculumList, MAX_COURSES, MAX_PERIODS, NameHasher, Names, Parts, RoomList,
-    UnavailabilityList,
-};
+use tt_instance::{MAX_COURSES, MAX_PERIODS, Parts, UnavailabilityList};
+use tt_names::{NameHasher, Names};
 use tt_text::Tokens;
 
 /// Reads the courses and rooms after a header.
@@ -28,14 +28,15 @@ fn read_places<'a>(
     end: usize,
     hasher: NameHasher,
     header: Header,
-) -> Result<(CourseList<'a>, RoomList<'a>), InstanceFault>
+) -> Result<(NamedCourses<'a>, NamedRooms<'a>), InstanceFault>
     requires { header.courses ≤ MAX_COURSES }
     ensures read { Gives
         (λ s. ((courses_seen s.0.rows.items, rooms_seen s.1.rows.items), tokens.new))
         result (places_at end (counts_seen header) tokens.old) }
-    ensures courses { IfOk result (λ s. IsIndexed s.0) }
-    ensures rooms { IfOk result (λ s. IsRoomsIndexed s.1) }
+    ensures courses { IfOk result (λ s. AreCoursesNamed s.0) }
+    ensures rooms { IfOk result (λ s. AreRoomsNamed s.1) }
     ensures at_most { IfOk result (λ s. length s.0.ids ≤ MAX_COURSES) }
+    ensures each { IfOk result (λ s. length s.0.ids ≡ length s.0.rows.items) }
 {
     read_word(tokens, end, Word::CoursesPart)?;
     let courses = read_courses(alloc, tokens, end, hasher, header.courses)?;
@@ -53,7 +54,7 @@ fn read_groups<'a>(
     ids: &Names<'_>,
     hasher: NameHasher,
     header: Header,
-) -> Result<(CurriculumList<'a>, UnavailabilityList), InstanceFault>
+) -> Result<(NamedCurricula<'a>, UnavailabilityList), InstanceFault>
     requires at_most { length ids.now < 2 ^ 32 }
     requires days { 0 < header.days }
     requires positive { 0 < header.periods }
@@ -61,7 +62,7 @@ fn read_groups<'a>(
     ensures read { Gives
         (λ s. ((curricula_seen s.0.rows.items, unavailabilities_seen s.1.rows.items), tokens.new))
         result (groups_at end (counts_seen header) ids.now tokens.old) }
-    ensures curricula { IfOk result (λ s. IsCurriculaIndexed (length ids.now) s.0) }
+    ensures curricula { IfOk result (λ s. AreCurriculaNamed (length ids.now) s.0) }
     ensures unavailabilities { IfOk result (λ s. IsBarred (length ids.now) header.days s.1) }
 {
     read_word(tokens, end, Word::CurriculaPart)?;
@@ -93,13 +94,14 @@ pub fn read_parts<'a>(alloc: Global, bytes: &'a [u8]) -> Result<Parts<'a>, Insta
         hasher,
         header,
     )?;
+    let courses = courses.into_list(alloc)?;
     Ok(Parts {
         name,
         days: header.days,
         periods: header.periods,
         courses,
-        rooms,
-        curricula,
+        rooms: rooms.into_rows(),
+        curricula: curricula.into_rows(),
         unavailabilities,
     })
 }

@@ -2,13 +2,15 @@
 
 ghost use Rattle.std.specs.Prelude.{[], OnOk, IfOk};
 ghost use Rattle.tt_instance_read.specs.Reading.{Gives, room_at, rooms_at};
-ghost use Rattle.tt_instance.specs.Inner.Indexed.{IsRoomsIndexed};
+ghost use Rattle.tt_instance_read.specs.Inner.Named.{AreRoomsNamed};
 ghost use Rattle.tt_instance.specs.Seen.{rooms_seen};
 
 use crate::fault::InstanceFault;
 use crate::fields::{read_limited, read_token};
+use crate::named::NamedRooms;
 use std::alloc::Global;
-use tt_instance::{MAX_SEATS, NameHasher, Names, RoomList, RoomRow};
+use tt_instance::{MAX_SEATS, RoomRow};
+use tt_names::{NameHasher, Names};
 use tt_text::Tokens;
 
 /// Reads another room after those of the list.
@@ -16,12 +18,12 @@ use tt_text::Tokens;
 fn read_room<'a>(
     tokens: &mut Tokens<'a>,
     end: usize,
-    list: &mut RoomList<'a>,
+    list: &mut NamedRooms<'a>,
 ) -> Result<(), InstanceFault>
-    requires { IsRoomsIndexed list.old }
+    requires { AreRoomsNamed list.old }
     ensures read { Gives (λ _. (rooms_seen list.new.rows.items, tokens.new)) result
         (room_at end (rooms_seen list.old.rows.items) tokens.old) }
-    ensures indexed { OnOk result (IsRoomsIndexed list.new) }
+    ensures indexed { OnOk result (AreRoomsNamed list.new) }
 {
     let id = read_token(tokens, end)?;
     if !list.ids.put(id.bytes)? {
@@ -42,12 +44,12 @@ pub fn read_rooms<'a>(
     end: usize,
     hasher: NameHasher,
     count: u32,
-) -> Result<RoomList<'a>, InstanceFault>
+) -> Result<NamedRooms<'a>, InstanceFault>
     ensures read { Gives (λ l. (rooms_seen l.rows.items, tokens.new)) result
         (rooms_at end count [] tokens.old) }
-    ensures indexed { IfOk result IsRoomsIndexed }
+    ensures indexed { IfOk result AreRoomsNamed }
 {
-    let mut list = RoomList {
+    let mut list = NamedRooms {
         rows: Vec::new(alloc),
         ids: Names::new(alloc, hasher),
     };

@@ -143,17 +143,17 @@ module _ (p : Parts) (courses : List CourseRow) (courses_are : courses ≡ p.cou
   count_is = length-map p.courses.rows.items course_seen ∙ ap length (sym courses_are)
 
   -- the members of each curriculum have rows
-  pub members_within : (rows : List CurriculumRow) → rows ≡ p.curricula.rows.items
+  pub members_within : (rows : List CurriculumRow) → rows ≡ p.curricula.items
       → All (λ q. All (λ c. c < length courses) q.members.courses.items) rows
   members_within rows rows_are =
       let Q : Curriculum → Type 0 = λ q. All (λ c. c < length courses) q.members in
       let count : ℕ = length (courses_seen p.courses.rows.items) in
       let Is : Curriculum → Type 0 = IsCurriculum count in
-      let all : All Q (curricula_seen p.curricula.rows.items) = All-weaker Is Q
+      let all : All Q (curricula_seen p.curricula.items) = All-weaker Is Q
       (λ q is. All-weaker (λ (c : ℕ). c < count) (λ (c : ℕ). c < length courses) (λ c lt. omega (arith, lt, count_is)) q.members is.1)
-      (curricula_seen p.curricula.rows.items) instance.within.each_curriculum in
+      (curricula_seen p.curricula.items) instance.within.each_curriculum in
       subst (λ (qs : List CurriculumRow). All (λ q. All (λ c. c < length courses) q.members.courses.items) qs) (sym rows_are)
-      (all_seen curriculum_seen Q p.curricula.rows.items all)
+      (all_seen curriculum_seen Q p.curricula.items all)
 
   -- the course of each unavailability has a row
   pub unavailabilities_within : (rows : List UnavailabilityRow) → rows ≡ p.unavailabilities.rows.items

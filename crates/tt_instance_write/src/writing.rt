@@ -76,10 +76,10 @@ fn put_header(out: &mut Vec<u8>, parts: &Parts<'_>) -> Result<(), AllocError>
 {
     put_name(out, &parts.name)?;
     put_count(out, Word::Courses, parts.courses.rows.len())?;
-    put_count(out, Word::Rooms, parts.rooms.rows.len())?;
+    put_count(out, Word::Rooms, parts.rooms.len())?;
     put_count(out, Word::Days, parts.days as usize)?;
     put_count(out, Word::PeriodsPerDay, parts.periods as usize)?;
-    put_count(out, Word::Curricula, parts.curricula.rows.len())?;
+    put_count(out, Word::Curricula, parts.curricula.len())?;
     put_count(out, Word::Constraints, parts.unavailabilities.rows.len())
 }
 
@@ -208,8 +208,8 @@ fn write_parts(alloc: Global, parts: &Parts<'_>) -> Result<Vec<u8>, AllocError>
     let mut out = Vec::new(alloc);
     put_header(&mut out, parts)?;
     put_courses(&mut out, &parts.courses.rows)?;
-    put_rooms(&mut out, &parts.rooms.rows)?;
-    put_curricula(&mut out, &parts.courses.rows, &parts.curricula.rows)?;
+    put_rooms(&mut out, &parts.rooms)?;
+    put_curricula(&mut out, &parts.courses.rows, &parts.curricula)?;
     put_unavailabilities(&mut out, &parts.courses.rows, &parts.unavailabilities.rows)?;
     put_section(&mut out, Word::End)?;
     Ok(out)

@@ -11,6 +11,7 @@ use crate::fault::SolutionFault;
 use crate::table::{MAX_ENTRIES, Timetable};
 use std::alloc::Global;
 use tt_instance::{Cell as Entry, Instance};
+use tt_names::Named;
 use tt_text::{NumberFault, Token, Tokens, number};
 
 /// Reads the next token of a text of `end` bytes.
@@ -41,22 +42,22 @@ fn read_index(tokens: &mut Tokens<'_>, end: usize, bound: u32) -> Result<u32, So
 /// Reads an entry whose first token has been taken.
 #[tactic(auto, unfolding(crate::specs::Reading::entry_at))]
 fn read_entry(
-    instance: &Instance<'_>,
+    named: &Named<'_, '_>,
     first: Token<'_>,
     tokens: &mut Tokens<'_>,
     end: usize,
 ) -> Result<Entry, SolutionFault>
-    ensures { Gives (λ e. (e, tokens.new)) result (entry_at end instance.now (place first.entry) tokens.old) }
+    ensures { Gives (λ e. (e, tokens.new)) result (entry_at end named.now (place first.entry) tokens.old) }
 {
-    let Some(course) = instance.course_named(first.bytes) else {
+    let Some(course) = named.course_named(first.bytes) else {
         return Err(SolutionFault::UnknownCourse(first.at));
     };
     let token = read_token(tokens, end)?;
-    let Some(room) = instance.room_named(token.bytes) else {
+    let Some(room) = named.room_named(token.bytes) else {
         return Err(SolutionFault::UnknownRoom(token.at));
     };
-    let day = read_index(tokens, end, instance.days())?;
-    let period = read_index(tokens, end, instance.periods())?;
+    let day = read_index(tokens, end, named.instance().days())?;
+    let period = read_index(tokens, end, named.instance().periods())?;
     Ok(Entry {
         course,
         room,
@@ -65,12 +66,13 @@ fn read_entry(
     })
 }
 
+/// Reads the entries that bytes spell.
 fn read_entries(
     alloc: Global,
-    instance: &Instance<'_>,
+    named: &Named<'_, '_>,
     bytes: &[u8],
 ) -> Result<Timetable, SolutionFault>
-    ensures { Gives (λ t. t) result (solution_of instance.now bytes.now) }
+    ensures { Gives (λ t. t) result (solution_of named.now bytes.now) }
 {
     let end = bytes.len();
     let mut tokens = Tokens::new(bytes);
@@ -79,13 +81,25 @@ fn read_entries(
         if table.len() == MAX_ENTRIES {
             return Err(SolutionFault::TooMany(first.at));
         }
-        let entry = read_entry(instance, first, &mut tokens, end)?;
+        let entry = read_entry(named, first, &mut tokens, end)?;
         match table.push(entry) {
             Ok(()) => {}
             Err(_) => return Err(SolutionFault::OutOfMemory),
         }
     }
     Ok(table)
+}
+
+/// Numbers the names of the instance, and reads the entries that bytes spell.
+fn read_table(
+    alloc: Global,
+    instance: &Instance<'_>,
+    bytes: &[u8],
+) -> Result<Timetable, SolutionFault>
+    ensures { Gives (λ t. t) result (solution_of instance.now bytes.now) }
+{
+    let named = Named::new(alloc, instance)?;
+    read_entries(alloc, &named, bytes)
 }
 
 /// Returns the timetable that the bytes of a solution file spell. It fits the instance.
@@ -108,5 +122,5 @@ pub fn read_solution(
 {
     // Brings the instance's limits into the proof.
     prove!(instance.days() > 0);
-    read_entries(alloc, instance, bytes)
+    read_table(alloc, instance, bytes)
 }

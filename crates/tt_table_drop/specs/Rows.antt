@@ -13,7 +13,7 @@ use Rattle.tt_table_drop.specs.declared.row.Row.{Row}
 abbrev pub row_tokens : Row → List Placed
 row_tokens r = place r.course ∷ place r.room ∷ place r.day ∷ place r.period ∷ []
 
--- The day and the period of the row are numbers, of whatever size.
+-- The day and the period of the row are numbers of any size.
 pub record HasNumbers (r : Row) : Type 0 where
   pub day : is_number_text r.day.bytes.now ≡ true
   pub period : is_number_text r.period.bytes.now ≡ true

@@ -10,6 +10,7 @@ use crate::reason::{LeftOut, Reason};
 use crate::row::Row;
 use std::alloc::{AllocError, Global};
 use tt_instance::Instance;
+use tt_names::Named;
 use tt_table::{Entry, Timetable};
 use tt_text::{Token, number};
 
@@ -33,19 +34,19 @@ fn index_below(token: &Token<'_>, bound: u32) -> Option<u32>
 }
 
 /// Returns the entry that a row spells, or the first reason from the left why it spells none.
-fn entry_of(instance: &Instance<'_>, row: &Row<'_>) -> Result<Entry, Reason>
-    ensures { MatchResult result (IsEntry instance.now row.now) (IsMisfit instance.now row.now) }
+fn entry_of(named: &Named<'_, '_>, row: &Row<'_>) -> Result<Entry, Reason>
+    ensures { MatchResult result (IsEntry named.now row.now) (IsMisfit named.now row.now) }
 {
-    let Some(course) = instance.course_named(row.course.bytes) else {
+    let Some(course) = named.course_named(row.course.bytes) else {
         return Err(Reason::NoCourse);
     };
-    let Some(room) = instance.room_named(row.room.bytes) else {
+    let Some(room) = named.room_named(row.room.bytes) else {
         return Err(Reason::NoRoom);
     };
-    let Some(day) = index_below(&row.day, instance.days()) else {
+    let Some(day) = index_below(&row.day, named.instance().days()) else {
         return Err(Reason::NoPeriod);
     };
-    let Some(period) = index_below(&row.period, instance.periods()) else {
+    let Some(period) = index_below(&row.period, named.instance().periods()) else {
         return Err(Reason::NoPeriod);
     };
     Ok(Entry {
@@ -70,17 +71,37 @@ fn count_of(entries: &[Entry], course: u32) -> usize
 }
 
 /// Returns the entry as which a row is kept after these entries, or the reason why it is left out.
-fn judge(instance: &Instance<'_>, kept: &Timetable, row: &Row<'_>) -> Result<Entry, Reason>
-    ensures { MatchResult result (Stays instance.now kept.now row.now) (IsLeftOut instance.now kept.now row.now) }
+fn judge(named: &Named<'_, '_>, kept: &Timetable, row: &Row<'_>) -> Result<Entry, Reason>
+    ensures { MatchResult result (Stays named.now kept.now row.now) (IsLeftOut named.now kept.now row.now) }
 {
-    let entry = match entry_of(instance, row) {
+    let entry = match entry_of(named, row) {
         Ok(entry) => entry,
         Err(reason) => return Err(reason),
     };
-    if count_of(kept.entries(), entry.course) >= instance.lectures(entry.course) as usize {
+    if count_of(kept.entries(), entry.course) >= named.instance().lectures(entry.course) as usize {
         return Err(Reason::Surplus);
     }
     Ok(entry)
+}
+
+/// Returns which rows are kept as entries, and which are left out.
+fn sift_named<'a>(
+    alloc: Global,
+    named: &Named<'_, '_>,
+    rows: &[Row<'a>],
+) -> Result<Sifted<'a>, AllocError>
+    requires { length rows.now ≤ MAX_ENTRIES }
+    ensures { IfOk result (λ s. Sifts named.now rows.now s.table s.left_out.items) }
+{
+    let mut table = Timetable::new(alloc);
+    let mut left_out = Vec::new(alloc);
+    for row in rows {
+        match judge(named, &table, row) {
+            Ok(entry) => table.push_below_limit(entry)?,
+            Err(reason) => left_out.push(LeftOut { row: *row, reason })?,
+        }
+    }
+    Ok(Sifted { table, left_out })
 }
 
 /// Returns which rows are kept as entries, and which are left out.
@@ -92,13 +113,6 @@ pub fn sift<'a>(
     requires { length rows.now ≤ MAX_ENTRIES }
     ensures { IfOk result (λ s. Sifts instance.now rows.now s.table s.left_out.items) }
 {
-    let mut table = Timetable::new(alloc);
-    let mut left_out = Vec::new(alloc);
-    for row in rows {
-        match judge(instance, &table, row) {
-            Ok(entry) => table.push_below_limit(entry)?,
-            Err(reason) => left_out.push(LeftOut { row: *row, reason })?,
-        }
-    }
-    Ok(Sifted { table, left_out })
+    let named = Named::new(alloc, instance)?;
+    sift_named(alloc, &named, rows)
 }

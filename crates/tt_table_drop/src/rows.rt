@@ -23,7 +23,7 @@ fn read_token<'a>(tokens: &mut Tokens<'a>, end: usize) -> Result<Token<'a>, Solu
     }
 }
 
-/// Returns whether a token is a number, of whatever size.
+/// Returns whether a token is a number of any size.
 #[tactic(auto, unfolding(tt_text::specs::Numbers::number_of))]
 fn is_number(token: &Token<'_>) -> bool
     ensures { result ≡ is_number_text token.now.bytes.now }
@@ -35,7 +35,7 @@ fn is_number(token: &Token<'_>) -> bool
     }
 }
 
-/// Reads a number, of whatever size.
+/// Reads a number of any size.
 #[tactic(auto, unfolding(crate::specs::Rows::digits_at))]
 fn read_digits<'a>(tokens: &mut Tokens<'a>, end: usize) -> Result<Token<'a>, SolutionFault>
     ensures gives { Gives (λ t. (place t, tokens.new)) result (digits_at end tokens.old) }

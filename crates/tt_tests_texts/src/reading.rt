@@ -5,6 +5,7 @@ use std::test::Fail;
 use tt_instance::Instance;
 use tt_instance_read::{InstanceFault, read_instance};
 use tt_instance_write::write_instance;
+use tt_names::Named;
 use tt_testing_samples::{GAP, MINI, TOUR, TRIO, WIDE, edited};
 use tt_text::{Pieces, Source, WholeFault, read_whole};
 
@@ -91,8 +92,8 @@ fn counts_of(instance: &Instance<'_>) -> [u32; 7] {
 }
 
 /// Returns the course and the room with a name.
-fn named(instance: &Instance<'_>, name: &[u8]) -> (Option<u32>, Option<u32>) {
-    (instance.course_named(name), instance.room_named(name))
+fn named(names: &Named<'_, '_>, name: &[u8]) -> (Option<u32>, Option<u32>) {
+    (names.course_named(name), names.room_named(name))
 }
 
 /// Returns whether two courses conflict, whether the second is in the first curriculum, and whether it is unavailable in two periods.
@@ -109,8 +110,9 @@ fn relations_of(instance: &Instance<'_>) -> [bool; 4] {
 fn an_instance_and_its_getters(rt: HostRuntime) -> Result<(), Fail> {
     let instance = read_instance(rt.alloc(), GAP.as_bytes())?;
     assert_eq!(rt; counts_of(&instance), [1, 3, 2, 1, 1, 2, 2]);
-    assert_eq!(rt; named(&instance, b"b"), (Some(1), None));
-    assert_eq!(rt; named(&instance, b"R"), (None, Some(0)));
+    let names = Named::new(rt.alloc(), &instance)?;
+    assert_eq!(rt; named(&names, b"b"), (Some(1), None));
+    assert_eq!(rt; named(&names, b"R"), (None, Some(0)));
     assert_eq!(rt; relations_of(&instance), [true, true, true, false]);
     Ok(())
 }

@@ -1,6 +1,6 @@
 -- The facts that wishes put at a root.
-use Rattle.std.proofs.Common.{◌≡◌, ◌≤◌, ◌<◌, ℕ, true, false, not, List, [], ◌∷◌, ◌++◌, length, get_or, sym, ap, ◌∙◌, arith}
-use Rattle.std.specs.Prelude.{◌≢◌, All, IfSome, Option, Some, None, codes, take, map, filter, flat_map}
+use Rattle.std.proofs.Common.{◌≡◌, ◌≤◌, ◌<◌, ℕ, not, List, [], ◌∷◌, ◌++◌, length, get_or, sym, ap, ◌∙◌, arith}
+use Rattle.std.specs.Prelude.{◌≢◌, All, IfSome, Option, Some, None, codes, take, filter, flat_map}
 use Rattle.std.proofs.lemmas.List.{take_all, take-append-le, length-take, length-take-le}
 use Rattle.std.proofs.lemmas.List.Elements.{All-nil, All-cons, All-append, All-take, All-map, All-filter, All-head, All-tail}
 use Rattle.tt_list_laws.specs.Words.{has_number}

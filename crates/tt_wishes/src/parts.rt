@@ -8,7 +8,7 @@ use crate::fault::WishesFault;
 use crate::wish::Place;
 use crate::words::Words;
 use std::alloc::Global;
-use tt_instance::Instance;
+use tt_names::Named;
 use tt_text::{NumberFault, Token, number};
 
 /// Reads the next word of a line that ends at this offset.
@@ -30,23 +30,23 @@ fn is_free(word: &Token<'_>) -> bool
 }
 
 /// Returns the room that a word names.
-fn room_of(instance: &Instance<'_>, word: &Token<'_>) -> Result<u32, WishesFault>
-    ensures { Gives (λ r. r) result (room_of instance.now (place word.now)) }
+fn room_of(named: &Named<'_, '_>, word: &Token<'_>) -> Result<u32, WishesFault>
+    ensures { Gives (λ r. r) result (room_of named.now (place word.now)) }
 {
-    let Some(room) = instance.room_named(word.bytes) else {
+    let Some(room) = named.room_named(word.bytes) else {
         return Err(WishesFault::UnknownRoom(word.at));
     };
     Ok(room)
 }
 
 /// Returns the room that a word names, if it names one.
-fn free_room_of(instance: &Instance<'_>, word: &Token<'_>) -> Result<Option<u32>, WishesFault>
-    ensures { Gives (λ r. r) result (free_room_of instance.now (place word.now)) }
+fn free_room_of(named: &Named<'_, '_>, word: &Token<'_>) -> Result<Option<u32>, WishesFault>
+    ensures { Gives (λ r. r) result (free_room_of named.now (place word.now)) }
 {
     if is_free(word) {
         return Ok(None);
     }
-    let room = room_of(instance, word)?;
+    let room = room_of(named, word)?;
     Ok(Some(room))
 }
 
@@ -68,14 +68,14 @@ fn free_index_of(word: &Token<'_>, bound: u32) -> Result<Option<u32>, WishesFaul
 /// Reads the name of a course.
 #[tactic(auto, unfolding(crate::specs::Reading::course_at))]
 pub fn read_course(
-    instance: &Instance<'_>,
+    named: &Named<'_, '_>,
     words: &mut Words<'_>,
     end: usize,
 ) -> Result<u32, WishesFault>
-    ensures { Gives (λ c. (c, words.new)) result (course_at end instance.now words.old) }
+    ensures { Gives (λ c. (c, words.new)) result (course_at end named.now words.old) }
 {
     let word = read_word(words, end)?;
-    let Some(course) = instance.course_named(word.bytes) else {
+    let Some(course) = named.course_named(word.bytes) else {
         return Err(WishesFault::UnknownCourse(word.at));
     };
     Ok(course)
@@ -84,32 +84,32 @@ pub fn read_course(
 /// Reads a room, a day and a period, each of which may be free.
 #[tactic(auto, unfolding(crate::specs::Reading::place_at))]
 pub fn read_place(
-    instance: &Instance<'_>,
+    named: &Named<'_, '_>,
     words: &mut Words<'_>,
     end: usize,
 ) -> Result<Place, WishesFault>
-    ensures { Gives (λ g. (g, words.new)) result (place_at end instance.now words.old) }
+    ensures { Gives (λ g. (g, words.new)) result (place_at end named.now words.old) }
 {
     let room_word = read_word(words, end)?;
-    let room = free_room_of(instance, &room_word)?;
+    let room = free_room_of(named, &room_word)?;
     let day_word = read_word(words, end)?;
-    let day = free_index_of(&day_word, instance.days())?;
+    let day = free_index_of(&day_word, named.instance().days())?;
     let period_word = read_word(words, end)?;
-    let period = free_index_of(&period_word, instance.periods())?;
+    let period = free_index_of(&period_word, named.instance().periods())?;
     Ok(Place { room, day, period })
 }
 
 /// Reads the names of rooms up to the end of the line.
 pub fn read_rooms(
     alloc: Global,
-    instance: &Instance<'_>,
+    named: &Named<'_, '_>,
     words: &mut Words<'_>,
 ) -> Result<Vec<u32>, WishesFault>
-    ensures { Gives (λ rooms. rooms.items) result (rooms_after instance.now [] words.old) }
+    ensures { Gives (λ rooms. rooms.items) result (rooms_after named.now [] words.old) }
 {
     let mut rooms = Vec::new(alloc);
     while let Some(word) = words.next() {
-        let room = room_of(instance, &word)?;
+        let room = room_of(named, &word)?;
         rooms.push(room)?;
     }
     Ok(rooms)

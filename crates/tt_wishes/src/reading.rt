@@ -16,6 +16,7 @@ use crate::wish::Wish;
 use crate::words::Words;
 use std::alloc::Global;
 use tt_instance::Instance;
+use tt_names::Named;
 use tt_text::Token;
 
 /// The first word of a wish.
@@ -40,15 +41,11 @@ fn wish_word(text: &[u8], at: usize) -> Result<WishWord, WishesFault>
 
 /// Reads a lecture that stays, after its first word.
 #[tactic(auto, unfolding(crate::specs::Reading::hold_at))]
-fn read_hold(
-    instance: &Instance<'_>,
-    words: &mut Words<'_>,
-    end: usize,
-) -> Result<Wish, WishesFault>
-    ensures { Gives (λ w. w) result (hold_at end instance.now words.old) }
+fn read_hold(named: &Named<'_, '_>, words: &mut Words<'_>, end: usize) -> Result<Wish, WishesFault>
+    ensures { Gives (λ w. w) result (hold_at end named.now words.old) }
 {
-    let course = read_course(instance, words, end)?;
-    let place = read_place(instance, words, end)?;
+    let course = read_course(named, words, end)?;
+    let place = read_place(named, words, end)?;
     read_nothing(words)?;
     Ok(Wish::Hold { course, place })
 }
@@ -57,14 +54,14 @@ fn read_hold(
 #[tactic(auto, unfolding(crate::specs::Reading::only_in_at))]
 fn read_only_in(
     alloc: Global,
-    instance: &Instance<'_>,
+    named: &Named<'_, '_>,
     words: &mut Words<'_>,
     end: usize,
 ) -> Result<Wish, WishesFault>
-    ensures { Gives (λ w. w) result (only_in_at end instance.now words.old) }
+    ensures { Gives (λ w. w) result (only_in_at end named.now words.old) }
 {
-    let course = read_course(instance, words, end)?;
-    let rooms = read_rooms(alloc, instance, words)?;
+    let course = read_course(named, words, end)?;
+    let rooms = read_rooms(alloc, named, words)?;
     if rooms.is_empty() {
         return Err(WishesFault::Ended(end));
     }
@@ -77,13 +74,13 @@ fn read_only_in(
 /// Reads a place that stays empty, after its first word.
 #[tactic(auto, unfolding(crate::specs::Reading::closed_at))]
 fn read_closed(
-    instance: &Instance<'_>,
+    named: &Named<'_, '_>,
     words: &mut Words<'_>,
     end: usize,
 ) -> Result<Wish, WishesFault>
-    ensures { Gives (λ w. w) result (closed_at end instance.now words.old) }
+    ensures { Gives (λ w. w) result (closed_at end named.now words.old) }
 {
-    let place = read_place(instance, words, end)?;
+    let place = read_place(named, words, end)?;
     read_nothing(words)?;
     Ok(Wish::Closed(place))
 }
@@ -92,17 +89,17 @@ fn read_closed(
 #[tactic(auto, unfolding(crate::specs::Reading::wish_at))]
 fn read_wish(
     alloc: Global,
-    instance: &Instance<'_>,
+    named: &Named<'_, '_>,
     first: Token<'_>,
     words: &mut Words<'_>,
     end: usize,
 ) -> Result<Wish, WishesFault>
-    ensures { Gives (λ w. w) result (wish_at end instance.now (place first.entry) words.old) }
+    ensures { Gives (λ w. w) result (wish_at end named.now (place first.entry) words.old) }
 {
     match wish_word(first.bytes, first.at)? {
-        WishWord::Hold => read_hold(instance, words, end),
-        WishWord::Room => read_only_in(alloc, instance, words, end),
-        WishWord::Closed => read_closed(instance, words, end),
+        WishWord::Hold => read_hold(named, words, end),
+        WishWord::Room => read_only_in(alloc, named, words, end),
+        WishWord::Closed => read_closed(named, words, end),
     }
 }
 
@@ -110,13 +107,13 @@ fn read_wish(
 #[tactic(auto, using(crate::proofs::Loops::words_none, crate::proofs::Loops::words_full, crate::proofs::Loops::words_step, crate::proofs::Loops::words_fail))]
 fn read_line(
     alloc: Global,
-    instance: &Instance<'_>,
+    named: &Named<'_, '_>,
     wishes: &mut Vec<Wish>,
     line: Line<'_>,
 ) -> Result<(), WishesFault>
     requires { line.at + length line.text.now < 2 ^ 64 }
     ensures { Gives (λ _. wishes.new.items) result
-        (with_row instance.now wishes.old.items (row_of line.entry.at line.entry.text.now)) }
+        (with_row named.now wishes.old.items (row_of line.entry.at line.entry.text.now)) }
 {
     let end = line.at + line.text.len();
     let mut words = Words::new(line);
@@ -126,24 +123,29 @@ fn read_line(
     if wishes.len() >= MAX_WISHES {
         return Err(WishesFault::TooManyWishes(first.at));
     }
-    let wish = read_wish(alloc, instance, first, &mut words, end)?;
+    let wish = read_wish(alloc, named, first, &mut words, end)?;
     wishes.push(wish)?;
     Ok(())
 }
 
-fn read_lines(
-    alloc: Global,
-    instance: &Instance<'_>,
-    bytes: &[u8],
-) -> Result<Vec<Wish>, WishesFault>
-    ensures { Gives (λ wishes. wishes.items) result (wishes_of instance.now bytes.now) }
+/// Reads the wishes that bytes spell.
+fn read_lines(alloc: Global, named: &Named<'_, '_>, bytes: &[u8]) -> Result<Vec<Wish>, WishesFault>
+    ensures { Gives (λ wishes. wishes.items) result (wishes_of named.now bytes.now) }
 {
     let mut lines = Lines::new(bytes);
     let mut wishes = Vec::new(alloc);
     while let Some(line) = lines.next() {
-        read_line(alloc, instance, &mut wishes, line)?;
+        read_line(alloc, named, &mut wishes, line)?;
     }
     Ok(wishes)
+}
+
+/// Numbers the names of the instance, and reads the wishes that bytes spell.
+fn read_all(alloc: Global, instance: &Instance<'_>, bytes: &[u8]) -> Result<Vec<Wish>, WishesFault>
+    ensures { Gives (λ wishes. wishes.items) result (wishes_of instance.now bytes.now) }
+{
+    let named = Named::new(alloc, instance)?;
+    read_lines(alloc, &named, bytes)
 }
 
 /// Returns the wishes that the bytes of a file spell.
@@ -167,5 +169,5 @@ pub fn read_wishes(
 {
     // Brings the instance's limits into the proof.
     prove!(instance.days() > 0);
-    read_lines(alloc, instance, bytes)
+    read_all(alloc, instance, bytes)
 }

@@ -3,18 +3,15 @@ use Rattle.std.specs.Prelude.{◌≡◌, ℕ, ◌+◌, ◌*◌, ◌≤◌, ◌<�
 use Rattle.std.specs.List.{list_any}
 use Rattle.tt_list_laws.specs.Words.{has_number}
 use Rattle.tt_text.specs.Texts.{index_of_name, distinct_names}
-use Rattle.tt_instance.specs.declared.limit.TheConstants.{MAX_LECTURES}
 use Rattle.tt_instance.specs.declared.rows.CourseList.{CourseList}
 use Rattle.tt_instance.specs.declared.rows.CourseRow.{CourseRow}
-use Rattle.tt_instance.specs.declared.rows.RoomList.{RoomList}
 use Rattle.tt_instance.specs.declared.rows.MemberList.{MemberList}
-use Rattle.tt_instance.specs.declared.rows.CurriculumList.{CurriculumList}
+use Rattle.tt_instance.specs.declared.rows.CurriculumRow.{CurriculumRow}
 use Rattle.tt_instance.specs.declared.rows.UnavailabilityList.{UnavailabilityList}
 use Rattle.tt_instance.specs.declared.parts.Parts.{Parts}
 use Rattle.tt_instance.specs.Problem.{Course, Unavailability, Problem}
 use Rattle.tt_instance.specs.Courses.{conflict}
-use Rattle.tt_instance.specs.Columns.{ids_of, room_ids_of, curriculum_ids_of, lectures_of}
-use Rattle.tt_instance.specs.Seen.{courses_seen, rooms_seen, curricula_seen, unavailabilities_seen}
+use Rattle.tt_instance.specs.Seen.{courses_seen, unavailabilities_seen}
 
 -- The teachers of courses, each once, in the order of their first mention.
 abbrev pub teachers_of : List Course → List (List ℕ)
@@ -24,29 +21,20 @@ teachers_of cs = distinct_names (map (λ c. c.teacher) cs)
 abbrev pub IsTeacher : List (List ℕ) → CourseRow → Type 0
 IsTeacher names r = index_of_name names r.teacher_name.now ≡ Some r.teacher
 
--- The list has the name of the course of each row, each teacher once in the order of first mention, and the number of all lectures, which is
--- within its limit. There are at most as many teachers as rows, and each row has the number of its teacher.
+-- The list has each teacher once in the order of first mention, at most as many as rows, and each row has the number of its teacher.
 pub record IsIndexed (l : CourseList) : Type 0 where
-  pub ids_are : l.ids ≡ ids_of (courses_seen l.rows.items)
   pub teachers_are : l.teachers ≡ teachers_of (courses_seen l.rows.items)
-  pub total : l.lectures ≡ lectures_of (courses_seen l.rows.items)
-  pub within : l.lectures ≤ MAX_LECTURES
   pub at_most : length l.teachers ≤ length l.rows.items
   pub numbers : All (IsTeacher l.teachers) l.rows.items
-
--- The list has the name of the room of each row, in order.
-pub record IsRoomsIndexed (l : RoomList) : Type 0 where
-  pub ids_are : l.ids ≡ room_ids_of (rooms_seen l.rows.items)
 
 -- The list has a mark for each course, and the marks say which courses are members.
 pub record IsMarked (count : ℕ) (l : MemberList) : Type 0 where
   pub len : length l.marks ≡ count
   pub agrees : (c : ℕ) → slice_index_or l.marks c false ≡ has_number l.courses.items c
 
--- The list has the name of the curriculum of each row, in order, and each row has marks for `count` courses that say which are its members.
-pub record IsCurriculaIndexed (count : ℕ) (l : CurriculumList) : Type 0 where
-  pub ids_are : l.ids ≡ curriculum_ids_of (curricula_seen l.rows.items)
-  pub marked : All (λ r. IsMarked count r.members) l.rows.items
+-- Each row has marks for `count` courses that say which are its members.
+abbrev pub AreMarked : ℕ → List CurriculumRow → Type 0
+AreMarked count rows = All (λ r. IsMarked count r.members) rows
 
 -- A list of unavailabilities has this one.
 abbrev pub has_unavailability : List Unavailability → ℕ → ℕ → ℕ → Bool
@@ -69,9 +57,8 @@ IsInWeek count days b = (b.course < count) × (b.day < days) × (b.period < 64)
 -- The tables of all parts are right.
 pub record IsIndexedParts (a : Parts) : Type 0 where
   pub courses : IsIndexed a.courses
-  pub rooms : IsRoomsIndexed a.rooms
-  pub curricula : IsCurriculaIndexed (length a.courses.ids) a.curricula
-  pub unavailabilities : IsBarred (length a.courses.ids) a.days a.unavailabilities
+  pub curricula : AreMarked (length a.courses.rows.items) a.curricula.items
+  pub unavailabilities : IsBarred (length a.courses.rows.items) a.days a.unavailabilities
 
 -- The mark of a number in a row of a table; false if the row or the number is out of range.
 abbrev pub mark_at : List (List Bool) → ℕ → ℕ → Bool

@@ -1,7 +1,6 @@
-use Rattle.std.proofs.Common.{◌≡◌, ◌<◌, length, get_or, map, sym, subst, ◌∙◌, arith}
+use Rattle.std.proofs.Common.{◌<◌, length, get_or, sym, subst, arith}
 use Rattle.std.proofs.lemmas.List.{length-map, get_or-map}
 use Rattle.std.proofs.lemmas.List.Elements.{All-get_or}
-use Rattle.tt_instance.specs.Problem.{Unavailability}
 use Rattle.tt_instance.specs.Seen.{unavailability_seen, unavailabilities_seen}
 use Rattle.tt_instance.specs.Inner.Indexed.{IsInWeek}
 use Rattle.tt_instance.specs.declared.rows.UnavailabilityRow.{UnavailabilityRow}

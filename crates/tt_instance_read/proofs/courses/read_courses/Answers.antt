@@ -1,4 +1,6 @@
-use Rattle.std.proofs.Common.{◌∙◌, arith}
+use Rattle.std.proofs.Common.{◌∙◌, ap, length, arith}
+use Rattle.std.proofs.lemmas.List.{length-map}
+use Rattle.tt_instance.specs.Seen.{course_seen, courses_seen}
 use Rattle.std.proofs.lemmas.Result.{err_from_is_err_and}
 use Rattle.tt_instance_read.proofs.Steps.{reads_on, reads_fail, reads_end}
 use Rattle.tt_instance_read.proofs.Repeating.{courses_repeat}
@@ -21,3 +23,8 @@ loop-preserved c = record {
 
 pub returns-clause-read : goal.returns-clause-read
 returns-clause-read c = reads_end _ _ (courses_repeat c.args.end) c.args.count c.loop.counter _ _ _ c.loop-test.false c.loop.invariant.read
+
+pub returns-clause-each : goal.returns-clause-each
+returns-clause-each c =
+    let rows = c.loop.list.rows.items in
+    ap length c.loop.invariant.indexed.ids_are ∙ length-map (courses_seen rows) (λ x. x.id) ∙ length-map rows course_seen

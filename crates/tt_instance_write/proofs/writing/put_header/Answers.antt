@@ -17,8 +17,8 @@ returns c =
     (header_done (problem_seen parts) _ _ _ _ out c.put_name.new.out.items c.put_count.new.out.items c.put_count-2.new.out.items
     c.put_count-3.new.out.items c.put_count-4.new.out.items c.put_count-5.new.out.items
     (omega (arith, c.len.ensures, parts.courses.rows.ok.0, length-map parts.courses.rows.items course_seen))
-    (omega (arith, c.len-2.ensures, parts.rooms.rows.ok.0, length-map parts.rooms.rows.items room_seen))
-    (omega (arith, c.len-3.ensures, parts.curricula.rows.ok.0, length-map parts.curricula.rows.items curriculum_seen))
+    (omega (arith, c.len-2.ensures, parts.rooms.ok.0, length-map parts.rooms.items room_seen))
+    (omega (arith, c.len-3.ensures, parts.curricula.ok.0, length-map parts.curricula.items curriculum_seen))
     (omega (arith, c.len-4.ensures, parts.unavailabilities.rows.ok.0, length-map parts.unavailabilities.rows.items unavailability_seen))
     (c.in_ok-put_name.ensures ∙ ap (λ (ts : List (Bor (List ℕ))). out ++ line_text (fixed word.Name ∷ map Text (name_seen ts)))
     c.deref.ensures.value)

@@ -31,12 +31,12 @@ loop-first-preserved c =
     let less : 16384 - length c.push.new.self ≡ 16384 - (length c.loop-first.table + 1) = ap (λ n. 16384 - n) longer in
     let more : 16384 - length c.loop-first.table ≡ suc (16384 - (length c.loop-first.table + 1)) =
     omega (arith, c.if-len-eq-MAX_ENTRIES.false, c.len.ensures.len, c.loop-first.invariant.within) in
-    let step = entries_step (length c.args.bytes.now) c.args.instance.now (16384 - (length c.loop-first.table + 1)) c.loop-first.table _
+    let step = entries_step (length c.args.bytes.now) c.args.named.now (16384 - (length c.loop-first.table + 1)) c.loop-first.table _
     _ c.loop-first.tokens c.read_entry.new.tokens entry c.in-Some.ensures.gives c.in_ok-entry.ensures in
-    let old : entries_at (length c.args.bytes.now) c.args.instance.now
+    let old : entries_at (length c.args.bytes.now) c.args.named.now
     (suc (16384 - (length c.loop-first.table + 1))) c.loop-first.table c.loop-first.tokens
-    ≡ solution_of c.args.instance.now c.args.bytes.now =
-    ap (λ (n : ℕ). entries_at (length c.args.bytes.now) c.args.instance.now n c.loop-first.table c.loop-first.tokens) (sym more)
+    ≡ solution_of c.args.named.now c.args.bytes.now =
+    ap (λ (n : ℕ). entries_at (length c.args.bytes.now) c.args.named.now n c.loop-first.table c.loop-first.tokens) (sym more)
     ∙ c.loop-first.invariant.read in
     record {
       read = rw (less, c.in-Ok.ensures.ok) (sym step ∙ old);

@@ -4,7 +4,7 @@ use Rattle.tt_table.proofs.reading.read_entries.Given as goal
 
 abbrev pub invariant-loop-first : goal.invariant-loop-first
 invariant-loop-first l = record {
-  read : entries_at l.end l.instance (16384 - length l.table) l.table l.tokens ≡ solution_of l.instance l.bytes;
+  read : entries_at l.end l.named (16384 - length l.table) l.table l.tokens ≡ solution_of l.named l.bytes;
   within : length l.table ≤ 16384;
 }
 

@@ -2,14 +2,14 @@ use Rattle.tt_table.proofs.EntryLaws.{found_in, fits_in, solution_read, solution
 use Rattle.tt_table.proofs.reading.read_solution.Goals as goal
 
 pub returns-clause-found : goal.returns-clause-found
-returns-clause-found c = found_in _ _ c.read_entries.result c.days.ensures.instance.within c.read_entries.ensures
+returns-clause-found c = found_in _ _ c.read_table.result c.days.ensures.instance.within c.read_table.ensures
 
 pub returns-clause-only : goal.returns-clause-only
-returns-clause-only c = λ t spelled. rw (← solution_read _ _ t c.days.ensures.instance.within spelled) c.read_entries.ensures
+returns-clause-only c = λ t spelled. rw (← solution_read _ _ t c.days.ensures.instance.within spelled) c.read_table.ensures
 
 pub returns-clause-fits : goal.returns-clause-fits
-returns-clause-fits c = fits_in _ _ c.read_entries.result
-    (found_in _ _ c.read_entries.result c.days.ensures.instance.within c.read_entries.ensures)
+returns-clause-fits c = fits_in _ _ c.read_table.result
+    (found_in _ _ c.read_table.result c.days.ensures.instance.within c.read_table.ensures)
 
 pub returns-clause-spelled : goal.returns-clause-spelled
 returns-clause-spelled c = λ t spelled. solution_read _ _ t c.days.ensures.instance.within spelled

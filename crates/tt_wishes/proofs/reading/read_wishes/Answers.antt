@@ -2,10 +2,10 @@ use Rattle.tt_wishes.proofs.RowLaws.{found_in, fits_in, wishes_read, wishes_spel
 use Rattle.tt_wishes.proofs.reading.read_wishes.Goals as goal
 
 pub returns-clause-found : goal.returns-clause-found
-returns-clause-found c = found_in (λ ws. ws.items) _ _ c.read_lines.result c.days.ensures.instance.within c.read_lines.ensures
+returns-clause-found c = found_in (λ ws. ws.items) _ _ c.read_all.result c.days.ensures.instance.within c.read_all.ensures
 
 pub returns-clause-only : goal.returns-clause-only
-returns-clause-only c = λ ws spelled. rw (← wishes_read _ _ ws c.days.ensures.instance.within spelled) c.read_lines.ensures
+returns-clause-only c = λ ws spelled. rw (← wishes_read _ _ ws c.days.ensures.instance.within spelled) c.read_all.ensures
 
 pub returns-clause-spelled : goal.returns-clause-spelled
 returns-clause-spelled c = λ ws spelled. wishes_read _ _ ws c.days.ensures.instance.within spelled
@@ -17,5 +17,5 @@ pub returns-clause-one : goal.returns-clause-one
 returns-clause-one c = λ us ws first second. wishes_once _ _ us ws c.days.ensures.instance.within first second
 
 pub returns-clause-fits : goal.returns-clause-fits
-returns-clause-fits c = fits_in (λ ws. ws.items) _ _ c.read_lines.result
-    (found_in (λ ws. ws.items) _ _ c.read_lines.result c.days.ensures.instance.within c.read_lines.ensures)
+returns-clause-fits c = fits_in (λ ws. ws.items) _ _ c.read_all.result
+    (found_in (λ ws. ws.items) _ _ c.read_all.result c.days.ensures.instance.within c.read_all.ensures)

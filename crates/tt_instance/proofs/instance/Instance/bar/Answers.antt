@@ -31,7 +31,6 @@ invariant_of-result c =
       instance = subst (λ (us : List Unavailability). IsInstance (with_unavailabilities p us)) (sym c.in_ok-add_rows.ensures.rows) whole;
       indexed = record {
         courses = indexed.courses;
-        rooms = indexed.rooms;
         curricula = indexed.curricula;
         unavailabilities = subst (λ n. IsBarred n c.self.inside.parts.days c.add_rows.new.list) indexed.unavailabilities.len
             c.in_ok-add_rows.ensures.barred;

@@ -7,9 +7,9 @@ use crate::name_hasher::NameHasher;
 use indexmap::IndexSet;
 use std::alloc::{AllocError, Global};
 use std::marker::Model;
+use tt_instance::NameList;
 
 /// Different names, in the order in which they first appeared, and the number of each.
-#[derive(Drop)]
 pub struct Names<'a> {
     set: IndexSet<&'a [u8], NameHasher>,
 }
@@ -20,6 +20,13 @@ impl<'a> Model for Names<'a> {
     ghost Value = { List (List ℕ) };
 
     ghost view = { λ a. map (λ k. k.now) a.set.keys };
+}
+
+// Dropping names is one call instead of many at each place.
+impl<'a> Drop for Names<'a> {
+    fn drop(self) {
+        let Names { set: _ } = self;
+    }
 }
 
 impl<'a> Names<'a> {
@@ -77,5 +84,16 @@ impl<'a> Names<'a> {
     {
         let (index, _) = self.set.insert_full(name)?;
         Ok(index)
+    }
+
+    /// Returns a list of the names.
+    pub fn to_list(&self, alloc: Global) -> Result<NameList<'a>, AllocError>
+        ensures { IfOk result (λ l. l ≡ self.now) }
+    {
+        let mut names = Vec::new(alloc);
+        for number in 0..self.len() {
+            names.push(self.name(number))?;
+        }
+        Ok(NameList::new(names))
     }
 }

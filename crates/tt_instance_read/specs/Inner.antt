@@ -1,0 +1,2 @@
+-- Definitions on which no part of the trusted statement rests.
+pub mod Named

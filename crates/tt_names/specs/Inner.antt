@@ -1,0 +1,3 @@
+-- Definitions on which no part of the trusted statement rests.
+pub mod Hashing
+pub mod Numbered
