@@ -18,7 +18,7 @@ pub record IsWeekOn (p : Problem) (root : List Fact) (w : Week) : Type 0 where
   pub table : IsTimetable p w.table
   pub parts : AreFoundOn p root w.parts
 
--- The same without facts at the roots.
+-- `IsWeekOn` without facts at the roots.
 abbrev pub IsWeek : Problem → Week → Type 0
 IsWeek p w = IsWeekOn p [] w
 

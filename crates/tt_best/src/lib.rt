@@ -9,6 +9,6 @@ mod week;
 
 pub use bounds::search_bounds;
 pub use searching::{FIRST_NODES, Rounds, find_best, nodes_of, seed_of, steps_of};
-pub use start::{Start, TREE_NODES, parts_of_tree};
+pub use start::{MOST_TREE_NODES, Start, parts_of_tree, tree_nodes};
 pub use watch::{Aiming, WatchRounds};
 pub use week::Week;

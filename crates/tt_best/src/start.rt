@@ -1,12 +1,13 @@
 //! The timetable and the bound with which a search begins.
 
-ghost use Rattle.std.specs.Prelude.{IfOk, IfSome, IsTrue, None, [], ◌≡◌, ◌↔◌};
+ghost use Rattle.std.specs.Prelude.{IfOk, IfSome, IsTrue, None, [], ◌≡◌, ◌↔◌, ◌≤◌};
 ghost use Rattle.tt_table.specs.Table.{IsTimetable};
 ghost use Rattle.tt_rules.specs.Score.{IsFeasible};
 ghost use Rattle.tt_moves.specs.Changes.{IsBelow};
 ghost use Rattle.tt_branch.specs.Outcomes as branch;
 ghost use Rattle.tt_parts.specs.Found.{AreFoundOn};
 ghost use Rattle.tt_best.specs.Weeks.{IsWeek, IsNoWorseThan, BeginsWell};
+ghost use Rattle.tt_best.specs.declared.start.TheConstants.{MOST_TREE_NODES};
 
 use crate::week::Week;
 use std::alloc::{AllocError, Global};
@@ -22,8 +23,11 @@ use tt_search::{construct, descend};
 use tt_table::Timetable;
 use tt_watch::Watch;
 
-/// The number of nodes of a tree that are opened.
-pub const TREE_NODES: u32 = 1_000;
+/// The maximum number of nodes of a tree that are opened.
+pub const MOST_TREE_NODES: u32 = 1_000;
+
+/// The number of courses over all nodes of a tree that are opened. A node of a larger week takes longer, and raises the bound less.
+const COURSES_OF_TREE: u32 = 30_000;
 
 /// The version of the proof of a tree.
 const VERSION: u8 = 2;
@@ -35,6 +39,17 @@ pub struct Start<'a> {
     pub table: Option<Timetable>,
     /// The texts of proofs; those that don't hold are left out.
     pub proofs: &'a [Vec<u8>],
+}
+
+/// Returns the number of nodes of a tree that are opened, fewer in an instance of more courses.
+pub fn tree_nodes(instance: &Instance<'_>) -> u32
+    ensures positive { 1 ≤ result }
+    ensures at_most { result ≤ MOST_TREE_NODES }
+{
+    COURSES_OF_TREE
+        .checked_div(instance.courses())
+        .unwrap_or(MOST_TREE_NODES)
+        .clamp(1, MOST_TREE_NODES)
 }
 
 /// Checks whether a timetable breaks fewer hard rules than another one, or as many at a lower cost.
@@ -162,12 +177,13 @@ fn search_tree<W: Watch>(
         root: &[],
         table: None,
     };
+    let nodes = tree_nodes(instance);
     let Outcome {
         best,
         bound,
         proof,
         ..
-    } = solve(alloc, instance, tree, TREE_NODES, seed, watch)?;
+    } = solve(alloc, instance, tree, nodes, seed, watch)?;
     Ok(Week {
         parts: parts_of_tree(alloc, instance, &[], bound, &proof)?,
         table: table_after(alloc, instance, given, best, seed)?,

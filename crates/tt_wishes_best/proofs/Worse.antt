@@ -59,7 +59,7 @@ no_worse_then p ws t u v one other = record {
       other.weight;
 }
 
--- a lighter timetable that keeps what is kept is no worse
+-- a lighter timetable that keeps the same wishes is no worse
 pub no_worse_lighter : (p : Problem) (ws : List Wish) (t u : List Cell)
     → IsLighter (breaks_in_all p ws u) (cost p u) (breaks_in_all p ws t) (cost p t)
     → stays_kept t u ws ≡ true → IsNoWorse p ws t u

@@ -13,8 +13,8 @@ use crate::watch::WatchKept;
 use crate::wishing::Wishing;
 use std::alloc::{AllocError, Global};
 use tt_best::{
-    FIRST_NODES, Rounds, Start, TREE_NODES, Week, nodes_of, parts_of_tree, search_bounds, seed_of,
-    steps_of,
+    FIRST_NODES, Rounds, Start, Week, nodes_of, parts_of_tree, search_bounds, seed_of, steps_of,
+    tree_nodes,
 };
 use tt_parts::{Effort, Parts, add_up_or_best};
 use tt_search::Search;
@@ -69,12 +69,13 @@ fn first_week<W: WatchKept>(
         let parts = Parts::none(alloc);
         return Ok(Week { table, parts });
     }
+    let nodes = tree_nodes(wishing.narrow);
     let Solved {
         table,
         bound,
         proof,
         finished: _,
-    } = search_tree(alloc, wishing, table, TREE_NODES, seed, watch)?;
+    } = search_tree(alloc, wishing, table, nodes, seed, watch)?;
     let parts = parts_of_tree(alloc, wishing.narrow, wishing.root, bound, &proof)?;
     Ok(Week { table, parts })
 }
