@@ -18,7 +18,7 @@ use tt_table::Timetable;
 const MOST_ROUNDS: usize = 24;
 
 /// The maximum number of rounds in a very large instance.
-const LEAST_ROUNDS: usize = 3;
+const LEAST_ROUNDS: usize = 1;
 
 /// The limit on the work of all rounds together. In a round the next lecture is chosen among all courses, and its place among all rooms and
 /// periods.

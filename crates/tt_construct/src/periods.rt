@@ -26,7 +26,7 @@ pub struct Periods {
     barred: Counts,
     /// The courses that conflict with each course.
     opponents: Rows,
-    /// The same, and the course itself, as a set.
+    /// The courses that conflict with each course, and the course itself, as a set.
     rivals: Words,
     /// The number of lectures in each slot that conflict with each course, its own among them.
     against: Counts,

@@ -23,6 +23,9 @@ const STEPS: u64 = 2_000;
 /// The maximum number of steps of the first attempt.
 const MOST_STEPS: u64 = 1_000_000;
 
+/// The maximum work of the first attempt in which each step moves a lecture: that changes a count for each course that conflicts with its own.
+const WORK: u64 = 100_000_000;
+
 /// The temperatures at which an attempt begins and ends, in hundredths of a broken rule.
 const HOT: i64 = 25;
 
@@ -39,7 +42,7 @@ fn heat_of_stage(dice: &Dice, stage: u64) -> Heat {
     Heat::new(Heat::POINT_LEVEL.wrapping_mul(HOT).wrapping_mul(chance) / (CERTAIN * 100))
 }
 
-/// Moves a lecture to a slot, if what it breaks is accepted.
+/// Moves a lecture to a slot if the rules that it breaks there are accepted.
 fn try_move(periods: &mut Periods, held: Held, slot: usize, limit: i64) {
     let more = periods.more_if_moved(held, slot);
     if more.wrapping_mul(POINT) <= limit {
@@ -59,7 +62,7 @@ fn try_swap(periods: &mut Periods, one: Held, other: Held, limit: i64) {
     }
 }
 
-/// Makes a step at a temperature, if what it breaks is accepted.
+/// Makes a step at a temperature if the rules that it breaks are accepted.
 fn step(periods: &mut Periods, dice: &mut Dice, heat: Heat) {
     let one = periods.held(dice.below(periods.lectures()));
     if dice.below(2) == 0 {
@@ -93,11 +96,21 @@ fn anneal(periods: &mut Periods, dice: &mut Dice, steps: u64) {
     }
 }
 
+/// Returns the number of steps of the first attempt, fewer if a course conflicts with many others.
+fn first_steps(data: &InstanceData) -> u64 {
+    let mut conflicts: u64 = 0;
+    for course in &data.courses {
+        conflicts = conflicts.saturating_add(course.opponents.len() as u64);
+    }
+    let steps = STEPS.saturating_mul(data.lectures as u64).min(MOST_STEPS);
+    let work = WORK.saturating_mul(data.courses.len() as u64);
+    steps.min(work.checked_div(conflicts).unwrap_or(steps))
+}
+
 /// Makes attempts until no rule is broken, or another attempt has little hope: so a week that is far from having a timetable takes little time.
-fn attempt(periods: &mut Periods, dice: &mut Dice) {
-    let lectures = periods.lectures();
-    let few = i64::from(lectures) / LECTURES_OF_ONE;
-    let mut steps = STEPS.saturating_mul(u64::from(lectures)).min(MOST_STEPS);
+fn attempt(periods: &mut Periods, dice: &mut Dice, first: u64) {
+    let few = i64::from(periods.lectures()) / LECTURES_OF_ONE;
+    let mut steps = first;
     for number in 1..=MOST_ATTEMPTS {
         let before = periods.broken;
         anneal(periods, dice, steps);
@@ -123,6 +136,6 @@ pub fn repair(
         return Ok(None);
     }
     let mut dice = Dice::new(alloc, seed)?;
-    attempt(&mut periods, &mut dice);
+    attempt(&mut periods, &mut dice, first_steps(data));
     Ok(Some(seat(alloc, data, &periods)?))
 }
