@@ -30,7 +30,7 @@ if [ "$1" = try ]; then
 fi
 rm -rf crates/*/out
 mkdir -p crates/tt/out
-printf '#!/bin/sh\\n[ "$*" = --version ] && echo "tt 0.1 (stand-in)" || echo "%s: $*"\\n' "$(tail -n 1 crates/tt_text/src/lib.rt)" >crates/tt/out/tt
+printf '#!/bin/sh\\n[ "$*" = --version ] && echo "tt 1.0 (stand-in)" || echo "%s: $*"\\n' "$(tail -n 1 crates/tt_text/src/lib.rt)" >crates/tt/out/tt
 chmod +x crates/tt/out/tt
 echo 'rt: tt_text proved'
 exit "${STATUS:-0}"
@@ -217,7 +217,7 @@ def is_packed(copy):
     copy.uses("first", 1)
     assert copy.run("./tt package more").returncode == 2
     done = copy.run("./tt package")
-    name = "tt-0.1-x86_64-linux"
+    name = "tt-1.0-x86_64-linux"
     assert done.returncode == 0 and done.stdout.endswith(f"\nout/{name}.tar.gz\n"), f"{done}"
     with tarfile.open(copy.folder / "out" / f"{name}.tar.gz") as archive:
         files = sorted(it.name for it in archive if it.isfile())

@@ -1,4 +1,4 @@
--- How many lectures moved from an older timetable to a newer one. No lecture of a course is told from another one: what counts is how many
+-- How many lectures moved from an older timetable to a newer one. The lectures of a course are alike: what counts is how many
 -- the course has in each period, and in each room in each period. The older timetable may break hard rules.
 use Rattle.std.specs.Prelude.{ℕ, ◌-◌, min, ◌&&◌, List, sum_by, count_by}
 use Rattle.tt_instance.specs.Problem.{Problem}

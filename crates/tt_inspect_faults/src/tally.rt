@@ -9,7 +9,7 @@ pub struct Tally {
     pub said: Option<u64>,
     pub lines: u64,
     words: u64,
-    /// The lines that tell how many words they should have, and the sum of these numbers.
+    /// The lines that give the number of their words, and the sum of these numbers.
     sized: u64,
     wanted: u64,
 }

@@ -47,7 +47,7 @@ compact_week p t q ok days =
     let clash : true ≡ false = sym both ∙ none in
     absurd (cc)))
 
--- a day is compact if no bit stands alone
+-- a day is compact if no bit is alone
 pub compact_day : (p : Problem) (t : List Cell) (q d taken left : ℕ) → IsTimetable p t → p.periods ≤ 64
     → ((s : ℕ) → s < 64 → has_bit taken s ≡ nat_lt 0 (entries_at p t q d s))
     → ((s : ℕ) → s < 64 → has_bit left s ≡ (has_bit taken s && not

@@ -16,7 +16,7 @@ IsProvedOf p (Clique cs) = AreBelow (length p.courses) cs
 IsProvedOf p (Slots cs) = AreBelow (length p.courses) cs
 IsProvedOf p _ = ⊤
 
--- If what is proved is shown, the courses that are named are the instance's; if changes are shown, they are in its range.
+-- If proved facts are shown, the courses that are named are the instance's; if changes are shown, they are in its range.
 abbrev pub IsShownOf : Problem → Shown → Type 0
 IsShownOf p (Whole proved) = IsProvedOf p proved.now
 IsShownOf p (Changed proved moves) = IsProvedOf p proved.now × ChangesInRange p moves.changes.now

@@ -31,7 +31,7 @@ pub enum Sheet<'a> {
 pub enum Shown<'a> {
     /// All counts, with what is proved, all weeks, the days and the courses.
     Whole(&'a Proved),
-    /// The same, with what changed since an older timetable: a list, and marks in the weeks.
+    /// All of it with the changes since an older timetable: a list, and marks in the weeks.
     Changed(&'a Proved, Moves<'a>),
     /// Some weeks and their legend.
     Only(Sheet<'a>),

@@ -6,7 +6,7 @@ ghost use Rattle.tt_page_strings.specs.Quoted.{quoted_letter, quoted, IsQuoted};
 
 use tt_page_text::{PageText, put_token};
 
-/// The letter that stands in place of bytes that are no text, and of control characters.
+/// The letter that replaces bytes that are no text, and control characters.
 const REPLACEMENT: char = '\u{FFFD}';
 
 /// Appends a letter in UTF-8.

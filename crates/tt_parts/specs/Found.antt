@@ -20,7 +20,7 @@ pub record AreFoundOn (p : Problem) (root : List Fact) (k : Parts) : Type 0 wher
   pub sum : IsSumOn p root (texts_of k.proofs.items) k.bound
   pub holds : HoldsOn p k.bound root
 
--- The same without facts at the roots.
+-- `AreFoundOn` without facts at the roots.
 abbrev pub AreFound : Problem → Parts → Type 0
 AreFound p k = AreFoundOn p [] k
 

@@ -32,7 +32,7 @@ shared : (p : Problem) (c : ℕ) (who : Who) → can_share p (Course c) who ≡ 
 shared p c (Course b) = refl
 shared p c (Curriculum q) = refl
 
--- a pattern that may match a cell of another stands in the last row or in the row of one of its courses
+-- a pattern that may match a cell of another is in the last row or in the row of one of its courses
 rows-by : (p : Problem) (h who : Who) → can_share p h who ≡ true
     → ((row_of p h < length p.courses) × (has_number (courses_of p who) (row_of p h) ≡ true)) ⊎ (row_of p h ≡ length p.courses)
 rows-by p (Curriculum q) who e = inr refl
@@ -90,7 +90,7 @@ module _ (p : Problem) (g : Pattern) (from to : ℕ) (covers : Covers p g from t
   by_numbers (Some d) None ea eb = inr refl
   by_numbers (Some d) (Some s) ea eb = by_test d s ea eb (nat_lt d p.days && nat_lt s p.periods) refl
 
-  -- a pattern that may match a cell of g stands on the last shelf of its row or on one of those of g's periods
+  -- a pattern that may match a cell of g is on the last shelf of its row or on one of those of g's periods
   pub columns : (h : Pattern) → can_touch p h g ≡ true → IsCovered (column_of p h) ⊎ (column_of p h ≡ last_of p)
   columns h e =
       let a = and_parts (can_share p h.who g.who && can_agree h.period g.period && can_agree h.day g.day) (can_agree h.room g.room) e in

@@ -139,7 +139,7 @@ fn settle_row(
     Ok(())
 }
 
-/// Looks at the yes-facts of the no-fact's courses, and at those that stand in the last row.
+/// Looks at the yes-facts of the no-fact's courses, and at those in the last row.
 fn settle_rows(
     denial: &Denial<'_, '_, '_>,
     live: &mut Trail,

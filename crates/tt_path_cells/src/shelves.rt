@@ -1,4 +1,4 @@
-//! The patterns of the yes-facts, each once, and shelves on which they stand by the course and the period that they give.
+//! The patterns of the yes-facts, each once, on shelves by the course and the period that they give.
 
 ghost use Rattle.std.specs.Prelude.{◌≡◌, ◌<◌, ◌≤◌, length, replicate, IfOk};
 ghost use Rattle.tt_path_cells.specs.Inner.Shelves.{row_of, column_of, shelf_at, shelf_of, last_of, shelves};
@@ -19,7 +19,7 @@ fn row_of(instance: &Instance<'_>, who: Who) -> u32
     }
 }
 
-/// Returns the shelf of its row on which a pattern stands.
+/// Returns the shelf of a pattern in its row.
 fn column_of(instance: &Instance<'_>, pattern: &Pattern) -> u32
     ensures value { result ≡ column_of instance.now pattern.now }
     ensures within { result ≤ last_of instance.now }
@@ -46,7 +46,7 @@ pub fn shelf_at(instance: &Instance<'_>, row: u32, column: u32) -> usize
     row as usize * (days as usize * periods as usize + 1) + column as usize
 }
 
-/// Returns the number of the shelf on which a pattern stands.
+/// Returns the number of the shelf of a pattern.
 fn shelf_of(instance: &Instance<'_>, pattern: &Pattern) -> usize
     ensures value { result ≡ shelf_of instance.now pattern.now }
     ensures within { result < shelves instance.now }

@@ -222,7 +222,7 @@ impl Plan {
         }
     }
 
-    /// Reads the slots of all lectures and the homes of all courses, and counts and costs them anew.
+    /// Reads the slots of all lectures and the homes of all courses, and counts and costs them again.
     pub fn read(&mut self, facts: &Facts, slots: &[u32], homes: &[u32]) {
         self.clear(facts);
         for (course, home) in homes.iter().enumerate() {
@@ -247,7 +247,7 @@ impl Plan {
         seats
     }
 
-    /// Counts the costs anew.
+    /// Counts the costs again.
     fn count_costs(&mut self, facts: &Facts) {
         let (mut isolated, mut clashes): (i64, i64) = (0, 0);
         for curriculum in 0..facts.sizes.curricula {

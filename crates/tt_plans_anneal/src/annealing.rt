@@ -52,7 +52,7 @@ pub struct Annealing {
     incumbent: Incumbent,
     /// The plan of least cost since rooms were last given, if it costs less than the best timetable.
     cheapest: Draft,
-    /// The same, with dearer clashes.
+    /// The plan of least cost with more expensive clashes since rooms were last given, if that costs less than the best timetable.
     clearest: Draft,
     /// The plan of least cost with cheaper clashes since homes were last searched alone, if that costs less than the best timetable.
     barest: Draft,

@@ -5,7 +5,7 @@ use crate::schedule::Part;
 use tt_plans::DAY_COST;
 use tt_plans_odds::{CERTAIN, Dice, Heat, NAT, POINT, logarithm};
 
-/// The number of rounds after which the temperature is set anew.
+/// The number of rounds after which the temperature is set again.
 pub const ROUNDS: u64 = 40;
 
 /// The amount that a missing day costs more while it is hot, in quarters of a point: a plan that gives up a day has more freedom, so heat

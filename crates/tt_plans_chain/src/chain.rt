@@ -5,7 +5,7 @@ use crate::weighing::{Weigher, more_clashes, more_missing_days};
 use std::alloc::{AllocError, Global};
 use tt_plans::{CLASH_COST, Facts, ISOLATION_COST, Plan};
 
-/// A chain of lectures that change sides between two slots: those that conflict with each other, one after the other.
+/// A chain of lectures that change sides between two slots: those that conflict with each other, in turn.
 #[derive(Drop)]
 pub struct Chain {
     links: Links,

@@ -8,7 +8,7 @@ use tt_plans_tables::put;
 /// The number of pairs of choices.
 const PAIRS: usize = CHOICES * CHOICES;
 
-/// The cost of what can't be had.
+/// The cost of an impossible plan.
 const FAR: i64 = i64::MAX / 4;
 
 /// For each period of the week, and for the end of each day: what the rest of the day costs at least, by the choices of the two periods

@@ -1,4 +1,4 @@
-//! The courses whose lectures are drawn anew.
+//! The courses whose lectures are drawn again.
 
 use tt_plans::Facts;
 use tt_plans_odds::Dice;
@@ -51,7 +51,7 @@ impl Member {
     }
 }
 
-/// The courses whose lectures are drawn anew.
+/// The courses whose lectures are drawn again.
 #[derive(Clone, Copy)]
 pub struct Group {
     members: [Member; MOST_MEMBERS],

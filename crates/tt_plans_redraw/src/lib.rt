@@ -1,4 +1,4 @@
-//! The lectures of one to three courses that conflict pairwise, drawn anew with the odds of all their plans: a cost that is a temperature
+//! The lectures of one to three courses that conflict pairwise, drawn again with the odds of all their plans: a cost that is a temperature
 //! higher is a nat less likely. Everything else stays. Nothing is proved about the odds.
 #![tactic(auto)]
 

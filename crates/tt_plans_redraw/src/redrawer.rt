@@ -11,7 +11,7 @@ use tt_plans::{CLASH_COST, Facts, ISOLATION_COST, Plan, isolated_on};
 use tt_plans_odds::{Dice, Heat};
 use tt_plans_tables::put;
 
-/// Draws the lectures of a few courses anew.
+/// Draws the lectures of a few courses again.
 #[derive(Drop)]
 pub struct Redrawer {
     group: Group,
@@ -201,7 +201,7 @@ impl Redrawer {
             .wrapping_add(more_missing.wrapping_mul(plan.day_cost));
     }
 
-    /// Draws the lectures of a course anew, and of up to two others that conflict with it. Returns whether the plan changed.
+    /// Draws the lectures of a course again, and of up to two others that conflict with it. Returns whether the plan changed.
     pub fn redraw(
         &mut self,
         facts: &Facts,

@@ -13,7 +13,7 @@ struct Nearest {
     distance: i64,
 }
 
-/// A matching of rows with columns. Rows and columns count from 1; column 0 stands for no column, and row 0 for no row.
+/// A matching of rows with columns. Rows and columns count from 1; column 0 means no column, and row 0 no row.
 #[derive(Drop)]
 pub struct Matching {
     columns: usize,

@@ -23,7 +23,7 @@ pub struct Seating {
     weights: Counts,
     /// The lectures of a period.
     lectures: Vec<u32>,
-    /// Those of them that can't simply stay at home.
+    /// The lectures that can't simply stay at home.
     away: Vec<usize>,
     away_count: usize,
     /// The number of lectures of each course in each room so far.

@@ -19,7 +19,7 @@ unpriced g = record { curricula = g.curricula; courses = g.courses ++ g.further 
 abbrev pub courses_of : Problem → PricedGroup → List ℕ
 courses_of p g = filter (concerns p g) (all_courses p)
 
--- Those of them whose lectures are counted.
+-- The courses that a group concerns and whose lectures are counted.
 abbrev pub counted_of : Problem → PricedGroup → List ℕ
 counted_of p g = filter (λ c. not (has_number g.uncounted c)) (courses_of p g)
 

@@ -10,7 +10,7 @@ pub record Row : Type 0 where
   pub course : ℕ
   pub prices : List ℤ
 
--- The row that a value of the program stands for.
+-- The row of a value of the program.
 abbrev pub row_of : PriceRow → Row
 row_of row = record { course = row.course; prices = row.prices.items }
 
@@ -23,7 +23,7 @@ abbrev pub price_in : ℕ → List Row → ℕ → Slot → ℤ
 price_in periods [] c s = pos 0
 price_in periods (row ∷ rows) c s = if row.course == c then price_at periods row.prices s else price_in periods rows c s
 
--- The group that a value of the program stands for.
+-- The group of a value of the program.
 abbrev pub group_of : PricedGroup → spec.PricedGroup
 group_of g = record {
   curricula = g.curricula.items;

@@ -140,7 +140,7 @@ module _ (p : Problem) (root : List Fact) (remaining : Option (List ℕ)) (H : L
       → IsProofFault p root (stream_of bytes) x
   reported_in bytes e x h = subst (λ (k : Option (List ℕ)). IsProofFault p root (stream_at fresh k) x) e h
 
-  -- what a check tells: the proof, if the result is a bound, and the fault, if it is one
+  -- a check returns the proof if the result is a bound, and the fault if it is one
   abbrev IsTold : Result Bound (Stop CheckFault) → Type 0
   IsTold r = IfOk r (λ b. Proved p root (is_some remaining) H (stream_at fresh remaining) b)
 

@@ -126,7 +126,7 @@ const FEWEST_DRAWS: u64 = 5_000;
 /// The minimum number of entries of a timetable that is annealed: the other search finds the optimum of smaller ones sooner.
 const FEWEST_ENTRIES: u64 = 64;
 
-/// Checks whether a timetable is searched by annealing with this many draws: one for each entry leads to whatever is found.
+/// Checks whether a timetable is searched by annealing with this many draws: one for each entry leads to anything that is found.
 fn is_annealed(occupied: &Occupied<'_, '_>, draws: u64) -> bool {
     let entries = occupied.table().len() as u64;
     entries >= FEWEST_ENTRIES

@@ -60,7 +60,7 @@ impl Chase {
         Ok(())
     }
 
-    /// Notes that a lecture of a course comes to a period, and that the lectures there leave it.
+    /// Notes that a lecture of a course enters a period, and that the lectures there leave it.
     fn enter(
         &mut self,
         placement: &Placement,

@@ -101,7 +101,7 @@ fn are_rivals(instance: &Instance<'_>, courses: &[u32], contested: Contested) ->
     true
 }
 
-/// Returns the shortage of the courses that are marked, counted anew from the instance; `None` if they have enough.
+/// Returns the shortage of the courses that are marked, counted from the instance; `None` if they have enough.
 pub fn shortage_of(
     alloc: Global,
     instance: &Instance<'_>,

@@ -118,7 +118,7 @@ fn draw_step<P: Prices>(
     })
 }
 
-/// Draws a step, and makes it if what it adds is below a limit that is drawn by the heat. Returns what it adds.
+/// Draws a step, and makes it if its change is below a limit that is drawn by the heat. Returns the change.
 pub fn try_draw<P: Prices>(
     occupied: &mut Occupied<'_, '_>,
     guide: &Guide<'_, P>,

@@ -28,7 +28,7 @@ abbrev pub is_read_failed : {X F : Type 0} → Result X (Stop F) → Bool
 is_read_failed (Ok x) = false
 is_read_failed (Err s) = is_failed_read s
 
--- The same stop, with its fault in another type.
+-- A stop with its fault in another type.
 abbrev pub mapped : {F G : Type 0} → (F → G) → Stop F → Stop G
 mapped wrap (Fault f) = Fault (wrap f)
 mapped wrap ReadFailed = ReadFailed

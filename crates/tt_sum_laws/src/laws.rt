@@ -9,7 +9,7 @@ ghost use Rattle.tt_proof_sum.specs.declared.fault.FileFault.{FileFault};
 ghost use Rattle.tt_stop.specs.declared.stop.Stop.TheVariants.{Fault};
 
 /// Files that are added up have at most one fault, in one file, unless a fault says only that the check of a claim wasn't finished: such a claim
-/// may be right, so that a later fault may be there too. This holds whatever facts are at the root of each tree; with none it is said of
+/// may be right, so that a later fault may be there too. This holds for any facts at the root of each tree; with none it is said of
 /// `IsSumStop`.
 pub fn sums_have_one_fault()
     ensures { (p : Problem) (root : List Fact) (files : List (List ℕ)) (m n : ℕ) (f g : FileFault) → IsInstance p →

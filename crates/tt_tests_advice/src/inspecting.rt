@@ -491,7 +491,7 @@ fn teachers_typed_in_two_ways(rt: HostRuntime) -> Result<(), Fail> {
             "look at: alike: \"Prof._Curie\", \"Prof_Curie\"\nlook at: alike: \"Prof._Curie\", \"prof-curie\"\n"
         )
     );
-    // Letters beyond ASCII tell names apart.
+    // Names that differ in letters beyond ASCII are different.
     let others = edited(alloc, TYPED, "Prof._Curie", "Źak")?;
     let outcome = inspected(alloc, &others)?;
     assert!(rt;

@@ -12,7 +12,7 @@ const PAIR: &str =
 /// Both lectures are on the first day, which costs 5.
 const PROOF: &str = "CTTP 1 bound 5\nB D c0 ;\nend\n";
 
-/// The same, and that it holds under wishes.
+/// A proof that both lectures are on the first day, of the timetables that keep wishes.
 const WISHED_PROOF: &str = "wishes\nCTTP 1 bound 5\nB D c0 ;\nend\n";
 
 /// The second day is closed.

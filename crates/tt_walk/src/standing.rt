@@ -1,4 +1,4 @@
-//! Where a search stands.
+//! The state of a search.
 
 ghost use Rattle.std.specs.Prelude.{◌≡◌, IfOk};
 ghost use Rattle.tt_walk.specs.Inner.Pairs.{IsBest};

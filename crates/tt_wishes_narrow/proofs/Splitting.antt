@@ -74,7 +74,7 @@ module _ (p : Problem) (ws : List Wish) (c : ℕ) (s : Slot) (excluded closed : 
     pub new_if_held_off : list_any (holds_off p c s) ws ≡ true → is_new p ws (unavailability c s) ≡ true
     new_if_held_off h = rw (free, here) (sym (no_room_by_marks p ws c s excluded closed e k) ∙ rw h refl)
 
-    -- no wish does, so the rooms tell
+    -- no wish does, so the rooms decide
     pub new_if_marked : (all : Bool) → list_any (holds_off p c s) ws ≡ false
         → all ≡ list_all (λ r. slice_index_or excluded r false || slice_index_or closed r false) (range_below (length p.rooms))
         → all ≡ is_new p ws (unavailability c s)

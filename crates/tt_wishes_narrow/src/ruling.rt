@@ -11,7 +11,7 @@ use tt_instance::{Cell as Entry, Instance, Marks, Slot};
 use tt_leaf_rules::{slot_at, slot_count};
 use tt_wishes::Wish;
 
-/// What wishes rule out of a course whatever the period.
+/// What wishes rule out of a course in each period.
 #[derive(Drop)]
 pub struct Ruling {
     /// For each course the marks of the rooms that aren't its own.
@@ -191,7 +191,7 @@ fn held_courses(
     Ok(marks)
 }
 
-/// Returns what wishes rule out of a course whatever the period.
+/// Returns what wishes rule out of a course in each period.
 pub fn ruling_of(
     alloc: Global,
     instance: &Instance<'_>,

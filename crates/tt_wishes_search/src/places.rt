@@ -25,7 +25,7 @@ fn add_at(list: &mut Vec<i64>, index: usize, price: i64) {
     }
 }
 
-/// Returns the numbers that a part of a place stands for, of so many.
+/// Returns the numbers that a part of a place means, below a count.
 fn numbers_of(part: Option<u32>, count: u32) -> Range<u32> {
     match part {
         Some(number) => number..number.saturating_add(1).min(count),

@@ -20,7 +20,7 @@ const FRONTS: [(&str, &str); 3] = [
 /// How a line of a cost that can't be avoided begins.
 const COST: &str = "costs ";
 
-/// Returns the kind of a line, and its text without what tells the kind.
+/// Returns the kind of a line, and its text without the words that give the kind.
 fn split_kind(line: &str) -> (&str, &str) {
     for (front, kind) in FRONTS {
         if let Some(text) = line.strip_prefix(front) {

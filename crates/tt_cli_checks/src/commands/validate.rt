@@ -35,7 +35,7 @@ fn read_texts<R: World>(
     })
 }
 
-/// Returns the answer of `validate`. Wishes that no feasible timetable keeps are named on standard error, but not beside JSON.
+/// Returns the answer of `validate`. Wishes that no feasible timetable keeps are named on standard error, but not with JSON.
 pub fn answer_validate<R: World, E: Write>(
     rt: &R,
     err: &mut E,

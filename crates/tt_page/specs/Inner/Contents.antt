@@ -5,7 +5,7 @@ use Rattle.tt_page.specs.Pages.{shown_text}
 use Rattle.tt_page.specs.Proofs.{IsShownOf}
 use Rattle.tt_page.specs.declared.content.PageContent.{PageContent}
 
--- Whether the score is the timetable's, and what is shown is in the range of its instance.
+-- Whether the score is the timetable's, and all shown parts are in the range of its instance.
 pub record IsContent (content : PageContent) : Type 0 where
   pub score : IsScore content.plan.now.problem content.plan.now.table content.score.now
   pub shown : IsShownOf content.plan.now.problem content.shown

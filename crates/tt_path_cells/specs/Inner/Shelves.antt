@@ -33,7 +33,7 @@ column_at p None s = last_of p
 column_at p (Some d) None = last_of p
 column_at p (Some d) (Some s) = cond (nat_lt d p.days && nat_lt s p.periods) (d * p.periods + s) (last_of p)
 
--- The shelf of its row on which a pattern stands.
+-- The shelf of a pattern in its row.
 abbrev pub column_of : Problem → Pattern → ℕ
 column_of p g = column_at p g.day g.period
 
@@ -41,7 +41,7 @@ column_of p g = column_at p g.day g.period
 abbrev pub shelf_at : Problem → ℕ → ℕ → ℕ
 shelf_at p row column = row * (last_of p + 1) + column
 
--- The number of the shelf on which a pattern stands.
+-- The number of the shelf of a pattern.
 abbrev pub shelf_of : Problem → Pattern → ℕ
 shelf_of p g = shelf_at p (row_of p g.who) (column_of p g)
 

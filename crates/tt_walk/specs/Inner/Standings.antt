@@ -1,4 +1,4 @@
--- Where a search stands.
+-- The state of a search.
 use Rattle.std.specs.Prelude.{◌≡◌}
 use Rattle.tt_walk.specs.declared.standing.Standing.{Standing}
 

@@ -40,7 +40,7 @@ AreAllExcluded p ws rows = (c r : ℕ) → c < length p.courses → r < length p
 abbrev pub AreHeld : Problem → List Wish → List Bool → Type 0
 AreHeld p ws marks = (c : ℕ) → c < length p.courses → slice_index_or marks c false ≡ are_all_held p ws c
 
--- What wishes rule out of a course whatever the period.
+-- What wishes rule out of a course in each period.
 pub record IsRuling (p : Problem) (ws : List Wish) (r : Ruling) : Type 0 where
   pub len : length r.excluded.items ≡ length p.courses
   pub excluded : AreAllExcluded p ws r.excluded.items
