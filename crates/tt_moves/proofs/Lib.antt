@@ -1,5 +1,6 @@
 pub mod Examples
 pub mod Rests
+pub mod RoomsAndDays
 pub mod Rounds
 pub mod Stepping
 pub mod Undoing

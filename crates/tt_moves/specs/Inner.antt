@@ -1,4 +1,5 @@
 -- Definitions on which no part of the trusted statement rests.
 pub mod Exchanges
 pub mod Rests
+pub mod RoomsAndDays
 pub mod Rounds

@@ -4,6 +4,7 @@ ghost use Rattle.std.specs.Prelude.{◌≡◌, ◌<◌, length, pos, ◌+ℤ◌}
 ghost use Rattle.tt_rules.specs.Score.{hard, cost};
 ghost use Rattle.tt_occupancy.specs.Filled.{Filled};
 ghost use Rattle.tt_moves.specs.Inner.Exchanges.{IsFirst, Lead, CanLead};
+ghost use Rattle.tt_moves.specs.Inner.RoomsAndDays.{room_and_day_cost};
 ghost use Rattle.tt_moves.specs.Steps.{CanStep, in_place_of, stepped};
 ghost use Rattle.tt_moves.specs.declared.step.Step.{Step};
 
@@ -37,6 +38,25 @@ impl Exchanges<'_, '_, '_> {
                 let hard_there = there.hard_change();
                 let hard_here = here.hard_change();
                 hard_there + hard_here
+            }
+        }
+    }
+
+    /// Returns the change of the cost of rooms and days by the exchanges.
+    #[inline(always)]
+    pub fn room_and_day_change(&self) -> i64
+        requires { CanLead self.now }
+        ensures { (o : Filled) (step : Step) → Lead o step self.now
+            → pos (room_and_day_cost o.problem o.entries) +ℤ result
+            ≡ pos (room_and_day_cost o.problem (stepped o.entries step)) }
+    {
+        match self {
+            Exchanges::Same => 0,
+            Exchanges::One(exchange) => exchange.room_and_day_change(),
+            Exchanges::Two(there, here) => {
+                let change_there = there.room_and_day_change();
+                let change_here = here.room_and_day_change();
+                change_there + change_here
             }
         }
     }

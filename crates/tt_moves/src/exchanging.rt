@@ -6,6 +6,7 @@ ghost use Rattle.tt_instance.specs.declared.cell.Cell.{Cell};
 ghost use Rattle.tt_rules.specs.Score.{hard, cost};
 ghost use Rattle.tt_rules.specs.declared.limit.TheConstants.{MAX_COUNT};
 ghost use Rattle.tt_moves.specs.Inner.Exchanges.{IsExchange, CanExchange};
+ghost use Rattle.tt_moves.specs.Inner.RoomsAndDays.{room_and_day_cost};
 ghost use Rattle.tt_moves.specs.Pricing.{IsCost};
 
 use crate::cost::EntryCost;
@@ -37,6 +38,19 @@ impl Exchange<'_, '_, '_> {
     {
         let before = self.rest.hard_weight(self.rest.gone);
         let after = self.rest.hard_weight(self.to);
+        i64::from(after) - i64::from(before)
+    }
+
+    /// Returns the change of the cost of rooms and days by the exchange.
+    pub fn room_and_day_change(&self) -> i64
+        requires { CanExchange self.now }
+        ensures value { (p : Problem) (u s t : List Cell) → IsExchange p self.now u s t
+            → pos (room_and_day_cost p s) +ℤ result ≡ pos (room_and_day_cost p t) }
+        ensures low { neg_ℤ (pos MAX_COUNT) ≤ℤ result }
+        ensures high { result ≤ℤ pos MAX_COUNT }
+    {
+        let before = self.rest.room_and_day_rise(self.rest.gone);
+        let after = self.rest.room_and_day_rise(self.to);
         i64::from(after) - i64::from(before)
     }
 

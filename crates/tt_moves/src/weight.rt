@@ -7,7 +7,8 @@ ghost use Rattle.tt_rules.specs.Soft.{days_cost, stability_cost};
 ghost use Rattle.tt_tallies.specs.Weight.{hard_weight};
 ghost use Rattle.tt_moves.specs.Pricing.{IsCost};
 ghost use Rattle.tt_moves.specs.Inner.Rests.{IsRest};
-ghost use Rattle.tt_instance.specs.declared.limit.TheConstants.{MAX_MIN_DAYS, MAX_SLOTS};
+ghost use Rattle.tt_moves.specs.Inner.RoomsAndDays.{room_and_day_rise};
+ghost use Rattle.tt_instance.specs.declared.limit.TheConstants.{MAX_MIN_DAYS, MAX_SEATS, MAX_SLOTS};
 ghost use Rattle.tt_table.specs.declared.table.TheConstants.{MAX_ENTRIES};
 
 use crate::cost::EntryCost;
@@ -32,6 +33,21 @@ impl WithoutEntry<'_, '_, '_> {
         MISSING_DAY_COST * days + self.rooms_with(entry).saturating_sub(1)
     }
 
+    /// Returns all that an entry of the course left out adds to the cost, except for isolated entries.
+    pub fn room_and_day_rise(&self, entry: Entry) -> u32
+        requires in_range { InRange self.now.occupied.now.problem entry }
+        requires course { entry.course ≡ self.now.gone.course }
+        requires rest { (u : List Cell) × IsRest self.now u }
+        ensures value { (u : List Cell) → IsRest self.now u
+            → result ≡ room_and_day_rise self.now.occupied.now.problem u entry }
+        ensures at_most { result ≤ MAX_SEATS + (MISSING_DAY_COST * MAX_MIN_DAYS + MAX_SLOTS) }
+    {
+        let instance = self.occupied.instance();
+        let students = instance.students(entry.course);
+        let excess = students.saturating_sub(instance.capacity(entry.room));
+        excess + self.spread_cost(entry)
+    }
+
     /// Returns the cost that an entry of the course left out adds, and the cost that it removes.
     pub fn cost_weight(&self, entry: Entry) -> EntryCost
         requires in_range { InRange self.now.occupied.now.problem entry }
@@ -40,12 +56,9 @@ impl WithoutEntry<'_, '_, '_> {
         ensures { (u : List Cell) → IsRest self.now u
             → IsCost self.now.occupied.now.problem u entry result }
     {
-        let instance = self.occupied.instance();
-        let students = instance.students(entry.course);
-        let excess = students.saturating_sub(instance.capacity(entry.room));
         let isolation_change = self.isolation_change(entry);
         EntryCost {
-            rise: excess + self.spread_cost(entry) + ISOLATED_COST * isolation_change.alone,
+            rise: self.room_and_day_rise(entry) + ISOLATED_COST * isolation_change.alone,
             fall: ISOLATED_COST * isolation_change.joined,
         }
     }

@@ -1,22 +1,8 @@
-use Rattle.std.proofs.Common.{ap, arith}
-use Rattle.tt_instance.specs.Courses.{students, capacity}
+use Rattle.std.proofs.Common.{arith}
 use Rattle.tt_moves.proofs.rest.WithoutEntry.cost_weight.Goals as goal
 
 pub returns : goal.returns
-returns c = λ u rest.
-    let x = c.args.entry in
-    let seated = ap (λ z. students z x.course) c.instance-instance.ensures in
-    let seats = ap (λ z. capacity z x.room) c.instance-instance.ensures in
-    record {
-      rise = omega (
-        arith,
-        seated,
-        seats,
-        c.students-students.ensures.value,
-        c.capacity.ensures.value,
-        c.saturating_sub-excess.ensures,
-        c.spread_cost.ensures.value u rest,
-        c.isolation_change-isolation_change.ensures.alone u rest,
-      );
-      fall = omega (arith, c.isolation_change-isolation_change.ensures.joined u rest);
-    }
+returns c = λ u rest. record {
+  rise = omega (arith, c.room_and_day_rise.ensures.value u rest, c.isolation_change-isolation_change.ensures.alone u rest);
+  fall = omega (arith, c.isolation_change-isolation_change.ensures.joined u rest);
+}

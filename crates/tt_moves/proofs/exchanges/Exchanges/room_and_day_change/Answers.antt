@@ -1,0 +1,25 @@
+use Rattle.std.proofs.Common.{subst, arith}
+use Rattle.std.specs.Prelude.{remove}
+use Rattle.std.proofs.lemmas.Int.{ints}
+use Rattle.tt_moves.specs.Inner.Exchanges.{Lead}
+use Rattle.tt_moves.specs.Steps.{first_of, stepped}
+use Rattle.tt_moves.proofs.RoomsAndDays.{room_and_day_same}
+use Rattle.tt_moves.proofs.exchanges.Exchanges.room_and_day_change.Goals as goal
+
+pub returns-in-Same : goal.returns-in-Same
+returns-in-Same c = λ o step leads.
+    let same = room_and_day_same o.problem (stepped o.entries step) o.entries (subst (Lead o step) c.in-Same.is leads) in
+    omega (arith, ints)
+
+pub returns-in-One : goal.returns-in-One
+returns-in-One c = λ o step leads.
+    let lead = subst (Lead o step) c.in-One.is leads in
+    let moved = c.room_and_day_change.ensures.value o.problem (remove o.entries (first_of step)) o.entries (stepped o.entries step) lead.exchange in
+    omega (arith, ints)
+
+pub returns-in-Two : goal.returns-in-Two
+returns-in-Two c = λ o step leads.
+    let lead = subst (Lead o step) c.in-Two.is leads in
+    let moved = c.room_and_day_change-change_there.ensures.value o.problem (remove o.entries (first_of step)) o.entries lead.1 lead.2.exchange in
+    let then = c.room_and_day_change-change_here.ensures.value o.problem lead.0 lead.1 (stepped o.entries step) lead.3 in
+    omega (arith, ints)
