@@ -4,6 +4,12 @@ use std::alloc::{AllocError, Global};
 use tt_instance::Instance;
 use tt_instance_links::{Conflicts, Curricula};
 
+/// The limit on the work of a round, which looks at the curricula of each lecture's course in each period.
+const WORK: usize = 500_000_000;
+
+/// The minimum number of curricula that a round looks at for a lecture.
+const LEAST_CURRICULA: usize = 16;
+
 /// The data of a course that the choices use.
 #[derive(Drop)]
 pub struct Course {
@@ -33,6 +39,8 @@ pub struct InstanceData {
     pub slots: u32,
     /// The number of lectures of all courses.
     pub lectures: usize,
+    /// The maximum number of curricula that a round looks at for a lecture; no course has more but in very large instances.
+    pub most_curricula: usize,
 }
 
 /// Returns the seats of each room.
@@ -59,7 +67,16 @@ impl InstanceData {
             periods,
             slots: days * periods,
             lectures: 0,
+            most_curricula: 0,
         })
+    }
+
+    /// Returns the maximum number of curricula that a round looks at for a lecture.
+    fn curricula_within_work(&self) -> usize {
+        let periods = self.lectures.saturating_mul(self.slots as usize);
+        WORK.checked_div(periods)
+            .unwrap_or(WORK)
+            .max(LEAST_CURRICULA)
     }
 
     /// Returns the data of the instance that the choices use.
@@ -79,6 +96,7 @@ impl InstanceData {
             })?;
             data.lectures = data.lectures.saturating_add(lectures as usize);
         }
+        data.most_curricula = data.curricula_within_work();
         Ok(data)
     }
 }

@@ -104,7 +104,7 @@ fn period_cost(
     } else {
         MISSING_DAY_COST
     };
-    for curriculum in &lecture.course.curricula {
+    for curriculum in lecture.course.curricula.iter().take(data.most_curricula) {
         let added = isolation(&placed.curricula, *curriculum, slot, data.periods);
         cost = cost.saturating_add(added);
     }
