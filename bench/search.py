@@ -5,6 +5,7 @@ these gained. With --plain a last column has the same of annealing in plain Rust
 
 Run by hand, after ./tt has built the program:
 python3 bench/search.py [--steps N[,N..]] [--seeds N] [--jobs N] [--again] [--plain SECONDS] [NAME..]
+2x5000 in place of N makes two runs of 5,000 steps; TT names another program.
 The names are examples (those below where none is given) or paths of instances, NAME.ctt; a search begins with the timetable NAME.sol beside.
 Every timetable is counted by `tt validate`, and one that breaks a hard rule ends the script.
 """
@@ -18,7 +19,7 @@ from concurrent.futures import ThreadPoolExecutor
 from pathlib import Path
 
 HERE = Path(__file__).resolve().parent
-PROGRAM = HERE.parent / "crates" / "tt" / "out" / "tt"
+PROGRAM = os.environ.get("TT", HERE.parent / "crates" / "tt" / "out" / "tt")
 EXAMPLES = HERE.parent / "examples"
 NAMES = ["tiny01", "tiny05", "small01", "small05", "like01", "like02", "like04", "like05", "like11"]
 
@@ -34,9 +35,23 @@ def said(*words):
     return text, used.ru_utime + used.ru_stime
 
 
+def parts(steps):
+    """The number of runs and the steps of each."""
+    runs, _, each = steps.rpartition("x")
+    return int(runs or 1), int(each)
+
+
+def head(steps):
+    """The words above a column."""
+    runs, each = parts(steps)
+    return f"{each:,} steps" if runs == 1 else f"{runs} runs of {each:,} steps"
+
+
 def improved(instance, solution, out, seed, steps):
-    """The cost that a search comes to, and its seconds."""
-    _, seconds = said(PROGRAM, "improve", instance, solution, out, "--seed", seed, "--steps", steps)
+    """The cost that a search comes to, and its seconds. No two searches share the seed of a run."""
+    runs, each = parts(steps)
+    first = (seed - 1) * runs + 1
+    _, seconds = said(PROGRAM, "improve", instance, solution, out, "--seed", first, "--steps", each, "--runs", runs)
     counts = dict(line.split() for line in said(PROGRAM, "validate", instance, out)[0].splitlines())
     if int(counts["hard"]):
         sys.exit(f"{out}: breaks hard rules")
@@ -87,7 +102,7 @@ def main():
     words = parser.parse_args()
     with tempfile.TemporaryDirectory() as folder:
         folder, plain = Path(folder), None
-        heads = [f"{int(steps):,} steps" for steps in words.steps.split(",")]
+        heads = [head(steps) for steps in words.steps.split(",")]
         if words.plain:
             plain = folder / "anneal"
             subprocess.run(["rustc", "-O", "-o", plain, HERE / "anneal.rs"], check=True)
