@@ -60,7 +60,10 @@ impl<T: Drop> From<AllocFailed<T>> for CommandFault {
 
 impl From<AppFault> for CommandFault {
     fn from(fault: AppFault) -> CommandFault {
-        CommandFault::Call(fault)
+        match fault {
+            AppFault::OutOfMemory => CommandFault::OutOfMemory,
+            fault => CommandFault::Call(fault),
+        }
     }
 }
 
@@ -85,7 +88,7 @@ impl From<WishedFault> for CommandFault {
 impl From<KeptFault> for CommandFault {
     fn from(fault: KeptFault) -> CommandFault {
         match fault {
-            KeptFault::Call(fault) => CommandFault::Call(fault),
+            KeptFault::Call(fault) => CommandFault::from(fault),
             KeptFault::Wishes(fault) => CommandFault::Wishes(ValidateFault::Wishes(fault)),
         }
     }
@@ -99,6 +102,9 @@ impl From<ReadFault> for CommandFault {
 
 impl From<WriteFault> for CommandFault {
     fn from(fault: WriteFault) -> CommandFault {
-        CommandFault::Write(fault)
+        match fault {
+            WriteFault::OutOfMemory => CommandFault::OutOfMemory,
+            fault => CommandFault::Write(fault),
+        }
     }
 }

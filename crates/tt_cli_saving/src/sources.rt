@@ -181,7 +181,7 @@ pub fn proof_files<'r, 'p, 't, R: World, E: Write>(
 /// Returns the fault of a call over proofs, with the file that couldn't be read, if there is one.
 pub fn fault_over(alloc: Global, fault: AppFault, unread: Option<Unread<'_>>) -> CommandFault {
     match unread {
-        None => CommandFault::Call(fault),
+        None => CommandFault::from(fault),
         Some(Unread { path, reason }) => match String::from_str(alloc, path) {
             Ok(path) => CommandFault::Unread {
                 fault,
@@ -218,7 +218,7 @@ pub fn fault_over_proof(
     reason: Option<Error>,
 ) -> CommandFault {
     match reason {
-        None => CommandFault::Call(fault),
+        None => CommandFault::from(fault),
         Some(reason) => fault_over(alloc, fault, Some(Unread { path, reason })),
     }
 }

@@ -33,7 +33,7 @@ impl<'a> Target<'a> {
     /// Returns the fault of the output.
     pub fn refused<R: AllocGlobal>(self, rt: &R, fault: OutputFault) -> CommandFault {
         match Label::new(rt.alloc(), self.role, self.path) {
-            Ok(label) => CommandFault::Write(label.with_fault(fault)),
+            Ok(label) => CommandFault::from(label.with_fault(fault)),
             Err(_) => CommandFault::OutOfMemory,
         }
     }
@@ -65,9 +65,9 @@ impl Found {
             Ok(false) => Ok(self),
             Ok(true) => {
                 let fault = OutputFault::IsOutput(other.label.role);
-                Err(CommandFault::Write(self.label.with_fault(fault)))
+                Err(CommandFault::from(self.label.with_fault(fault)))
             }
-            Err(fault) => Err(CommandFault::Write(self.label.with_fault(fault))),
+            Err(fault) => Err(CommandFault::from(self.label.with_fault(fault))),
         }
     }
 
@@ -85,7 +85,7 @@ impl Found {
         let Found { label, output } = self;
         match output.prepare(rt) {
             Ok(ready) => Ok(Prepared { label, ready }),
-            Err(fault) => Err(CommandFault::Write(label.with_fault(fault))),
+            Err(fault) => Err(CommandFault::from(label.with_fault(fault))),
         }
     }
 }

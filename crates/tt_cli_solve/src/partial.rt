@@ -143,10 +143,9 @@ impl<'a, 'i, R: World> PartialFiles<'a, 'i, R> {
     ) -> Result<Option<Vec<u8>>, AllocError> {
         match page_of(self.rt.alloc(), given, answer) {
             Ok(page) => Ok(page),
-            Err(
-                CommandFault::OutOfMemory
-                | CommandFault::Call(AppFault::OutOfMemory | AppFault::CannotWrite),
-            ) => Err(AllocError),
+            Err(CommandFault::OutOfMemory | CommandFault::Call(AppFault::CannotWrite)) => {
+                Err(AllocError)
+            }
             Err(fault) => {
                 let _ = writeln!(err, "left out: {fault}");
                 Ok(None)

@@ -136,7 +136,7 @@ impl PageFault {
             PageFault::Call(fault) => fault_over(alloc, fault, unread.get()),
             PageFault::Changes(fault) => CommandFault::Changes(fault),
             PageFault::Wishes(fault) => CommandFault::from(KeptFault::Wishes(fault)),
-            PageFault::Output(fault) => CommandFault::Write(label.with_fault(fault)),
+            PageFault::Output(fault) => CommandFault::from(label.with_fault(fault)),
         }
     }
 }

@@ -31,6 +31,6 @@ pub fn report_to<R: World, O: Write>(
         Err(AppFault::CannotWrite) => {
             Err(CommandFault::Write(WriteFault::Unprinted(out.reason())))
         }
-        Err(fault) => Err(CommandFault::Call(fault)),
+        Err(fault) => Err(CommandFault::from(fault)),
     }
 }
