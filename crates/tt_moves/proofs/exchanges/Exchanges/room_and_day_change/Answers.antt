@@ -14,12 +14,14 @@ returns-in-Same c = λ o step leads.
 pub returns-in-One : goal.returns-in-One
 returns-in-One c = λ o step leads.
     let lead = subst (Lead o step) c.in-One.is leads in
-    let moved = c.room_and_day_change.ensures.value o.problem (remove o.entries (first_of step)) o.entries (stepped o.entries step) lead.exchange in
+    let u = remove o.entries (first_of step) in
+    let moved = c.room_and_day_change.ensures.value o.problem u o.entries (stepped o.entries step) lead.exchange in
     omega (arith, ints)
 
 pub returns-in-Two : goal.returns-in-Two
 returns-in-Two c = λ o step leads.
     let lead = subst (Lead o step) c.in-Two.is leads in
-    let moved = c.room_and_day_change-change_there.ensures.value o.problem (remove o.entries (first_of step)) o.entries lead.1 lead.2.exchange in
+    let u = remove o.entries (first_of step) in
+    let moved = c.room_and_day_change-change_there.ensures.value o.problem u o.entries lead.1 lead.2.exchange in
     let then = c.room_and_day_change-change_here.ensures.value o.problem lead.0 lead.1 (stepped o.entries step) lead.3 in
     omega (arith, ints)

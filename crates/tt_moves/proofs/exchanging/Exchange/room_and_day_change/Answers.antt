@@ -5,7 +5,9 @@ use Rattle.tt_moves.proofs.RoomsAndDays.{room_and_day_exchanged, room_and_day_sa
 use Rattle.tt_moves.proofs.exchanging.Exchange.room_and_day_change.Goals as goal
 
 pub room_and_day_rise-before-requires : goal.room_and_day_rise-before-requires
-room_and_day_rise-before-requires c = let x = c.requires.4 in record { in_range = x.rest.gone; course = refl; rest = (c.requires.1, x.rest) }
+room_and_day_rise-before-requires c =
+    let x = c.requires.4 in
+    record { in_range = x.rest.gone; course = refl; rest = (c.requires.1, x.rest) }
 
 pub returns-clause-value : goal.returns-clause-value
 returns-clause-value c = λ p u s t x.
