@@ -1,0 +1,9 @@
+pub mod Changes
+pub mod Counted
+pub mod Deciding
+pub mod Fewest
+pub mod Kept
+pub mod Stepping
+pub mod Untaught
+pub mod Words
+pub mod Written
