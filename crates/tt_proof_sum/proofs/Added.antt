@@ -103,10 +103,10 @@ small_more parts part before small n = elim (cases_lt n (length parts + 1)) [
 
 -- -- the sum after adding
 
-pub adds : (p : Problem) (root : List Fact) (remaining : Option (List ℕ)) (s : Sum) (parts : List Part) (a : State) (b total : Bound)
-    → IsSumOf s parts → Joins p root remaining parts a b → total ≡ both_bounds s.total b → IsSmall total
-    → Adds p root remaining parts (record { table = a; total = total })
-adds p root remaining s parts a b total of j e small = (
+pub adds : (p : Problem) (root : List Fact) (remaining : Option (List ℕ)) (s : Sum) (parts : List Part) (q : Problem) (a : State)
+    (b total : Bound) → IsSumOf s parts → Joins p root remaining parts a b → total ≡ both_bounds s.total b → IsSmall total
+    → Adds p root remaining parts (record { table = a; total = total; checker = q })
+adds p root remaining s parts q a b total of j e small = (
   j.part,
   j.is,
   record {
