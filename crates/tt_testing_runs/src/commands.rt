@@ -41,6 +41,19 @@ pub fn run_on<F: Files + Clock + Input + Drop>(
     })
 }
 
+/// Runs the program on the words of a line, which are between single spaces, over a file system.
+pub fn run_line<F: Files + Clock + Input + Drop>(
+    alloc: Global,
+    line: &str,
+    files: F,
+) -> Result<Outcome, Fail> {
+    let mut words = Vec::new(alloc);
+    for word in line.split(' ') {
+        words.push(word)?;
+    }
+    run_on(alloc, &words, files)
+}
+
 /// Runs the program on words, over files that can be read.
 pub fn run_with(alloc: Global, words: &[&str], files: &[StoredFile<'_>]) -> Result<Outcome, Fail> {
     run_on(alloc, words, Disk { files })
