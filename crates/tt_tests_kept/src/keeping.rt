@@ -4,144 +4,203 @@ use crate::solving::CIRCLE;
 use std::alloc::Global;
 use std::test::Fail;
 use tt_testing_files::{MemoryFiles, Refusal};
-use tt_testing_runs::run_on;
+use tt_testing_runs::Step::{Count, Errors, File, NoFile, Output, Put, Run, RunTo};
+use tt_testing_runs::Text::{Is, Lacks};
+use tt_testing_runs::{Outcome, play, play_on, run_line};
 use tt_testing_samples::{GAP, MINI, MINI_SOLUTION};
 
 /// A clock by which each look takes two seconds, so that a second is over at the first look.
 const LONG: u64 = 2_000;
 
-/// Returns files with an instance and a solution, and a clock that moves by this many milliseconds at each look.
-fn filled(alloc: Global, instance: &str, tick: u64) -> Result<MemoryFiles, Fail> {
-    let memory = MemoryFiles::ticking(alloc, Refusal::Nothing, tick);
-    memory.put("a.ctt", instance)?;
-    memory.put("a.sol", MINI_SOLUTION)?;
-    Ok(memory)
+/// Returns a memory without files, whose clock moves by two seconds at each look.
+fn slow(alloc: Global) -> MemoryFiles {
+    MemoryFiles::ticking(alloc, Refusal::Nothing, LONG)
 }
 
 #[test]
 fn a_search_ends_in_time(rt: HostRuntime) -> Result<(), Fail> {
-    for (instance, words, out, files) in [
+    for (instance, line, out, files) in [
         (
             MINI,
-            ["improve", "a.ctt", "a.sol", "b.sol", "--time", "1"].as_slice(),
+            "improve a.ctt a.sol b.sol --time 1",
             "hard 0 cost 5\n",
             3,
         ),
         (
             GAP,
-            ["solve", "a.ctt", "b.sol", "b.proof", "--time", "1"].as_slice(),
+            "solve a.ctt b.sol b.proof --time 1",
             "cost 5 bound 1 unfinished\n",
             4,
         ),
         (
             GAP,
-            ["solve", "a.ctt", "b.sol", "b.proof", "--time", "1000000"].as_slice(),
+            "solve a.ctt b.sol b.proof --time 1000000",
             "cost 5 bound 5 finished\n",
             4,
         ),
     ] {
-        let memory = filled(rt.alloc(), instance, LONG)?;
-        let outcome = run_on(rt.alloc(), words, &memory)?;
-        assert_eq!(rt; outcome.answer(), (0, out, ""), "{words:?}");
-        assert_eq!(rt; memory.count(), files, "{words:?}");
+        let steps = [
+            Put("a.ctt", instance),
+            Put("a.sol", MINI_SOLUTION),
+            Run(line, 0, out, ""),
+            Count(files),
+        ];
+        play_on(rt.alloc(), &slow(rt.alloc()), &steps)?;
     }
     Ok(())
 }
 
 #[test]
 fn times_that_are_refused(rt: HostRuntime) -> Result<(), Fail> {
-    for seconds in ["0", "1000001", "-1", "x", ""] {
-        let memory = filled(rt.alloc(), MINI, 0)?;
-        let words = ["improve", "a.ctt", "a.sol", "b.sol", "--time", seconds];
-        let outcome = run_on(rt.alloc(), &words, &memory)?;
-        assert_eq!(rt;
-            (outcome.status, outcome.out.as_str()),
-            (2, ""),
-            "{seconds}"
-        );
-        // A number below 0 is a value, and not a word to be quoted.
-        assert!(rt; !outcome.err.as_str().contains("tip:"), "{seconds}");
-        assert_eq!(rt; memory.count(), 2, "{seconds}");
+    for line in [
+        "improve a.ctt a.sol b.sol --time 0",
+        "improve a.ctt a.sol b.sol --time 1000001",
+        "improve a.ctt a.sol b.sol --time -1",
+        "improve a.ctt a.sol b.sol --time x",
+        "improve a.ctt a.sol b.sol --time ",
+    ] {
+        let steps = [
+            Put("a.ctt", MINI),
+            Put("a.sol", MINI_SOLUTION),
+            RunTo(line, 2),
+            Output(Is("")),
+            // A number below 0 is a value, and not a word to be quoted.
+            Errors(Lacks("tip:")),
+            Count(2),
+        ];
+        play(rt.alloc(), &steps)?;
     }
     Ok(())
 }
 
+/// Runs a command over Gap, and returns the outcome and the files.
+fn run_over_gap(
+    alloc: Global,
+    line: &str,
+    memory: MemoryFiles,
+) -> Result<(Outcome, MemoryFiles), Fail> {
+    play_on(
+        alloc,
+        &memory,
+        &[Put("a.ctt", GAP), Put("a.sol", MINI_SOLUTION)],
+    )?;
+    let outcome = run_line(alloc, line, &memory)?;
+    Ok((outcome, memory))
+}
+
+/// The files that searches write.
+const WRITTEN: [&str; 7] = [
+    "b.sol",
+    "b.proof",
+    "found/best.sol",
+    "found/page.html",
+    "found/groups.proof",
+    "found/tree.proof",
+    "found/rooms.proof",
+];
+
+/// Returns the first file that only one memory has, or that has another text there.
+fn differing(memory: &MemoryFiles, other: &MemoryFiles) -> Result<Option<&'static str>, Fail> {
+    for path in WRITTEN {
+        if memory.text(path)? != other.text(path)? {
+            return Ok(Some(path));
+        }
+    }
+    Ok(None)
+}
+
+/// Runs a command over Gap, and again as another one that keeps what it finds, and returns whether both have one outcome and as many files,
+/// and the first file in which they differ.
+fn compared(
+    alloc: Global,
+    plain: &str,
+    keeping: &str,
+) -> Result<(bool, bool, Option<&'static str>), Fail> {
+    let still = MemoryFiles::new(alloc, Refusal::Nothing);
+    let (wanted, plain) = run_over_gap(alloc, plain, still)?;
+    let (outcome, memory) = run_over_gap(alloc, keeping, slow(alloc))?;
+    Ok((
+        outcome.answer() == wanted.answer(),
+        memory.count() == plain.count(),
+        differing(&memory, &plain)?,
+    ))
+}
+
 #[test]
 fn what_is_kept_is_what_is_written(rt: HostRuntime) -> Result<(), Fail> {
-    for words in [
-        ["improve", "a.ctt", "a.sol", "b.sol"].as_slice(),
-        ["solve", "a.ctt", "b.sol", "b.proof"].as_slice(),
-        ["parts", "a.ctt", "found"].as_slice(),
-        ["best", "a.ctt", "found", "--rounds", "2"].as_slice(),
+    for (plain, keeping) in [
+        (
+            "improve a.ctt a.sol b.sol",
+            "improve a.ctt a.sol b.sol --keep",
+        ),
+        (
+            "solve a.ctt b.sol b.proof",
+            "solve a.ctt b.sol b.proof --keep",
+        ),
+        ("parts a.ctt found", "parts a.ctt found --keep"),
+        (
+            "best a.ctt found --rounds 2",
+            "best a.ctt found --rounds 2 --keep",
+        ),
     ] {
-        let plain = filled(rt.alloc(), GAP, 0)?;
-        let wanted = run_on(rt.alloc(), words, &plain)?;
-        let mut with_keep = words.to_vec(rt.alloc())?;
-        with_keep.push("--keep")?;
-        let memory = filled(rt.alloc(), GAP, LONG)?;
-        let outcome = run_on(rt.alloc(), &with_keep, &memory)?;
-        assert_eq!(rt; outcome.answer(), wanted.answer(), "{words:?}");
-        assert_eq!(rt; memory.count(), plain.count(), "{words:?}");
-        for path in [
-            "b.sol",
-            "b.proof",
-            "found/best.sol",
-            "found/page.html",
-            "found/groups.proof",
-            "found/tree.proof",
-            "found/rooms.proof",
-        ] {
-            assert_eq!(rt; memory.text(path)?, plain.text(path)?, "{words:?} {path}");
-        }
+        let same = compared(rt.alloc(), plain, keeping)?;
+        assert_eq!(rt; same, (true, true, None), "{keeping}");
     }
     Ok(())
 }
 
 #[test]
 fn what_breaks_hard_rules_is_not_kept(rt: HostRuntime) -> Result<(), Fail> {
-    for words in [
-        [
-            "solve", "a.ctt", "b.sol", "b.proof", "--nodes", "1", "--keep",
-        ]
-        .as_slice(),
-        ["best", "a.ctt", "found", "--rounds", "1", "--keep"].as_slice(),
+    for line in [
+        "solve a.ctt b.sol b.proof --nodes 1 --keep",
+        "best a.ctt found --rounds 1 --keep",
     ] {
-        let memory = filled(rt.alloc(), CIRCLE, LONG)?;
-        memory.put("b.sol", "older")?;
-        let outcome = run_on(rt.alloc(), words, &memory)?;
-        assert_eq!(rt; outcome.status, 1, "{words:?}");
-        let older = memory.text("b.sol")?;
-        assert_eq!(rt; older.as_deref(), Some("older"), "{words:?}");
-        assert_eq!(rt; memory.text("found/best.sol")?, None, "{words:?}");
+        let steps = [
+            Put("a.ctt", CIRCLE),
+            Put("a.sol", MINI_SOLUTION),
+            Put("b.sol", "older"),
+            RunTo(line, 1),
+            File("b.sol", Is("older")),
+            NoFile("found/best.sol"),
+        ];
+        play_on(rt.alloc(), &slow(rt.alloc()), &steps)?;
     }
     Ok(())
 }
 
 #[test]
 fn what_an_earlier_run_left_gets_another_name(rt: HostRuntime) -> Result<(), Fail> {
-    let memory = filled(rt.alloc(), GAP, 0)?;
-    memory.put("found/page.html", "older page")?;
-    memory.put("found/groups.proof", "older groups")?;
-    let outcome = run_on(rt.alloc(), &["best", "a.ctt", "found"], &memory)?;
-    assert_eq!(rt; outcome.answer(), (0, "cost 5 bound 5 optimal\n", ""));
-    assert_eq!(rt; memory.text("found/groups.proof")?, None);
-    let older = memory.text("found/groups.proof.old")?;
-    assert_eq!(rt; older.as_deref(), Some("older groups"));
-    assert_eq!(rt; memory.text("found/page.html.old")?, None);
-    Ok(())
+    let steps = [
+        Put("a.ctt", GAP),
+        Put("a.sol", MINI_SOLUTION),
+        Put("found/page.html", "older page"),
+        Put("found/groups.proof", "older groups"),
+        Run("best a.ctt found", 0, "cost 5 bound 5 optimal\n", ""),
+        NoFile("found/groups.proof"),
+        File("found/groups.proof.old", Is("older groups")),
+        NoFile("found/page.html.old"),
+    ];
+    play(rt.alloc(), &steps)
 }
 
 #[test]
 fn best_begins_with_a_timetable(rt: HostRuntime) -> Result<(), Fail> {
-    let memory = filled(rt.alloc(), GAP, 0)?;
-    let first = run_on(rt.alloc(), &["best", "a.ctt", "found"], &memory)?;
-    assert_eq!(rt; first.answer(), (0, "cost 5 bound 5 optimal\n", ""));
-    let words = ["best", "a.ctt", "found", "--from", "found/best.sol"];
-    let second = run_on(rt.alloc(), &words, &memory)?;
-    assert_eq!(rt; second.answer(), (0, "cost 5 bound 5 optimal\n", ""));
-    let words = ["best", "a.ctt", "found", "--from", "none"];
-    let outcome = run_on(rt.alloc(), &words, &memory)?;
-    let refused = "refused: solution: cannot read: none: entity not found\n";
-    assert_eq!(rt; outcome.answer(), (2, "", refused));
-    Ok(())
+    let steps = [
+        Put("a.ctt", GAP),
+        Put("a.sol", MINI_SOLUTION),
+        Run("best a.ctt found", 0, "cost 5 bound 5 optimal\n", ""),
+        Run(
+            "best a.ctt found --from found/best.sol",
+            0,
+            "cost 5 bound 5 optimal\n",
+            "",
+        ),
+        Run(
+            "best a.ctt found --from none",
+            2,
+            "",
+            "refused: solution: cannot read: none: entity not found\n",
+        ),
+    ];
+    play(rt.alloc(), &steps)
 }

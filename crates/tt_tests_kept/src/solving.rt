@@ -3,58 +3,69 @@
 use std::alloc::Global;
 use std::test::Fail;
 use tt_testing_files::{MemoryFiles, Refusal};
-use tt_testing_runs::{Outcome, run_on};
-use tt_testing_samples::{APART, GAP, MINI, SAME, TRIO, WIDE, edited};
+use tt_testing_runs::Step::{Count, Edit, Errors, File, NoFile, Output, Put, Run, RunTo, Same};
+use tt_testing_runs::Text::{Any, Begins, Filled, Has, Is, Lacks};
+use tt_testing_runs::{Outcome, Step, play, play_on, play_refusing, run_line};
+use tt_testing_samples::{APART, GAP, MINI, SAME, TRIO, WIDE};
 
-fn filled(alloc: Global, instance: &str, refusal: Refusal) -> Result<MemoryFiles, Fail> {
-    let memory = MemoryFiles::new(alloc, refusal);
-    memory.put("a.ctt", instance)?;
-    Ok(memory)
+/// The search of one node.
+const SOLVE: &str = "solve a.ctt a.out a.proof --nodes 1";
+
+/// The search of up to a hundred nodes.
+const SOLVE_LONGER: &str = "solve a.ctt a.out a.proof --nodes 100";
+
+/// The bound of the proof that the search has written.
+const BOUND: &str = "bound a.ctt a.proof";
+
+/// Plays steps that put an instance into a file, and a search that finds that it has no timetable: the file of the best timetable doesn't
+/// exist, and there are another timetable and a reason.
+fn finds_none(alloc: Global, steps: &[Step<'_>]) -> Result<(), Fail> {
+    let memory = MemoryFiles::new(alloc, Refusal::Nothing);
+    play_on(alloc, &memory, steps)?;
+    play_on(
+        alloc,
+        &memory,
+        &[
+            RunTo(SOLVE, 1),
+            Output(Is("cost none bound none finished\n")),
+            Errors(Filled),
+            NoFile("a.out"),
+            File("a.out.partial", Any),
+            File("a.out.partial.html", Any),
+            Run(BOUND, 0, "bound none\n", ""),
+        ],
+    )
 }
-
-fn solved(alloc: Global, memory: &MemoryFiles, nodes: &str) -> Result<Outcome, Fail> {
-    let words = ["solve", "a.ctt", "a.out", "a.proof", "--nodes", nodes];
-    run_on(alloc, &words, memory)
-}
-
-fn bounded(alloc: Global, memory: &MemoryFiles) -> Result<Outcome, Fail> {
-    run_on(alloc, &["bound", "a.ctt", "a.proof"], memory)
-}
-
-/// An instance of one course of two lectures that needs three days, and no room.
-fn roomless(alloc: Global) -> Result<String, Fail> {
-    let text = edited(alloc, WIDE, "Rooms: 1", "Rooms: 0")?;
-    edited(alloc, &text, "R 11\n", "")
-}
-
-/// The status, the line and the bound of an instance that has no timetable.
-const NO_TIMETABLE: (u8, &str, &str) = (1, "cost none bound none finished\n", "bound none\n");
 
 #[test]
 fn searches_that_end(rt: HostRuntime) -> Result<(), Fail> {
-    let roomless = roomless(rt.alloc())?;
-    for (instance, nodes, (status, line, bound)) in [
-        (MINI, "1", (0, "cost 1 bound 1 finished\n", "bound 1\n")),
-        (WIDE, "1", (0, "cost 5 bound 5 finished\n", "bound 5\n")),
-        (GAP, "100", (0, "cost 5 bound 5 finished\n", "bound 5\n")),
-        // A teacher, a curriculum and the rooms with more lectures than periods, and an instance without rooms.
-        (SAME, "1", NO_TIMETABLE),
-        (TRIO, "1", NO_TIMETABLE),
-        (APART, "1", NO_TIMETABLE),
-        (roomless.as_str(), "1", NO_TIMETABLE),
+    for (instance, line, out, bound) in [
+        (MINI, SOLVE, "cost 1 bound 1 finished\n", "bound 1\n"),
+        (WIDE, SOLVE, "cost 5 bound 5 finished\n", "bound 5\n"),
+        (GAP, SOLVE_LONGER, "cost 5 bound 5 finished\n", "bound 5\n"),
     ] {
-        let memory = filled(rt.alloc(), instance, Refusal::Nothing)?;
-        let outcome = solved(rt.alloc(), &memory, nodes)?;
-        let (found, out, reason) = outcome.answer();
-        assert_eq!(rt; (found, out), (status, line));
-        // The file of the best timetable exists only if there is one; otherwise there are another timetable and a reason.
-        assert_eq!(rt; memory.text("a.out")?.is_some(), status == 0);
-        assert_eq!(rt; memory.text("a.out.partial")?.is_some(), status == 1);
-        assert_eq!(rt; memory.text("a.out.partial.html")?.is_some(), status == 1);
-        assert_eq!(rt; reason.is_empty(), status == 0);
-        assert_eq!(rt; bounded(rt.alloc(), &memory)?.answer(), (0, bound, ""));
+        let steps = [
+            Put("a.ctt", instance),
+            Run(line, 0, out, ""),
+            File("a.out", Any),
+            NoFile("a.out.partial"),
+            NoFile("a.out.partial.html"),
+            Run(BOUND, 0, bound, ""),
+        ];
+        play(rt.alloc(), &steps)?;
     }
-    Ok(())
+    // A teacher, a curriculum and the rooms with more lectures than periods, and an instance without rooms.
+    for instance in [SAME, TRIO, APART] {
+        finds_none(rt.alloc(), &[Put("a.ctt", instance)])?;
+    }
+    finds_none(
+        rt.alloc(),
+        &[
+            Put("a.ctt", WIDE),
+            Edit("a.ctt", "Rooms: 1", "Rooms: 0"),
+            Edit("a.ctt", "R 11\n", ""),
+        ],
+    )
 }
 
 /// Five courses in a circle, of which neighbours conflict, in two periods.
@@ -63,84 +74,87 @@ pub const CIRCLE: &str =
 
 #[test]
 fn a_circle_of_conflicts(rt: HostRuntime) -> Result<(), Fail> {
-    for (nodes, line, reason) in [
-        ("1", "cost none bound 0 unfinished\n", "not known: "),
-        ("100", "cost none bound none finished\n", "no timetable: "),
+    for (line, out, reason) in [
+        (SOLVE, "cost none bound 0 unfinished\n", "not known: "),
+        (
+            SOLVE_LONGER,
+            "cost none bound none finished\n",
+            "no timetable: ",
+        ),
     ] {
-        let memory = filled(rt.alloc(), CIRCLE, Refusal::Nothing)?;
-        memory.put("a.out", "kept")?;
-        let outcome = solved(rt.alloc(), &memory, nodes)?;
-        let (status, out, said) = outcome.answer();
-        assert_eq!(rt; (status, out), (1, line));
-        assert!(rt; said.starts_with(reason));
-        // An older timetable stays.
-        assert_eq!(rt; memory.text("a.out")?.as_deref(), Some("kept"));
-        let partial = memory.text("a.out.partial")?;
-        assert!(rt; partial.as_deref().is_some_and(|text| !text.is_empty()));
+        let steps = [
+            Put("a.ctt", CIRCLE),
+            Put("a.out", "kept"),
+            RunTo(line, 1),
+            Output(Is(out)),
+            Errors(Begins(reason)),
+            // An older timetable stays.
+            File("a.out", Is("kept")),
+            File("a.out.partial", Filled),
+        ];
+        play(rt.alloc(), &steps)?;
     }
     Ok(())
 }
 
 #[test]
 fn the_page_of_a_partial_timetable(rt: HostRuntime) -> Result<(), Fail> {
-    let memory = filled(rt.alloc(), SAME, Refusal::Nothing)?;
-    assert_eq!(rt; solved(rt.alloc(), &memory, "1")?.status, 1);
-    let page = memory.text("a.out.partial.html")?;
-    for part in [
-        "no feasible timetable exists (proved)",
-        "every timetable breaks a hard rule for these courses (proved): <a ",
-    ] {
-        assert!(rt; page.as_deref().is_some_and(|text| text.contains(part)));
-    }
-    let words = [
-        "page",
-        "a.ctt",
-        "a.out.partial",
-        "b.html",
-        "--proof",
-        "a.proof",
+    let steps = [
+        Put("a.ctt", SAME),
+        RunTo(SOLVE, 1),
+        File(
+            "a.out.partial.html",
+            Has("no feasible timetable exists (proved)"),
+        ),
+        File(
+            "a.out.partial.html",
+            Has("every timetable breaks a hard rule for these courses (proved): <a "),
+        ),
+        RunTo("page a.ctt a.out.partial b.html --proof a.proof", 0),
+        Same("b.html", "a.out.partial.html"),
     ];
-    assert_eq!(rt; run_on(rt.alloc(), &words, &memory)?.status, 0);
-    assert_eq!(rt; memory.text("b.html")?, page);
-    Ok(())
+    play(rt.alloc(), &steps)
 }
 
 #[test]
 fn a_search_of_one_node(rt: HostRuntime) -> Result<(), Fail> {
-    let memory = filled(rt.alloc(), GAP, Refusal::Nothing)?;
-    let outcome = solved(rt.alloc(), &memory, "1")?;
-    assert_eq!(rt; outcome.answer(), (0, "cost 5 bound 1 unfinished\n", ""));
-    assert_eq!(rt;
-        bounded(rt.alloc(), &memory)?.answer(),
-        (0, "bound 1\n", "")
-    );
-    Ok(())
+    let steps = [
+        Put("a.ctt", GAP),
+        Run(SOLVE, 0, "cost 5 bound 1 unfinished\n", ""),
+        Run(BOUND, 0, "bound 1\n", ""),
+    ];
+    play(rt.alloc(), &steps)
 }
 
 /// Checks whether a line of a search has this cost and this bound, finished or unfinished.
-fn says(alloc: Global, line: &str, bound: &str) -> Result<bool, Fail> {
-    let finished = format!(in alloc; "cost 5 {bound} finished")?;
-    let unfinished = format!(in alloc; "cost 5 {bound} unfinished")?;
-    Ok(line.trim_end() == finished.as_str() || line.trim_end() == unfinished.as_str())
+fn says(line: &str, bound: &str) -> bool {
+    let Some(rest) = line.trim_end().strip_prefix("cost 5 ") else {
+        return false;
+    };
+    let end = rest.strip_prefix(bound);
+    end == Some(" finished") || end == Some(" unfinished")
+}
+
+/// Returns the outcomes of a search with a limit of nodes and of the check of its proof, and the number of nodes of the proof.
+fn searched(alloc: Global, limit: usize) -> Result<(Outcome, Outcome, usize), Fail> {
+    let memory = MemoryFiles::new(alloc, Refusal::Nothing);
+    memory.put("a.ctt", GAP)?;
+    let line = format!(in alloc; "solve a.ctt a.out a.proof --nodes {limit}")?;
+    let outcome = run_line(alloc, &line, &memory)?;
+    let bound = run_line(alloc, BOUND, &memory)?;
+    let proof = memory.text("a.proof")?.unwrap_or(String::new(alloc));
+    // The lines of the header and the end are not nodes.
+    let written = proof.lines().count().saturating_sub(2);
+    Ok((outcome, bound, written))
 }
 
 #[test]
 fn each_limit_up_to_a_hundred(rt: HostRuntime) -> Result<(), Fail> {
     for limit in 1usize..=100 {
-        let memory = filled(rt.alloc(), GAP, Refusal::Nothing)?;
-        let nodes = format!(in rt.alloc(); "{limit}")?;
-        let outcome = solved(rt.alloc(), &memory, &nodes)?;
+        let (outcome, bound, written) = searched(rt.alloc(), limit)?;
         assert_eq!(rt; (outcome.status, outcome.err.as_str()), (0, ""));
-        let bound = bounded(rt.alloc(), &memory)?;
         assert_eq!(rt; (bound.status, bound.err.as_str()), (0, ""));
-        assert!(rt;
-            says(rt.alloc(), &outcome.out, bound.out.trim_end())?,
-            "{}",
-            outcome.out
-        );
-        let proof = memory.text("a.proof")?.unwrap_or(String::new(rt.alloc()));
-        // The lines of the header and the end are not nodes.
-        let written = proof.lines().count().saturating_sub(2);
+        assert!(rt; says(&outcome.out, bound.out.trim_end()), "{}", outcome.out);
         if outcome.out.ends_with("unfinished\n") {
             assert!(rt; limit <= written && written < 2 * limit, "{limit}");
         } else {
@@ -152,23 +166,28 @@ fn each_limit_up_to_a_hundred(rt: HostRuntime) -> Result<(), Fail> {
 
 #[test]
 fn searches_that_are_refused(rt: HostRuntime) -> Result<(), Fail> {
-    for nodes in ["0", "65537", "-1", "x"] {
-        let memory = filled(rt.alloc(), GAP, Refusal::Nothing)?;
-        let outcome = solved(rt.alloc(), &memory, nodes)?;
-        assert_eq!(rt; (outcome.status, outcome.out.as_str()), (2, ""));
-        assert_eq!(rt; memory.count(), 1);
+    for line in [
+        "solve a.ctt a.out a.proof --nodes 0",
+        "solve a.ctt a.out a.proof --nodes 65537",
+        "solve a.ctt a.out a.proof --nodes -1",
+        "solve a.ctt a.out a.proof --nodes x",
+    ] {
+        let steps = [Put("a.ctt", GAP), RunTo(line, 2), Output(Is("")), Count(1)];
+        play(rt.alloc(), &steps)?;
     }
-    for refusal in [Refusal::NewFiles, Refusal::Writes, Refusal::Renames] {
-        let memory = filled(rt.alloc(), GAP, refusal)?;
-        let outcome = solved(rt.alloc(), &memory, "100")?;
-        let refused = "refused: cannot write: output solution: a.out: ";
-        assert!(rt; outcome.err.starts_with(refused), "{}", outcome.err);
-        assert_eq!(rt; outcome.status, 2);
-        assert_eq!(rt;
-            outcome.out.contains("CTTP 1 bound 5"),
-            refusal == Refusal::Writes
-        );
-        assert_eq!(rt; memory.text("a.proof")?, None);
+    for (refusal, solution) in [
+        (Refusal::NewFiles, Lacks("CTTP 1 bound 5")),
+        (Refusal::Writes, Has("CTTP 1 bound 5")),
+        (Refusal::Renames, Lacks("CTTP 1 bound 5")),
+    ] {
+        let steps = [
+            Put("a.ctt", GAP),
+            RunTo(SOLVE_LONGER, 2),
+            Errors(Begins("refused: cannot write: output solution: a.out: ")),
+            Output(solution),
+            NoFile("a.proof"),
+        ];
+        play_refusing(rt.alloc(), refusal, &steps)?;
     }
     Ok(())
 }
