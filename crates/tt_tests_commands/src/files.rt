@@ -5,11 +5,13 @@ use std::io;
 use std::io::{Error, ErrorKind, Write};
 use std::test::Fail;
 use tt_cli::run;
-use tt_testing_files::{Disk, MemoryFiles, Refusal, StoredFile};
-use tt_testing_runs::{run_on, run_with};
+use tt_testing_files::{Disk, Refusal, StoredFile};
+use tt_testing_runs::Step::{Count, Errors, File, Output, Put, Run, RunTo};
+use tt_testing_runs::Text::{Ends, Filled, Is, Lines};
+use tt_testing_runs::{Outcome, play, play_refusing, run_with};
 use tt_testing_samples::{GAP, GAP_PROOF, MINI_SOLUTION, WIDE, WIDE_SOLUTION};
 
-const PROOF: &[u8] = b"CTTP 1 bound 5 B D c0 ; end";
+const PROOF: &str = "CTTP 1 bound 5 B D c0 ; end";
 
 const WORDS: [&str; 4] = ["check", "a.ctt", "a.sol", "a.proof"];
 
@@ -29,7 +31,7 @@ fn wide_files(fails_at: [u64; 3]) -> [StoredFile<'static>; 3] {
         },
         StoredFile {
             path: "a.proof",
-            bytes: PROOF,
+            bytes: PROOF.as_bytes(),
             fails_at: proof,
         },
     ]
@@ -87,210 +89,202 @@ fn failed_reads(rt: HostRuntime) -> Result<(), Fail> {
 
 #[test]
 fn missing_files(rt: HostRuntime) -> Result<(), Fail> {
-    let bad = StoredFile::new("bad", b"bad");
-    let [instance, solution, _] = wide_files([0, 0, 0]);
-    let files = [bad, instance, solution];
-    for (words, err) in [
+    for (line, err) in [
         (
-            ["check", "none", "none", "none"].as_slice(),
+            "check none none none",
             "refused: instance: cannot read: none: entity not found\n",
         ),
         (
-            ["check", "bad", "none", "none"].as_slice(),
+            "check bad none none",
             "refused: solution: cannot read: none: entity not found\n",
         ),
         (
-            ["check", "bad", "bad", "none"].as_slice(),
+            "check bad bad none",
             "refused: proof: cannot read: none: entity not found\n",
         ),
         (
-            ["check", "a.ctt", "bad", "bad"].as_slice(),
+            "check a.ctt bad bad",
             "refused: solution: UnknownCourse at byte 0\n",
         ),
         (
-            ["check", "a.ctt", "a.sol", "none"].as_slice(),
+            "check a.ctt a.sol none",
             "refused: proof: cannot read: none: entity not found\n",
         ),
         (
-            ["validate", "none", "a.sol"].as_slice(),
+            "validate none a.sol",
             "refused: instance: cannot read: none: entity not found\n",
         ),
         (
-            ["validate", "a.ctt", "none"].as_slice(),
+            "validate a.ctt none",
             "refused: solution: cannot read: none: entity not found\n",
         ),
     ] {
-        let outcome = run_with(rt.alloc(), words, &files)?;
-        assert_eq!(rt; outcome.answer(), (2, "", err));
+        let steps = [
+            Put("bad", "bad"),
+            Put("a.ctt", WIDE),
+            Put("a.sol", WIDE_SOLUTION),
+            Run(line, 2, "", err),
+        ];
+        play_refusing(rt.alloc(), Refusal::NewFiles, &steps)?;
     }
     Ok(())
-}
-
-/// Returns the program's error output, with files named bad and a.ctt.
-fn refusal_of(alloc: Global, words: &[&str]) -> Result<String, Fail> {
-    let memory = MemoryFiles::new(alloc, Refusal::Nothing);
-    memory.put("bad", "bad")?;
-    memory.put("a.ctt", WIDE)?;
-    let outcome = run_on(alloc, words, &memory)?;
-    Ok(outcome.err)
 }
 
 #[test]
 fn missing_files_of_proofs(rt: HostRuntime) -> Result<(), Fail> {
-    for (instance, proof, err) in [
+    for (bound, upgrade, err) in [
         (
-            "none",
-            "none",
+            "bound none none",
+            "upgrade none none a.out",
             "refused: instance: cannot read: none: entity not found\n",
         ),
         (
-            "a.ctt",
-            "none",
+            "bound a.ctt none",
+            "upgrade a.ctt none a.out",
             "refused: proof: cannot read: none: entity not found\n",
         ),
         (
-            "bad",
-            "none",
+            "bound bad none",
+            "upgrade bad none a.out",
             "refused: proof: cannot read: none: entity not found\n",
         ),
         (
-            "bad",
-            "bad",
+            "bound bad bad",
+            "upgrade bad bad a.out",
             "refused: instance: Expected Name: at byte 0\n",
         ),
     ] {
-        let reported = refusal_of(rt.alloc(), &["bound", instance, proof])?;
-        assert_eq!(rt; reported.as_str(), err);
-        let reported = refusal_of(rt.alloc(), &["upgrade", instance, proof, "a.out"])?;
-        assert_eq!(rt; reported.as_str(), err);
+        let steps = [
+            Put("bad", "bad"),
+            Put("a.ctt", WIDE),
+            Run(bound, 2, "", err),
+            Run(upgrade, 2, "", err),
+        ];
+        play(rt.alloc(), &steps)?;
     }
     Ok(())
 }
 
-/// Returns the program's error output for an output that is one of its inputs or its other output, and whether its files are unchanged.
-fn overlap(alloc: Global, words: &[&str]) -> Result<(String, bool), Fail> {
-    let memory = MemoryFiles::new(alloc, Refusal::Nothing);
-    memory.put("a.ctt", GAP)?;
-    memory.put("a.sol", MINI_SOLUTION)?;
-    memory.put("a.proof", GAP_PROOF)?;
-    let outcome = run_on(alloc, words, &memory)?;
-    let is_same = memory.text("a.ctt")?.as_deref() == Some(GAP)
-        && memory.text("a.sol")?.as_deref() == Some(MINI_SOLUTION)
-        && memory.text("a.proof")?.as_deref() == Some(GAP_PROOF)
-        && memory.count() == 3;
-    Ok((outcome.err, is_same))
-}
-
-/// The words of commands whose outputs are refused, and why.
-const REFUSED_OUTPUTS: [(&[&str], &str); 14] = [
+/// Commands whose outputs are refused, and why.
+const REFUSED_OUTPUTS: [(&str, &str); 14] = [
     (
-        &["improve", "a.ctt", "a.sol", "a.ctt"],
-        "solution: a.ctt: is a file that the command reads",
+        "improve a.ctt a.sol a.ctt",
+        "refused: cannot write: output solution: a.ctt: is a file that the command reads\n",
     ),
     (
-        &["improve", "a.ctt", "a.sol", "a.sol"],
-        "solution: a.sol: is a file that the command reads",
+        "improve a.ctt a.sol a.sol",
+        "refused: cannot write: output solution: a.sol: is a file that the command reads\n",
     ),
     (
-        &["page", "a.ctt", "a.sol", "a.ctt"],
-        "page: a.ctt: is a file that the command reads",
+        "page a.ctt a.sol a.ctt",
+        "refused: cannot write: output page: a.ctt: is a file that the command reads\n",
     ),
     (
-        &["page", "a.ctt", "a.sol", "a.proof", "--proof", "a.proof"],
-        "page: a.proof: is a file that the command reads",
+        "page a.ctt a.sol a.proof --proof a.proof",
+        "refused: cannot write: output page: a.proof: is a file that the command reads\n",
     ),
     (
-        &["upgrade", "a.ctt", "a.proof", "a.proof"],
-        "proof: a.proof: is a file that the command reads",
+        "upgrade a.ctt a.proof a.proof",
+        "refused: cannot write: output proof: a.proof: is a file that the command reads\n",
     ),
     (
-        &["solve", "a.ctt", "a.ctt", "b.proof"],
-        "solution: a.ctt: is a file that the command reads",
+        "solve a.ctt a.ctt b.proof",
+        "refused: cannot write: output solution: a.ctt: is a file that the command reads\n",
     ),
     (
-        &["solve", "a.ctt", "b.sol", "a.ctt"],
-        "proof: a.ctt: is a file that the command reads",
+        "solve a.ctt b.sol a.ctt",
+        "refused: cannot write: output proof: a.ctt: is a file that the command reads\n",
     ),
     (
-        &["solve", "a.ctt", "same", "same"],
-        "proof: same: is also output solution",
+        "solve a.ctt same same",
+        "refused: cannot write: output proof: same: is also output solution\n",
     ),
     (
-        &["solve", "a.ctt", "-", "-"],
-        "proof: -: is also output solution",
+        "solve a.ctt - -",
+        "refused: cannot write: output proof: -: is also output solution\n",
     ),
     (
-        &["improve", "a.ctt", "a.sol", "out/"],
-        "solution: out/: ends in /",
+        "improve a.ctt a.sol out/",
+        "refused: cannot write: output solution: out/: ends in /\n",
     ),
     (
-        &["improve", "a.ctt", "a.sol", "new/."],
-        "solution: new/.: ends in /",
+        "improve a.ctt a.sol new/.",
+        "refused: cannot write: output solution: new/.: ends in /\n",
     ),
-    (&["improve", "a.ctt", "a.sol", ""], "solution: : is empty"),
-    (&["best", "a.ctt", ""], "folder: : is empty"),
-    (&["parts", "a.ctt", ""], "folder: : is empty"),
+    (
+        "improve a.ctt a.sol ",
+        "refused: cannot write: output solution: : is empty\n",
+    ),
+    (
+        "best a.ctt ",
+        "refused: cannot write: output folder: : is empty\n",
+    ),
+    (
+        "parts a.ctt ",
+        "refused: cannot write: output folder: : is empty\n",
+    ),
 ];
 
+/// An output is none of a command's inputs and not its other output, and the files stay as they are.
 #[test]
 fn outputs_are_apart(rt: HostRuntime) -> Result<(), Fail> {
-    for (words, why) in REFUSED_OUTPUTS {
-        let (reported, is_same) = overlap(rt.alloc(), words)?;
-        let wanted = format!(in rt.alloc(); "refused: cannot write: output {why}\n")?;
-        assert_eq!(rt; reported.as_str(), wanted.as_str(), "{words:?}");
-        assert!(rt; is_same, "{words:?}");
+    for (line, err) in REFUSED_OUTPUTS {
+        let steps = [
+            Put("a.ctt", GAP),
+            Put("a.sol", MINI_SOLUTION),
+            Put("a.proof", GAP_PROOF),
+            Run(line, 2, "", err),
+            File("a.ctt", Is(GAP)),
+            File("a.sol", Is(MINI_SOLUTION)),
+            File("a.proof", Is(GAP_PROOF)),
+            Count(3),
+        ];
+        play(rt.alloc(), &steps)?;
     }
     Ok(())
 }
 
 #[test]
 fn standard_input_is_read_once(rt: HostRuntime) -> Result<(), Fail> {
-    let memory = MemoryFiles::new(rt.alloc(), Refusal::Nothing);
-    memory.put("a.ctt", GAP)?;
-    memory.put("a.sol", MINI_SOLUTION)?;
-    memory.put("standard", GAP_PROOF)?;
-    for (words, status, out, err) in [
-        (["bound", "a.ctt", "-"].as_slice(), 0, "bound 5\n", ""),
-        (["sum", "a.ctt", "-"].as_slice(), 0, "bound 5\n", ""),
-        (
-            ["sum", "a.ctt", "-", "-"].as_slice(),
+    let steps = [
+        Put("a.ctt", GAP),
+        Put("a.sol", MINI_SOLUTION),
+        Put("standard", GAP_PROOF),
+        Run("bound a.ctt -", 0, "bound 5\n", ""),
+        Run("sum a.ctt -", 0, "bound 5\n", ""),
+        Run(
+            "sum a.ctt - -",
             2,
             "",
             "refused: proof 2: cannot read: -: standard input is read already\n",
         ),
-        (
-            ["validate", "-", "-"].as_slice(),
+        Run(
+            "validate - -",
             2,
             "",
             "refused: solution: cannot read: -: standard input is read already\n",
         ),
-        (
-            ["validate", "-", "a.sol"].as_slice(),
+        Run(
+            "validate - a.sol",
             2,
             "",
             "refused: instance: Expected Name: at byte 0\n",
         ),
-    ] {
-        let outcome = run_on(rt.alloc(), words, &memory)?;
-        assert_eq!(rt; outcome.answer(), (status, out, err), "{words:?}");
-    }
-    Ok(())
+    ];
+    play(rt.alloc(), &steps)
 }
 
 #[test]
 fn standard_output_is_written_before_the_line(rt: HostRuntime) -> Result<(), Fail> {
-    let memory = MemoryFiles::new(rt.alloc(), Refusal::Nothing);
-    memory.put("a.ctt", GAP)?;
-    let outcome = run_on(rt.alloc(), &["solve", "a.ctt", "-", "a.proof"], &memory)?;
-    assert_eq!(rt; (outcome.status, outcome.err.as_str()), (0, ""));
-    assert_eq!(rt; outcome.out.lines().count(), 3);
-    assert!(rt;
-        outcome.out.ends_with("\ncost 5 bound 5 finished\n"),
-        "{}",
-        outcome.out
-    );
-    assert_eq!(rt; memory.count(), 2);
-    Ok(())
+    let steps = [
+        Put("a.ctt", GAP),
+        RunTo("solve a.ctt - a.proof", 0),
+        Errors(Is("")),
+        Output(Lines(3)),
+        Output(Ends("\ncost 5 bound 5 finished\n")),
+        Count(2),
+    ];
+    play(rt.alloc(), &steps)
 }
 
 /// The maximum number of bytes of an instance or of a solution file.
@@ -303,31 +297,27 @@ fn longest_instance(alloc: Global) -> Result<Vec<u8>, AllocError> {
     Ok(bytes)
 }
 
+/// Returns the outcome of `validate` for an instance and a solution.
+fn validated(alloc: Global, instance: &[u8], solution: &[u8]) -> Result<Outcome, Fail> {
+    let files = [
+        StoredFile::new("a.ctt", instance),
+        StoredFile::new("a.sol", solution),
+    ];
+    run_with(alloc, &["validate", "a.ctt", "a.sol"], &files)
+}
+
 #[test]
 fn the_longest_files(rt: HostRuntime) -> Result<(), Fail> {
     let mut long = longest_instance(rt.alloc())?;
-    let words = ["validate", "a.ctt", "a.sol"];
-    let files = [
-        StoredFile::new("a.ctt", &long),
-        StoredFile::new("a.sol", WIDE_SOLUTION.as_bytes()),
-    ];
-    let outcome = run_with(rt.alloc(), &words, &files)?;
+    let outcome = validated(rt.alloc(), &long, WIDE_SOLUTION.as_bytes())?;
     assert_eq!(rt; (outcome.status, outcome.err.as_str()), (0, ""));
     long.push(b' ')?;
-    let files = [
-        StoredFile::new("a.ctt", &long),
-        StoredFile::new("a.sol", &long),
-    ];
-    let outcome = run_with(rt.alloc(), &words, &files)?;
+    let outcome = validated(rt.alloc(), &long, &long)?;
     assert_eq!(rt;
         outcome.answer(),
         (2, "", "refused: instance: too long: a.ctt\n")
     );
-    let files = [
-        StoredFile::new("a.ctt", WIDE.as_bytes()),
-        StoredFile::new("a.sol", &long),
-    ];
-    let outcome = run_with(rt.alloc(), &words, &files)?;
+    let outcome = validated(rt.alloc(), WIDE.as_bytes(), &long)?;
     assert_eq!(rt;
         outcome.answer(),
         (2, "", "refused: solution: too long: a.sol\n")
@@ -337,41 +327,46 @@ fn the_longest_files(rt: HostRuntime) -> Result<(), Fail> {
 
 #[test]
 fn words_that_ask_for_nothing(rt: HostRuntime) -> Result<(), Fail> {
-    for words in [
-        ["grade"].as_slice(),
-        ["validate"].as_slice(),
-        ["validate", "a.ctt"].as_slice(),
-        ["validate", "a.ctt", "a.sol", "a.proof"].as_slice(),
-        ["check", "a.ctt", "a.sol"].as_slice(),
-        ["bound"].as_slice(),
-        ["bound", "a.ctt"].as_slice(),
-        ["sum"].as_slice(),
-        ["sum", "a.ctt", "--solution"].as_slice(),
-        ["upgrade"].as_slice(),
-        ["upgrade", "a.ctt", "a.proof"].as_slice(),
-        ["--loud"].as_slice(),
-        [""].as_slice(),
+    for line in [
+        "grade",
+        "validate",
+        "validate a.ctt",
+        "validate a.ctt a.sol a.proof",
+        "check a.ctt a.sol",
+        "bound",
+        "bound a.ctt",
+        "sum",
+        "sum a.ctt --solution",
+        "upgrade",
+        "upgrade a.ctt a.proof",
+        "--loud",
+        "",
     ] {
-        let outcome = run_with(rt.alloc(), words, &wide_files([0, 0, 0]))?;
-        assert_eq!(rt; (outcome.status, outcome.out.as_str()), (2, ""));
-        assert!(rt; !outcome.err.is_empty());
+        let steps = [
+            Put("a.ctt", WIDE),
+            Put("a.sol", WIDE_SOLUTION),
+            Put("a.proof", PROOF),
+            RunTo(line, 2),
+            Output(Is("")),
+            Errors(Filled),
+        ];
+        play_refusing(rt.alloc(), Refusal::NewFiles, &steps)?;
     }
     Ok(())
 }
 
 #[test]
 fn help_is_no_refusal(rt: HostRuntime) -> Result<(), Fail> {
-    for words in [
-        ["--help"].as_slice(),
-        ["validate", "--help"].as_slice(),
-        ["check", "--help"].as_slice(),
-        ["bound", "--help"].as_slice(),
-        ["sum", "--help"].as_slice(),
-        ["upgrade", "--help"].as_slice(),
+    for line in [
+        "--help",
+        "validate --help",
+        "check --help",
+        "bound --help",
+        "sum --help",
+        "upgrade --help",
     ] {
-        let outcome = run_with(rt.alloc(), words, &[])?;
-        assert_eq!(rt; (outcome.status, outcome.err.as_str()), (0, ""));
-        assert!(rt; !outcome.out.is_empty());
+        let steps = [RunTo(line, 0), Errors(Is("")), Output(Filled)];
+        play_refusing(rt.alloc(), Refusal::NewFiles, &steps)?;
     }
     Ok(())
 }

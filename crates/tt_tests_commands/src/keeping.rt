@@ -2,8 +2,9 @@
 
 use std::alloc::Global;
 use std::test::Fail;
-use tt_testing_files::StoredFile;
-use tt_testing_runs::{Outcome, run_with};
+use tt_testing_files::Refusal;
+use tt_testing_runs::Step::{Put, Run};
+use tt_testing_runs::play_refusing;
 
 /// Two lectures that are to be on two days, each of two periods.
 const PAIR: &str =
@@ -18,41 +19,49 @@ const WISHED_PROOF: &str = "wishes\nCTTP 1 bound 5\nB D c0 ;\nend\n";
 /// The second day is closed.
 const CLOSED: &str = "closed * 1 *\n";
 
-/// Returns the outcome of a command over the pair, a proof, wishes and a solution.
-fn kept(
+/// Runs a command over the pair, a proof, wishes and a solution, and expects this status, standard output and standard error.
+fn keep(
     alloc: Global,
-    words: &[&str],
+    line: &str,
     proof: &str,
     wishes: &str,
     solution: &str,
-) -> Result<Outcome, Fail> {
-    let files = [
-        StoredFile::new("a.ctt", PAIR.as_bytes()),
-        StoredFile::new("a.proof", proof.as_bytes()),
-        StoredFile::new("a.wishes", wishes.as_bytes()),
-        StoredFile::new("a.sol", solution.as_bytes()),
+    answer: (u8, &str, &str),
+) -> Result<(), Fail> {
+    let (status, out, err) = answer;
+    let steps = [
+        Put("a.ctt", PAIR),
+        Put("a.proof", proof),
+        Put("a.wishes", wishes),
+        Put("a.sol", solution),
+        Run(line, status, out, err),
     ];
-    run_with(alloc, words, &files)
+    play_refusing(alloc, Refusal::NewFiles, &steps)
 }
 
-const BOUND: [&str; 5] = ["bound", "a.ctt", "a.proof", "--wishes", "a.wishes"];
+const BOUND: &str = "bound a.ctt a.proof --wishes a.wishes";
 
-const SUM: [&str; 5] = ["sum", "a.ctt", "a.proof", "--wishes", "a.wishes"];
+const SUM: &str = "sum a.ctt a.proof --wishes a.wishes";
 
-const CHECK: [&str; 6] = ["check", "a.ctt", "a.sol", "a.proof", "--wishes", "a.wishes"];
+const CHECK: &str = "check a.ctt a.sol a.proof --wishes a.wishes";
 
 #[test]
 fn a_bound_holds_of_the_timetables_that_keep_wishes(rt: HostRuntime) -> Result<(), Fail> {
-    for (words, refused) in [
+    for (line, refused) in [
         (BOUND, "refused: proof: TooCheap at node 0\n"),
         (SUM, "refused: proof 1: TooCheap at node 0\n"),
     ] {
         for proof in [PROOF, WISHED_PROOF] {
-            let outcome = kept(rt.alloc(), &words, proof, CLOSED, "")?;
-            assert_eq!(rt; outcome.answer(), (0, "bound 5\nkept 1\n", ""));
+            keep(
+                rt.alloc(),
+                line,
+                proof,
+                CLOSED,
+                "",
+                (0, "bound 5\nkept 1\n", ""),
+            )?;
         }
-        let outcome = kept(rt.alloc(), &words, PROOF, "", "")?;
-        assert_eq!(rt; outcome.answer(), (2, "", refused));
+        keep(rt.alloc(), line, PROOF, "", "", (2, "", refused))?;
     }
     Ok(())
 }
@@ -63,21 +72,33 @@ fn a_proof_under_wishes_is_none_of_the_instance(rt: HostRuntime) -> Result<(), F
         (PROOF, "refused: proof: TooCheap at node 0\n"),
         (WISHED_PROOF, "refused: proof: Expected CTTP at byte 0\n"),
     ] {
-        let outcome = kept(rt.alloc(), &BOUND[..3], proof, "", "")?;
-        assert_eq!(rt; outcome.answer(), (2, "", refused));
+        keep(
+            rt.alloc(),
+            "bound a.ctt a.proof",
+            proof,
+            "",
+            "",
+            (2, "", refused),
+        )?;
     }
     Ok(())
 }
 
 #[test]
 fn a_solution_that_breaks_a_wish_is_broken(rt: HostRuntime) -> Result<(), Fail> {
-    for (solution, status, text) in [
+    for (solution, status, out) in [
         ("a R 0 0 a R 0 1", 0, "yes cost 5 bound 5 optimal\nkept 1\n"),
         ("a R 0 0 a R 1 0", 1, "broken hard 0 cost 0\nwishes 1\n"),
         ("a R 0 0", 1, "broken hard 1 cost 5\nwishes 0\n"),
     ] {
-        let outcome = kept(rt.alloc(), &CHECK, WISHED_PROOF, CLOSED, solution)?;
-        assert_eq!(rt; outcome.answer(), (status, text, ""));
+        keep(
+            rt.alloc(),
+            CHECK,
+            WISHED_PROOF,
+            CLOSED,
+            solution,
+            (status, out, ""),
+        )?;
     }
     Ok(())
 }
@@ -97,8 +118,14 @@ fn wishes_are_refused_before_the_solution_and_the_proof(rt: HostRuntime) -> Resu
             "refused: proof: Expected CTTP at byte 0\n",
         ),
     ] {
-        let outcome = kept(rt.alloc(), &CHECK, "wish", wishes, solution)?;
-        assert_eq!(rt; outcome.answer(), (2, "", refused));
+        keep(
+            rt.alloc(),
+            CHECK,
+            "wish",
+            wishes,
+            solution,
+            (2, "", refused),
+        )?;
     }
     Ok(())
 }

@@ -1,57 +1,48 @@
 //! The results of `upgrade` on proofs, and the files that it writes.
 
-use std::alloc::Global;
 use std::test::Fail;
 use tt_instance_read::read_instance;
 use tt_leaf::Bound;
 use tt_proof_check::check_nodes;
 use tt_proof_upgrade::parse_proof;
 use tt_proof_write::write_proof;
-use tt_testing_files::{MemoryFiles, Refusal};
-use tt_testing_runs::{Outcome, run_on};
-use tt_testing_samples::{GAP, GAP_PROOF, SEATS, edited};
+use tt_testing_files::Refusal;
+use tt_testing_runs::Step::{Count, Edit, Errors, File, Put, Run, RunTo, Same};
+use tt_testing_runs::Text::{Begins, Is};
+use tt_testing_runs::{play, play_refusing};
+use tt_testing_samples::{GAP, GAP_PROOF, SEATS};
 use tt_text::Pieces;
 
 const OLDER: &str = "an older file";
 
-fn upgraded(alloc: Global, memory: &MemoryFiles) -> Result<Outcome, Fail> {
-    run_on(alloc, &["upgrade", "a.ctt", "a.proof", "a.out"], memory)
-}
-
-/// Returns a memory with an instance, a proof and an older file at the path of the new one.
-fn filled(
-    alloc: Global,
-    instance: &str,
-    proof: &str,
-    refusal: Refusal,
-) -> Result<MemoryFiles, Fail> {
-    let memory = MemoryFiles::new(alloc, refusal);
-    memory.put("a.ctt", instance)?;
-    memory.put("a.proof", proof)?;
-    memory.put("a.out", OLDER)?;
-    Ok(memory)
-}
+const UPGRADE: &str = "upgrade a.ctt a.proof a.out";
 
 #[test]
 fn proofs_are_written_in_version_two(rt: HostRuntime) -> Result<(), Fail> {
-    let gap = edited(rt.alloc(), GAP_PROOF, "CTTP 1", "CTTP 2")?;
-    let seats = "CTTP 2 bound 5\nB P c0 5 c1 5 r0 5 / ;\nend\n";
-    for (instance, proof, out) in [
-        (GAP, GAP_PROOF, gap.as_str()),
-        (SEATS, "CTTP 2 bound 05 B P r0 5 c0 5 c1 5 / ; end", seats),
-    ] {
-        let memory = filled(rt.alloc(), instance, proof, Refusal::Nothing)?;
-        let outcome = upgraded(rt.alloc(), &memory)?;
-        assert_eq!(rt; outcome.answer(), (0, "bound 5\n", ""));
-        assert_eq!(rt; memory.text("a.out")?.as_deref(), Some(out));
-        assert_eq!(rt; memory.count(), 3);
-    }
-    Ok(())
+    let steps = [
+        Put("a.ctt", GAP),
+        Put("a.proof", GAP_PROOF),
+        Put("a.out", OLDER),
+        Run(UPGRADE, 0, "bound 5\n", ""),
+        Count(3),
+        Edit("a.proof", "CTTP 1", "CTTP 2"),
+        Same("a.out", "a.proof"),
+    ];
+    play(rt.alloc(), &steps)?;
+    let steps = [
+        Put("a.ctt", SEATS),
+        Put("a.proof", "CTTP 2 bound 05 B P r0 5 c0 5 c1 5 / ; end"),
+        Put("a.out", OLDER),
+        Run(UPGRADE, 0, "bound 5\n", ""),
+        File("a.out", Is("CTTP 2 bound 5\nB P c0 5 c1 5 r0 5 / ;\nend\n")),
+        Count(3),
+    ];
+    play(rt.alloc(), &steps)
 }
 
 #[test]
 fn refused_proofs_leave_the_older_file(rt: HostRuntime) -> Result<(), Fail> {
-    for (proof, reported) in [
+    for (proof, err) in [
         (
             "CTTP 2 bound 5 B P c0 5 c1 5 r0 4 / ; end",
             "refused: proof: BadPrice at node 0\n",
@@ -62,27 +53,37 @@ fn refused_proofs_leave_the_older_file(rt: HostRuntime) -> Result<(), Fail> {
             "refused: proof: TrailingToken at byte 42\n",
         ),
     ] {
-        let memory = filled(rt.alloc(), SEATS, proof, Refusal::Nothing)?;
-        let outcome = upgraded(rt.alloc(), &memory)?;
-        assert_eq!(rt; outcome.answer(), (2, "", reported));
-        assert_eq!(rt; memory.text("a.out")?.as_deref(), Some(OLDER));
-        assert_eq!(rt; memory.count(), 3);
+        let steps = [
+            Put("a.ctt", SEATS),
+            Put("a.proof", proof),
+            Put("a.out", OLDER),
+            Run(UPGRADE, 2, "", err),
+            File("a.out", Is(OLDER)),
+            Count(3),
+        ];
+        play(rt.alloc(), &steps)?;
     }
     Ok(())
 }
 
 #[test]
 fn refused_writes_leave_the_older_file(rt: HostRuntime) -> Result<(), Fail> {
-    for refusal in [Refusal::NewFiles, Refusal::Writes, Refusal::Renames] {
-        let memory = filled(rt.alloc(), GAP, GAP_PROOF, refusal)?;
-        let outcome = upgraded(rt.alloc(), &memory)?;
-        let refused = "refused: cannot write: output proof: a.out: ";
-        assert!(rt; outcome.err.starts_with(refused), "{}", outcome.err);
-        assert_eq!(rt; outcome.status, 2);
-        assert_eq!(rt; memory.text("a.out")?.as_deref(), Some(OLDER));
+    for (refusal, files) in [
+        (Refusal::NewFiles, 3),
+        (Refusal::Writes, 3),
         // A proof that can't be renamed stays next to its place.
-        let drafts = if refusal == Refusal::Renames { 1 } else { 0 };
-        assert_eq!(rt; memory.count(), 3 + drafts);
+        (Refusal::Renames, 4),
+    ] {
+        let steps = [
+            Put("a.ctt", GAP),
+            Put("a.proof", GAP_PROOF),
+            Put("a.out", OLDER),
+            RunTo(UPGRADE, 2),
+            Errors(Begins("refused: cannot write: output proof: a.out: ")),
+            File("a.out", Is(OLDER)),
+            Count(files),
+        ];
+        play_refusing(rt.alloc(), refusal, &steps)?;
     }
     Ok(())
 }
