@@ -2,23 +2,19 @@
 
 use std::alloc::Global;
 use std::test::Fail;
-use tt_testing_files::StoredFile;
-use tt_testing_runs::{Outcome, run_with};
-use tt_testing_samples::{MINI, SAME, TRIO, edited, repeated};
+use tt_testing_files::{Refusal, StoredFile};
+use tt_testing_runs::Step::{Edit, Errors, Output, Put, Run, RunTo};
+use tt_testing_runs::Text::{Ends, Has, Is};
+use tt_testing_runs::{Step, play_refusing, run_with};
+use tt_testing_samples::{MINI, SAME, TRIO, repeated};
 
-/// Returns the outcome of `inspect` for an instance.
-fn inspected(alloc: Global, instance: &str) -> Result<Outcome, Fail> {
-    let files = [StoredFile::new("a.ctt", instance.as_bytes())];
-    run_with(alloc, &["inspect", "a.ctt"], &files)
-}
+const INSPECT: &str = "inspect a.ctt";
 
-/// Returns the outcome of `inspect` for Mini and a solution.
-fn mini_inspected(alloc: Global, solution: &str) -> Result<Outcome, Fail> {
-    let files = [
-        StoredFile::new("a.ctt", MINI.as_bytes()),
-        StoredFile::new("a.sol", solution.as_bytes()),
-    ];
-    run_with(alloc, &["inspect", "a.ctt", "a.sol"], &files)
+const INSPECT_BOTH: &str = "inspect a.ctt a.sol";
+
+/// Plays steps over files that can't be written.
+fn read(alloc: Global, steps: &[Step<'_>]) -> Result<(), Fail> {
+    play_refusing(alloc, Refusal::NewFiles, steps)
 }
 
 /// The output for Mini.
@@ -49,25 +45,27 @@ fn instances_in_words(rt: HostRuntime) -> Result<(), Fail> {
             "2 courses with 3 lectures, 2 teachers, 2 rooms, 1 curriculum\n2 days of 1 period, 4 places in all rooms, 75 percent full\n0 of 1 pair of courses can't meet at the same time, 0 percent\nthe largest room has 11 seats, the largest course 12 students; 1 lecture has no room that is large enough\ncan't be: course a has 2 lectures and can meet in 1 period: day 2 period 1; it lacks 1 period\ncosts 5 at least: course a wants 3 days, the week has 2\ncosts 1 at least: course b has 12 students, the largest room 11 seats\nlook at: 1 course is in no curriculum: b\nlook at: 1 curriculum has fewer than two courses: q\nlook at: 1 room is too small for every course: S\n",
         ),
     ] {
-        let outcome = inspected(rt.alloc(), instance)?;
-        assert_eq!(rt; outcome.answer(), (status, lines, ""));
+        let steps = [Put("a.ctt", instance), Run(INSPECT, status, lines, "")];
+        read(rt.alloc(), &steps)?;
     }
     Ok(())
 }
 
 #[test]
 fn each_line_has_a_kind(rt: HostRuntime) -> Result<(), Fail> {
-    let files = [StoredFile::new("a.ctt", SAME.as_bytes())];
-    let outcome = run_with(rt.alloc(), &["inspect", "a.ctt", "--json"], &files)?;
-    let line =
-        "{\"lines\":[{\"kind\":\"text\",\"text\":\"2 courses with 2 lectures, 1 teacher, 2 rooms, 0 curricula\"},{\"kind\":\"text\",\"text\":\"1 day of 1 period, 2 places in all rooms, 100 percent full\"},{\"kind\":\"text\",\"text\":\"1 of 1 pair of courses can't meet at the same time, 100 percent\"},{\"kind\":\"text\",\"text\":\"the largest room has 10 seats, the largest course 1 student\"},{\"kind\":\"impossible\",\"text\":\"teacher t has 2 lectures, the week has 1 period\"},{\"kind\":\"remark\",\"text\":\"2 courses are in no curriculum: x y\"}],\"status\":1}\n";
-    assert_eq!(rt; outcome.answer(), (1, line, ""));
-    let short = [StoredFile::new("a.ctt", b"Name: a".as_slice())];
-    let refused = run_with(rt.alloc(), &["inspect", "a.ctt", "--json"], &short)?;
-    let end = "\"status\":2}\n";
-    assert_eq!(rt; refused.status, 2);
-    assert!(rt; refused.out.ends_with(end), "{}", refused.out);
-    Ok(())
+    let steps = [
+        Put("a.ctt", SAME),
+        Run(
+            "inspect a.ctt --json",
+            1,
+            "{\"lines\":[{\"kind\":\"text\",\"text\":\"2 courses with 2 lectures, 1 teacher, 2 rooms, 0 curricula\"},{\"kind\":\"text\",\"text\":\"1 day of 1 period, 2 places in all rooms, 100 percent full\"},{\"kind\":\"text\",\"text\":\"1 of 1 pair of courses can't meet at the same time, 100 percent\"},{\"kind\":\"text\",\"text\":\"the largest room has 10 seats, the largest course 1 student\"},{\"kind\":\"impossible\",\"text\":\"teacher t has 2 lectures, the week has 1 period\"},{\"kind\":\"remark\",\"text\":\"2 courses are in no curriculum: x y\"}],\"status\":1}\n",
+            "",
+        ),
+        Put("b.ctt", "Name: a"),
+        RunTo("inspect b.ctt --json", 2),
+        Output(Ends("\"status\":2}\n")),
+    ];
+    read(rt.alloc(), &steps)
 }
 
 /// Two of a teacher's three courses can meet only in the first period.
@@ -81,13 +79,6 @@ const LATE: &str =
 /// Two courses of a teacher, each in a curriculum with a third course.
 const TRIANGLE: &str =
     "Name: Triangle\nCourses: 3\nRooms: 3\nDays: 2\nPeriods_per_day: 1\nCurricula: 2\nConstraints: 0\n\nCOURSES:\na t 1 1 1\nb t 1 1 1\nc s 1 1 1\n\nROOMS:\nR 1\nS 1\nT 1\n\nCURRICULA:\nq 2 a c\nr 2 b c\n\nUNAVAILABILITY_CONSTRAINTS:\n\nEND.\n";
-
-/// Checks whether what `inspect` says of an instance has a line.
-fn has_line(alloc: Global, instance: &str, line: &str) -> Result<bool, Fail> {
-    let outcome = inspected(alloc, instance)?;
-    let (status, out, err) = outcome.answer();
-    Ok(status == 1 && err.is_empty() && out.contains(line))
-}
 
 #[test]
 fn shortages_in_words(rt: HostRuntime) -> Result<(), Fail> {
@@ -105,32 +96,55 @@ fn shortages_in_words(rt: HostRuntime) -> Result<(), Fail> {
             "can't be: no two of a, b and c can meet at the same time; they have 3 lectures, and together 2 periods, all of the week; they lack 1 period\n",
         ),
     ] {
-        assert!(rt; has_line(rt.alloc(), instance, line)?, "{line}");
+        let steps = [
+            Put("a.ctt", instance),
+            RunTo(INSPECT, 1),
+            Errors(Is("")),
+            Output(Has(line)),
+        ];
+        read(rt.alloc(), &steps)?;
     }
     Ok(())
 }
 
 #[test]
 fn letters_of_names(rt: HostRuntime) -> Result<(), Fail> {
-    for (name, shown) in [
-        ("Prüfung", "Prüfung"),
-        ("a\u{7}b", "a?b"),
-        ("a\u{85}b", "a?b"),
-        ("a\u{202E}b", "a?b"),
+    for (row, group, bar, line) in [
+        (
+            "\nPrüfung t1 2 3 10",
+            "q 1 Prüfung",
+            "\nPrüfung 0 0\n",
+            "costs 5 at least: course Prüfung wants 3 days, the week has 2\n",
+        ),
+        (
+            "\na\u{7}b t1 2 3 10",
+            "q 1 a\u{7}b",
+            "\na\u{7}b 0 0\n",
+            "costs 5 at least: course a?b wants 3 days, the week has 2\n",
+        ),
+        (
+            "\na\u{85}b t1 2 3 10",
+            "q 1 a\u{85}b",
+            "\na\u{85}b 0 0\n",
+            "costs 5 at least: course a?b wants 3 days, the week has 2\n",
+        ),
+        (
+            "\na\u{202E}b t1 2 3 10",
+            "q 1 a\u{202E}b",
+            "\na\u{202E}b 0 0\n",
+            "costs 5 at least: course a?b wants 3 days, the week has 2\n",
+        ),
     ] {
-        let row = format!(in rt.alloc(); "\n{name} t1 2 3 10")?;
-        let group = format!(in rt.alloc(); "q 1 {name}")?;
-        let bar = format!(in rt.alloc(); "\n{name} 0 0\n")?;
-        let line = format!(in rt.alloc();
-            "costs 5 at least: course {shown} wants 3 days, the week has 2\n"
-        )?;
-        let instance = edited(rt.alloc(), SOLO, "\na t1 2 3 10", row.as_str())?;
-        let instance = edited(rt.alloc(), instance.as_str(), "q 1 a", group.as_str())?;
-        let instance = edited(rt.alloc(), instance.as_str(), "\na 0 0\n", bar.as_str())?;
-        assert!(rt;
-            has_line(rt.alloc(), instance.as_str(), line.as_str())?,
-            "{line}"
-        );
+        let steps = [
+            Put("a.ctt", SOLO),
+            Edit("a.ctt", "\na t1 2 3 10", row),
+            Edit("a.ctt", "q 1 a", group),
+            Edit("a.ctt", "\na 0 0\n", bar),
+            RunTo(INSPECT, 1),
+            Errors(Is("")),
+            Output(Has(line)),
+        ];
+        read(rt.alloc(), &steps)?;
     }
     Ok(())
 }
@@ -145,18 +159,19 @@ const ROOMLESS: &str =
 
 #[test]
 fn one_thing_none_and_many(rt: HostRuntime) -> Result<(), Fail> {
-    let week = edited(rt.alloc(), MINI, "Days: 1", "Days: 3")?;
-    let lacking = edited(rt.alloc(), &week, "a t1 1 1 10", "a t1 2 3 10")?;
+    let lacking = [
+        Put("a.ctt", MINI),
+        Edit("a.ctt", "Days: 1", "Days: 3"),
+        Edit("a.ctt", "a t1 1 1 10", "a t1 2 3 10"),
+        RunTo(INSPECT, 0),
+        Output(Has("\ncosts 5 at least: course a wants 3 days and has 2 lectures\n")),
+    ];
+    read(rt.alloc(), &lacking)?;
     for (instance, status, line) in [
         (
             ROOMLESS,
             1,
             "1 day of 3 periods, 0 places in all rooms\n0 of 0 pairs of courses can't meet at the same time, 0 percent\nthere is no room\ncan't be: there is 1 lecture, the rooms have 0 places in the week\n",
-        ),
-        (
-            lacking.as_str(),
-            0,
-            "\ncosts 5 at least: course a wants 3 days and has 2 lectures\n",
         ),
         (
             TEN,
@@ -169,22 +184,29 @@ fn one_thing_none_and_many(rt: HostRuntime) -> Result<(), Fail> {
             "\nlook at: alike: \"t\", \"t+\"\nlook at: more teachers are alike\n",
         ),
     ] {
-        let outcome = inspected(rt.alloc(), instance)?;
-        let (found, out, _) = outcome.answer();
-        assert_eq!(rt; found, status, "{line}");
-        assert!(rt; out.contains(line), "{out}");
+        let steps = [
+            Put("a.ctt", instance),
+            RunTo(INSPECT, status),
+            Output(Has(line)),
+        ];
+        read(rt.alloc(), &steps)?;
     }
     Ok(())
 }
 
 #[test]
 fn nothing_to_look_at(rt: HostRuntime) -> Result<(), Fail> {
-    let instance = edited(rt.alloc(), MINI, "R 11", "R 12")?;
-    let outcome = inspected(rt.alloc(), &instance)?;
-    let lines =
-        "2 courses with 2 lectures, 2 teachers, 1 room, 1 curriculum\n1 day of 3 periods, 3 places in all rooms, 66 percent full\n1 of 1 pair of courses can't meet at the same time, 100 percent\nthe largest room has 12 seats, the largest course 12 students\nnothing to look at\n";
-    assert_eq!(rt; outcome.answer(), (0, lines, ""));
-    Ok(())
+    let steps = [
+        Put("a.ctt", MINI),
+        Edit("a.ctt", "R 11", "R 12"),
+        Run(
+            INSPECT,
+            0,
+            "2 courses with 2 lectures, 2 teachers, 1 room, 1 curriculum\n1 day of 3 periods, 3 places in all rooms, 66 percent full\n1 of 1 pair of courses can't meet at the same time, 100 percent\nthe largest room has 12 seats, the largest course 12 students\nnothing to look at\n",
+            "",
+        ),
+    ];
+    read(rt.alloc(), &steps)
 }
 
 #[test]
@@ -221,52 +243,58 @@ fn faults_of_counts_and_headers_in_words(rt: HostRuntime) -> Result<(), Fail> {
             "instance: Expected Name: at byte 0\nline 1, column 1: ?Name: is there, Name: was expected\n  ?Name: Mini\n  ^\nlikely: the file begins with a byte order mark; save it as UTF-8 without one\n",
         ),
     ] {
-        let instance = edited(rt.alloc(), MINI, old, new)?;
-        let outcome = inspected(rt.alloc(), &instance)?;
-        assert_eq!(rt; outcome.answer(), (2, lines, ""));
+        let steps = [
+            Put("a.ctt", MINI),
+            Edit("a.ctt", old, new),
+            Run(INSPECT, 2, lines, ""),
+        ];
+        read(rt.alloc(), &steps)?;
     }
     Ok(())
 }
 
-/// The limits that `inspect` gives.
+/// The line with the limits that `inspect` gives.
 const LIMITS: &str =
-    "at most 2048 courses, 512 rooms, 8192 curricula of 4096 courses, 64 days, 64 periods a day and 512 a week, 67108864 courses times rooms times periods, 65536 unavailabilities, 4096 lectures, 512 days of a course, 1000000 students or seats";
+    "likely: at most 2048 courses, 512 rooms, 8192 curricula of 4096 courses, 64 days, 64 periods a day and 512 a week, 67108864 courses times rooms times periods, 65536 unavailabilities, 4096 lectures, 512 days of a course, 1000000 students or seats\n";
 
 #[test]
 fn likely_reasons(rt: HostRuntime) -> Result<(), Fail> {
-    for (old, new, reason) in [
+    for (old, new, end) in [
         (
             "Days: 1",
             "Days: 0",
-            "a week has at least one day, and a day at least one period",
+            "likely: a week has at least one day, and a day at least one period\n",
         ),
         (
             "Periods_per_day: 3",
             "Periods_per_day: 0",
-            "a week has at least one day, and a day at least one period",
+            "likely: a week has at least one day, and a day at least one period\n",
         ),
         ("Days: 1", "Days: 65", LIMITS),
         ("a t1 1 1 10", "a t1 1 513 10", LIMITS),
         (
             "Constraints: 0",
             "UnavailabilityConstraints: 0\nRoomConstraints: 0",
-            "the file is in the extended format; examples/ectt_to_ctt.py makes an instance of it",
+            "likely: the file is in the extended format; examples/ectt_to_ctt.py makes an instance of it\n",
         ),
         (
             "Courses: 2\nRooms: 1\n",
             "Rooms: 1\nCourses: 2\n",
-            "a line is missing, or the lines are in another order",
+            "likely: a line is missing, or the lines are in another order\n",
         ),
         (
             "CURRICULA:\nq 2 a b\n\nUNAVAILABILITY_CONSTRAINTS:\n",
             "CURRICULA:\nq 2\na b\n\nUNAVAILABILITY_CONSTRAINTS:\na 1 0\n",
-            "the header says Constraints: 0, and 1 line follows UNAVAILABILITY_CONSTRAINTS:",
+            "likely: the header says Constraints: 0, and 1 line follows UNAVAILABILITY_CONSTRAINTS:\n",
         ),
     ] {
-        let instance = edited(rt.alloc(), MINI, old, new)?;
-        let outcome = inspected(rt.alloc(), &instance)?;
-        let end = format!(in rt.alloc(); "likely: {reason}\n")?;
-        assert!(rt; outcome.answer().1.ends_with(end.as_str()), "{new}");
+        let steps = [
+            Put("a.ctt", MINI),
+            Edit("a.ctt", old, new),
+            RunTo(INSPECT, 2),
+            Output(Ends(end)),
+        ];
+        read(rt.alloc(), &steps)?;
     }
     Ok(())
 }
@@ -274,20 +302,26 @@ fn likely_reasons(rt: HostRuntime) -> Result<(), Fail> {
 #[test]
 fn files_of_other_kinds(rt: HostRuntime) -> Result<(), Fail> {
     for solution in ["a R 0 0\nb R 0 1\n", "a R 0 0 b R 0 1\n"] {
-        let outcome = inspected(rt.alloc(), solution)?;
-        let end = "likely: this is a solution; the instance comes before it\n";
-        assert!(rt; outcome.answer().1.ends_with(end), "{solution}");
+        let steps = [
+            Put("a.ctt", solution),
+            RunTo(INSPECT, 2),
+            Output(Ends("likely: this is a solution; the instance comes before it\n")),
+        ];
+        read(rt.alloc(), &steps)?;
     }
-    // The word that ends a file is there, but as the name of a teacher.
-    let instance = edited(rt.alloc(), MINI, "\nEND.\n", "")?;
-    let instance = edited(rt.alloc(), &instance, "a t1", "a END.")?;
-    let outcome = inspected(rt.alloc(), &instance)?;
-    assert!(rt;
-        outcome
-            .answer()
-            .1
-            .ends_with("likely: the end of the file is missing\n")
-    );
+    let steps = [
+        Put("a.ctt", MINI),
+        // The word that ends a file is there, but as the name of a teacher.
+        Edit("a.ctt", "\nEND.\n", ""),
+        Edit("a.ctt", "a t1", "a END."),
+        RunTo(INSPECT, 2),
+        Output(Ends("likely: the end of the file is missing\n")),
+    ];
+    read(rt.alloc(), &steps)
+}
+
+#[test]
+fn a_file_in_another_encoding(rt: HostRuntime) -> Result<(), Fail> {
     let files = [StoredFile::new("a.ctt", b"\xFF\xFEN\x00a\x00".as_slice())];
     let outcome = run_with(rt.alloc(), &["inspect", "a.ctt"], &files)?;
     assert!(rt;
@@ -325,22 +359,24 @@ fn layouts_that_are_not_blamed(rt: HostRuntime) -> Result<(), Fail> {
             "likely: line 18 has 3 words; a curriculum has its name, how many courses it has, and their names; no name has a space\n",
         ),
     ] {
-        let instance = edited(rt.alloc(), LINES, old, new)?;
-        let outcome = inspected(rt.alloc(), &instance)?;
-        assert!(rt; outcome.answer().1.ends_with(end), "{new}");
+        let steps = [
+            Put("a.ctt", LINES),
+            Edit("a.ctt", old, new),
+            RunTo(INSPECT, 2),
+            Output(Ends(end)),
+        ];
+        read(rt.alloc(), &steps)?;
     }
     // On one line, as a reader takes it.
-    let instance = edited(rt.alloc(), LINES, "a 0 1", "a 1 0")?;
-    let line = instance.as_str().replace(rt.alloc(), "\n", " ")?;
-    let outcome = inspected(rt.alloc(), &line)?;
-    assert!(rt;
-        outcome
-            .answer()
-            .1
-            .contains(", a smaller number was expected\n")
-    );
-    assert!(rt; outcome.answer().1.ends_with(from_0));
-    Ok(())
+    let line = LINES.replace(rt.alloc(), "\n", " ")?;
+    let steps = [
+        Put("a.ctt", line.as_str()),
+        Edit("a.ctt", "a 0 1", "a 1 0"),
+        RunTo(INSPECT, 2),
+        Output(Has(", a smaller number was expected\n")),
+        Output(Ends(from_0)),
+    ];
+    read(rt.alloc(), &steps)
 }
 
 #[test]
@@ -355,8 +391,13 @@ fn layouts_of_solutions(rt: HostRuntime) -> Result<(), Fail> {
             "likely: line 1 has 2 words; a lecture has 4: course, room, day, period; no name has a space\n",
         ),
     ] {
-        let outcome = mini_inspected(rt.alloc(), solution)?;
-        assert!(rt; outcome.answer().1.ends_with(end), "{solution}");
+        let steps = [
+            Put("a.ctt", MINI),
+            Put("a.sol", solution),
+            RunTo(INSPECT_BOTH, 2),
+            Output(Ends(end)),
+        ];
+        read(rt.alloc(), &steps)?;
     }
     Ok(())
 }
@@ -390,60 +431,73 @@ fn faults_of_names_and_numbers_in_words(rt: HostRuntime) -> Result<(), Fail> {
             "instance: NotANumber at byte 108\nline 10, column 13: t1 is there, a number was expected\n  art history t1 1 1 10\n              ^\nlikely: line 10 has 6 words; a course has 5: name, teacher, lectures, days, students; no name has a space\n",
         ),
     ] {
-        let instance = edited(rt.alloc(), MINI, old, new)?;
-        let outcome = inspected(rt.alloc(), &instance)?;
-        assert_eq!(rt; outcome.answer(), (2, lines, ""));
+        let steps = [
+            Put("a.ctt", MINI),
+            Edit("a.ctt", old, new),
+            Run(INSPECT, 2, lines, ""),
+        ];
+        read(rt.alloc(), &steps)?;
     }
     Ok(())
 }
 
 #[test]
 fn solutions_in_words(rt: HostRuntime) -> Result<(), Fail> {
-    for (solution, status, added) in [
+    for (solution, status, lines) in [
         (
             "a R 0 0\nb R 0 1\n",
             0,
-            "the solution has 2 lectures\nno hard rule is broken\ncost 1: 1 for students without a seat, 0 for days that courses lack, 0 for lectures of a curriculum that are alone, 0 for changes of room\n",
+            "2 courses with 2 lectures, 2 teachers, 1 room, 1 curriculum\n1 day of 3 periods, 3 places in all rooms, 66 percent full\n1 of 1 pair of courses can't meet at the same time, 100 percent\nthe largest room has 11 seats, the largest course 12 students; 1 lecture has no room that is large enough\ncosts 1 at least: course b has 12 students, the largest room 11 seats\nthe solution has 2 lectures\nno hard rule is broken\ncost 1: 1 for students without a seat, 0 for days that courses lack, 0 for lectures of a curriculum that are alone, 0 for changes of room\n",
         ),
         (
             "a R 0 0\n",
             1,
-            "the solution has 1 lecture\nbroken 1 time: each course has its lectures, in periods of their own (lectures)\ncost 7: 0 for students without a seat, 5 for days that courses lack, 2 for lectures of a curriculum that are alone, 0 for changes of room\ncourse b: 0 of 1 lecture\n",
+            "2 courses with 2 lectures, 2 teachers, 1 room, 1 curriculum\n1 day of 3 periods, 3 places in all rooms, 66 percent full\n1 of 1 pair of courses can't meet at the same time, 100 percent\nthe largest room has 11 seats, the largest course 12 students; 1 lecture has no room that is large enough\ncosts 1 at least: course b has 12 students, the largest room 11 seats\nthe solution has 1 lecture\nbroken 1 time: each course has its lectures, in periods of their own (lectures)\ncost 7: 0 for students without a seat, 5 for days that courses lack, 2 for lectures of a curriculum that are alone, 0 for changes of room\ncourse b: 0 of 1 lecture\n",
         ),
     ] {
-        let outcome = mini_inspected(rt.alloc(), solution)?;
-        let lines = format!(in rt.alloc(); "{MINI_LINES}{added}")?;
-        assert_eq!(rt; outcome.answer(), (status, lines.as_str(), ""));
+        let steps = [
+            Put("a.ctt", MINI),
+            Put("a.sol", solution),
+            Run(INSPECT_BOTH, status, lines, ""),
+        ];
+        read(rt.alloc(), &steps)?;
     }
     Ok(())
 }
 
+/// Solutions of Mini that are wrong, and what is said of them.
+const WRONG_SOLUTIONS: [(&str, &str); 5] = [
+    (
+        "a R 0 0\nb S 0 1\n",
+        "solution: UnknownRoom at byte 10\nline 2, column 3: S is there, the name of a room was expected\n  b S 0 1\n    ^\nlikely: the name is spelled otherwise in the instance, where capital letters count\n",
+    ),
+    (
+        "a R 0",
+        "solution: Ended at byte 5\nline 1, column 6: the file ends there, more was expected\n  a R 0\n       ^\nlikely: line 1 has 3 words; a lecture has 4: course, room, day, period; no name has a space\n",
+    ),
+    (
+        "c R 0 0",
+        "solution: UnknownCourse at byte 0\nline 1, column 1: c is there, the name of a course was expected\n  c R 0 0\n  ^\nlikely: the name is spelled otherwise in the instance, where capital letters count\n",
+    ),
+    (
+        "a R x 0",
+        "solution: NotANumber at byte 4\nline 1, column 5: x is there, a number was expected\n  a R x 0\n      ^\nlikely: a number has digits alone\n",
+    ),
+    (
+        "a R 1 0",
+        "solution: OutOfRange at byte 4\nline 1, column 5: 1 is there, a smaller number was expected\n  a R 1 0\n      ^\nlikely: days and periods count from 0, so the last is one less than the instance says\n",
+    ),
+];
+
 #[test]
 fn faults_of_solutions_in_words(rt: HostRuntime) -> Result<(), Fail> {
-    for (solution, lines) in [
-        (
-            "a R 0 0\nb S 0 1\n",
-            "solution: UnknownRoom at byte 10\nline 2, column 3: S is there, the name of a room was expected\n  b S 0 1\n    ^\nlikely: the name is spelled otherwise in the instance, where capital letters count\n",
-        ),
-        (
-            "a R 0",
-            "solution: Ended at byte 5\nline 1, column 6: the file ends there, more was expected\n  a R 0\n       ^\nlikely: line 1 has 3 words; a lecture has 4: course, room, day, period; no name has a space\n",
-        ),
-        (
-            "c R 0 0",
-            "solution: UnknownCourse at byte 0\nline 1, column 1: c is there, the name of a course was expected\n  c R 0 0\n  ^\nlikely: the name is spelled otherwise in the instance, where capital letters count\n",
-        ),
-        (
-            "a R x 0",
-            "solution: NotANumber at byte 4\nline 1, column 5: x is there, a number was expected\n  a R x 0\n      ^\nlikely: a number has digits alone\n",
-        ),
-        (
-            "a R 1 0",
-            "solution: OutOfRange at byte 4\nline 1, column 5: 1 is there, a smaller number was expected\n  a R 1 0\n      ^\nlikely: days and periods count from 0, so the last is one less than the instance says\n",
-        ),
-    ] {
-        let outcome = mini_inspected(rt.alloc(), solution)?;
-        assert_eq!(rt; outcome.answer(), (2, lines, ""));
+    for (solution, lines) in WRONG_SOLUTIONS {
+        let steps = [
+            Put("a.ctt", MINI),
+            Put("a.sol", solution),
+            Run(INSPECT_BOTH, 2, lines, ""),
+        ];
+        read(rt.alloc(), &steps)?;
     }
     let many = repeated(rt.alloc(), "a R 0 0\n", 16_385)?;
     for (solution, end) in [
@@ -453,29 +507,35 @@ fn faults_of_solutions_in_words(rt: HostRuntime) -> Result<(), Fail> {
             "likely: this is an instance; the solution comes after it\n",
         ),
     ] {
-        let outcome = mini_inspected(rt.alloc(), solution)?;
-        assert!(rt; outcome.answer().1.ends_with(end), "{end}");
+        let steps = [
+            Put("a.ctt", MINI),
+            Put("a.sol", solution),
+            RunTo(INSPECT_BOTH, 2),
+            Output(Ends(end)),
+        ];
+        read(rt.alloc(), &steps)?;
     }
     Ok(())
 }
 
 #[test]
 fn files_that_cannot_be_read(rt: HostRuntime) -> Result<(), Fail> {
-    let files = [StoredFile::new("a.ctt", MINI.as_bytes())];
-    for (words, refused) in [
-        (
-            ["inspect", "b.ctt", "a.sol"],
+    let steps = [
+        Put("a.ctt", MINI),
+        Run(
+            "inspect b.ctt a.sol",
+            2,
+            "",
             "refused: instance: cannot read: b.ctt: entity not found\n",
         ),
-        (
-            ["inspect", "a.ctt", "a.sol"],
+        Run(
+            "inspect a.ctt a.sol",
+            2,
+            "",
             "refused: solution: cannot read: a.sol: entity not found\n",
         ),
-    ] {
-        let outcome = run_with(rt.alloc(), &words, &files)?;
-        assert_eq!(rt; outcome.answer(), (2, "", refused));
-    }
-    Ok(())
+    ];
+    read(rt.alloc(), &steps)
 }
 
 /// Five courses; one teacher is typed in three ways.
@@ -484,21 +544,16 @@ const TYPED: &str =
 
 #[test]
 fn teachers_typed_in_two_ways(rt: HostRuntime) -> Result<(), Fail> {
-    let alloc = rt.alloc();
-    let outcome = inspected(alloc, TYPED)?;
-    assert!(rt;
-        outcome.out.as_str().ends_with(
-            "look at: alike: \"Prof._Curie\", \"Prof_Curie\"\nlook at: alike: \"Prof._Curie\", \"prof-curie\"\n"
-        )
-    );
-    // Names that differ in letters beyond ASCII are different.
-    let others = edited(alloc, TYPED, "Prof._Curie", "Źak")?;
-    let outcome = inspected(alloc, &others)?;
-    assert!(rt;
-        outcome
-            .out
-            .as_str()
-            .ends_with("look at: alike: \"Prof_Curie\", \"prof-curie\"\n")
-    );
-    Ok(())
+    let steps = [
+        Put("a.ctt", TYPED),
+        RunTo(INSPECT, 0),
+        Output(Ends(
+            "look at: alike: \"Prof._Curie\", \"Prof_Curie\"\nlook at: alike: \"Prof._Curie\", \"prof-curie\"\n",
+        )),
+        // Names that differ in letters beyond ASCII are different.
+        Edit("a.ctt", "Prof._Curie", "Źak"),
+        RunTo(INSPECT, 0),
+        Output(Ends("look at: alike: \"Prof_Curie\", \"prof-curie\"\n")),
+    ];
+    read(rt.alloc(), &steps)
 }
