@@ -6,8 +6,10 @@ use std::io::ErrorKind;
 use std::test::Fail;
 use tt_app::{AppFault, report};
 use tt_report::By;
-use tt_testing_files::StoredFile;
-use tt_testing_runs::{Outcome, run_with};
+use tt_testing_files::{Refusal, StoredFile};
+use tt_testing_runs::Step::{Errors, Output, Put, Run, RunTo};
+use tt_testing_runs::Text::{Filled, Is};
+use tt_testing_runs::{Outcome, play_refusing, run_with};
 use tt_testing_samples::{MINI, edited};
 use tt_text::{Sink, Writing};
 
@@ -16,36 +18,48 @@ const SOLUTION: &str = "a R 0 0 b R 0 1";
 
 const BY_ROOM: &str = "room R\n0 0 a\n0 1 b\n0 2\n";
 
-fn reported(alloc: Global, instance: &str, by: &str) -> Result<Outcome, Fail> {
+#[test]
+fn weeks_of_each_kind(rt: HostRuntime) -> Result<(), Fail> {
+    for (line, out) in [
+        ("report a.ctt a.sol --by room", BY_ROOM),
+        (
+            "report a.ctt a.sol --by teacher",
+            "teacher t1\n0 0 a R\n0 1\n0 2\nteacher t2\n0 0\n0 1 b R\n0 2\n",
+        ),
+        (
+            "report a.ctt a.sol --by curriculum",
+            "curriculum q\n0 0 a R\n0 1 b R\n0 2\n",
+        ),
+    ] {
+        let steps = [
+            Put("a.ctt", MINI),
+            Put("a.sol", SOLUTION),
+            Run(line, 0, out, ""),
+        ];
+        play_refusing(rt.alloc(), Refusal::NewFiles, &steps)?;
+    }
+    Ok(())
+}
+
+/// Returns the outcome of `report` by teachers for Mini, whose first course has another teacher.
+fn reported(alloc: Global, teacher: &str) -> Result<Outcome, Fail> {
+    let words = format!(in alloc; "a {teacher} ")?;
+    let instance = edited(alloc, MINI, "a t1 ", &words)?;
     let files = [
         StoredFile::new("a.ctt", instance.as_bytes()),
         StoredFile::new("a.sol", SOLUTION.as_bytes()),
     ];
-    run_with(alloc, &["report", "a.ctt", "a.sol", "--by", by], &files)
-}
-
-#[test]
-fn weeks_of_each_kind(rt: HostRuntime) -> Result<(), Fail> {
-    for (by, out) in [
-        ("room", BY_ROOM),
-        (
-            "teacher",
-            "teacher t1\n0 0 a R\n0 1\n0 2\nteacher t2\n0 0\n0 1 b R\n0 2\n",
-        ),
-        ("curriculum", "curriculum q\n0 0 a R\n0 1 b R\n0 2\n"),
-    ] {
-        let outcome = reported(rt.alloc(), MINI, by)?;
-        assert_eq!(rt; outcome.answer(), (0, out, ""), "by {by}");
-    }
-    Ok(())
+    run_with(
+        alloc,
+        &["report", "a.ctt", "a.sol", "--by", "teacher"],
+        &files,
+    )
 }
 
 #[test]
 fn names_that_would_control_a_terminal(rt: HostRuntime) -> Result<(), Fail> {
     for name in ["R\u{1b}]0;x\u{7}", "R\u{9b}2J", "R\u{7f}"] {
-        let teacher = format!(in rt.alloc(); "a {name} ")?;
-        let instance = edited(rt.alloc(), MINI, "a t1 ", &teacher)?;
-        let outcome = reported(rt.alloc(), &instance, "teacher")?;
+        let outcome = reported(rt.alloc(), name)?;
         let out = outcome.out.as_str();
         assert!(rt; out.starts_with("teacher R?"), "{out}");
         assert!(rt;
@@ -58,15 +72,15 @@ fn names_that_would_control_a_terminal(rt: HostRuntime) -> Result<(), Fail> {
 
 #[test]
 fn kinds_that_are_none(rt: HostRuntime) -> Result<(), Fail> {
-    for words in [
-        ["report", "a.ctt", "a.sol", "--by", "Room"].as_slice(),
-        ["report", "a.ctt", "a.sol"].as_slice(),
-    ] {
-        let outcome = run_with(rt.alloc(), words, &[])?;
-        assert_eq!(rt; (outcome.status, outcome.out.as_str()), (2, ""));
-        assert!(rt; !outcome.err.is_empty());
-    }
-    Ok(())
+    let steps = [
+        RunTo("report a.ctt a.sol --by Room", 2),
+        Output(Is("")),
+        Errors(Filled),
+        RunTo("report a.ctt a.sol", 2),
+        Output(Is("")),
+        Errors(Filled),
+    ];
+    play_refusing(rt.alloc(), Refusal::NewFiles, &steps)
 }
 
 /// Returns the result of `report` by rooms over a writer, and whether the sink had failed by then.
