@@ -2,8 +2,10 @@
 
 use std::test::Fail;
 use tt_app::{AppFault, check};
-use tt_testing_runs::{checked, run_with};
-use tt_testing_samples::{MINI, WIDE, WIDE_SOLUTION, edited};
+use tt_testing_files::Refusal;
+use tt_testing_runs::Step::{Edit, Put, Run};
+use tt_testing_runs::{play_check, play_refusing, run_with};
+use tt_testing_samples::{MINI, WIDE, WIDE_SOLUTION};
 use tt_text::{Pieces, Source};
 
 const WIDE_PROOF: &str = "CTTP 1 bound 5 B D c0 ; end";
@@ -39,8 +41,7 @@ fn bounds_of_working_days(rt: HostRuntime) -> Result<(), Fail> {
             "refused: proof: NoBound at node 0\n",
         ),
     ] {
-        let outcome = checked(rt.alloc(), WIDE, WIDE_SOLUTION, proof)?;
-        assert_eq!(rt; outcome.answer(), (status, out, err), "with {proof}");
+        play_check(rt.alloc(), WIDE, WIDE_SOLUTION, proof, (status, out, err))?;
     }
     Ok(())
 }
@@ -52,18 +53,21 @@ fn broken_hard_rules(rt: HostRuntime) -> Result<(), Fail> {
         (MINI, "no proof", "broken hard 2 cost 10\n"),
         (WIDE, WIDE_PROOF, "broken hard 2 cost 15\n"),
     ] {
-        let outcome = checked(rt.alloc(), instance, "", proof)?;
-        assert_eq!(rt; outcome.answer(), (1, out, ""));
+        play_check(rt.alloc(), instance, "", proof, (1, out, ""))?;
     }
     Ok(())
 }
 
 #[test]
 fn nothing_is_read_after_the_end(rt: HostRuntime) -> Result<(), Fail> {
-    let longer = edited(rt.alloc(), WIDE, "END.\n", "END.\nx y\n")?;
-    let outcome = checked(rt.alloc(), &longer, WIDE_SOLUTION, "CTTP 1 bound 0 B ; end")?;
-    assert_eq!(rt; outcome.answer(), (0, "yes cost 5 bound 0\n", ""));
-    Ok(())
+    let steps = [
+        Put("a.ctt", WIDE),
+        Edit("a.ctt", "END.\n", "END.\nx y\n"),
+        Put("a.sol", WIDE_SOLUTION),
+        Put("a.proof", "CTTP 1 bound 0 B ; end"),
+        Run("check a.ctt a.sol a.proof", 0, "yes cost 5 bound 0\n", ""),
+    ];
+    play_refusing(rt.alloc(), Refusal::NewFiles, &steps)
 }
 
 #[test]

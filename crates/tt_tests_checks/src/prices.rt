@@ -1,6 +1,7 @@
 //! Sums with files of groups with prices, compared with what was computed by hand.
 
-use crate::sums::summed;
+use crate::sums::{sum_gives, sum_refuses};
+use std::alloc::Global;
 use std::test::Fail;
 use tt_testing_samples::{GAP, edited};
 
@@ -38,8 +39,7 @@ fn bounds_that_hold(rt: HostRuntime) -> Result<(), Fail> {
         ([ALONE, SEATS].as_slice(), "bound 5\n"),
         ([SEATS, ALONE, BOTH_DAYS].as_slice(), "bound 5\n"),
     ] {
-        let outcome = summed(rt.alloc(), GAP, "", proofs)?;
-        assert_eq!(rt; outcome.answer(), (0, out, ""), "with {proofs:?}");
+        sum_gives(rt.alloc(), GAP, "", proofs, (0, out, ""))?;
     }
     Ok(())
 }
@@ -53,44 +53,52 @@ fn bounds_that_are_one_too_high(rt: HostRuntime) -> Result<(), Fail> {
         (RENTED, "bound 5", "bound 6"),
     ] {
         let proof = edited(rt.alloc(), proof, bound, higher)?;
-        let outcome = summed(rt.alloc(), GAP, "", &[proof.as_str()])?;
-        assert_eq!(rt;
-            outcome.answer(),
-            (2, "", "refused: proof 1: TooCheap\n"),
-            "with {proof}"
-        );
+        sum_refuses(rt.alloc(), GAP, &[proof.as_str()], "proof 1: TooCheap")?;
     }
     Ok(())
 }
 
 #[test]
 fn a_timetable_that_is_best(rt: HostRuntime) -> Result<(), Fail> {
-    let outcome = summed(rt.alloc(), GAP, "a R 0 0\nb R 0 2\n", &[ALL])?;
-    assert_eq!(rt; outcome.answer(), (0, "yes cost 5 bound 5 optimal\n", ""));
-    Ok(())
+    let answer = (0, "yes cost 5 bound 5 optimal\n", "");
+    sum_gives(rt.alloc(), GAP, "a R 0 0\nb R 0 2\n", &[ALL], answer)
 }
 
 #[test]
 fn targets_that_are_claimed_elsewhere(rt: HostRuntime) -> Result<(), Fail> {
     for (proofs, fault) in [
-        ([ALL, SEATS], "node 0"),
-        ([SEATS, ALL], "rooms"),
-        ([GROUP, ALONE], "q0"),
-        ([ALONE, GROUP], "group 0"),
-        ([DAYS, BOTH_DAYS], "c0"),
-        ([ALL, RENTED], "q0"),
+        (
+            [ALL, SEATS],
+            "proof 2: ClaimedElsewhere at node 0, by proof 1",
+        ),
+        (
+            [SEATS, ALL],
+            "proof 2: ClaimedElsewhere at rooms, by proof 1",
+        ),
+        (
+            [GROUP, ALONE],
+            "proof 2: ClaimedElsewhere at q0, by proof 1",
+        ),
+        (
+            [ALONE, GROUP],
+            "proof 2: ClaimedElsewhere at group 0, by proof 1",
+        ),
+        (
+            [DAYS, BOTH_DAYS],
+            "proof 2: ClaimedElsewhere at c0, by proof 1",
+        ),
+        ([ALL, RENTED], "proof 2: ClaimedElsewhere at q0, by proof 1"),
     ] {
-        let outcome = summed(rt.alloc(), GAP, "", &proofs)?;
-        let refused = format!(in rt.alloc();
-            "refused: proof 2: ClaimedElsewhere at {fault}, by proof 1\n"
-        )?;
-        assert_eq!(rt;
-            outcome.answer(),
-            (2, "", refused.as_str()),
-            "with {proofs:?}"
-        );
+        sum_refuses(rt.alloc(), GAP, &proofs, fault)?;
     }
     Ok(())
+}
+
+/// Expects that `sum` refuses a file of these parts with this error.
+fn refuse_parts(alloc: Global, instance: &str, parts: &str, fault: &str) -> Result<(), Fail> {
+    let proof = format!(in alloc; "CTTG 2 bound 0 scale 1 {parts} end")?;
+    let refused = format!(in alloc; "proof 1: {fault}")?;
+    sum_refuses(alloc, instance, &[proof.as_str()], refused.as_str())
 }
 
 #[test]
@@ -125,10 +133,7 @@ fn files_that_are_wrong(rt: HostRuntime) -> Result<(), Fail> {
         ),
         (barren.as_str(), "periods", "TooFewPlaces at course 0"),
     ] {
-        let proof = format!(in rt.alloc(); "CTTG 2 bound 0 scale 1 {parts} end")?;
-        let outcome = summed(rt.alloc(), instance, "", &[proof.as_str()])?;
-        let refused = format!(in rt.alloc(); "refused: proof 1: {fault}\n")?;
-        assert_eq!(rt; outcome.answer(), (2, "", refused.as_str()), "with {proof}");
+        refuse_parts(rt.alloc(), instance, parts, fault)?;
     }
     Ok(())
 }

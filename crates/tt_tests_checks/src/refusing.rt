@@ -1,8 +1,11 @@
 //! Refusals: the first error, on standard error, with status 2.
 
+use std::alloc::Global;
 use std::test::Fail;
-use tt_testing_runs::{checked, validated};
-use tt_testing_samples::{MINI, WIDE, WIDE_SOLUTION, edited};
+use tt_testing_files::Refusal;
+use tt_testing_runs::Step::{Edit, Put, Run};
+use tt_testing_runs::{play_check, play_refusing, play_validate};
+use tt_testing_samples::{MINI, WIDE, WIDE_SOLUTION};
 
 /// Mini with other words in one place, and the reason why it is refused.
 const INSTANCES: [(&str, &str, &str); 15] = [
@@ -49,60 +52,87 @@ const INSTANCES: [(&str, &str, &str); 15] = [
     ("END.\n", "", "Ended at byte 183"),
 ];
 
+/// Expects that Mini with other words in one place is refused with this error.
+fn refuse_instance(alloc: Global, old: &str, new: &str, fault: &str) -> Result<(), Fail> {
+    let refused = format!(in alloc; "refused: instance: {fault}\n")?;
+    let steps = [
+        Put("a.ctt", MINI),
+        Edit("a.ctt", old, new),
+        Put("a.sol", ""),
+        Run("validate a.ctt a.sol", 2, "", refused.as_str()),
+    ];
+    play_refusing(alloc, Refusal::NewFiles, &steps)
+}
+
 #[test]
 fn instances(rt: HostRuntime) -> Result<(), Fail> {
     for (old, new, fault) in INSTANCES {
-        let instance = edited(rt.alloc(), MINI, old, new)?;
-        let outcome = validated(rt.alloc(), &instance, "")?;
-        let refused = format!(in rt.alloc(); "refused: instance: {fault}\n")?;
-        assert_eq!(rt; outcome.answer(), (2, "", refused.as_str()), "with {new}");
+        refuse_instance(rt.alloc(), old, new, fault)?;
     }
     Ok(())
 }
 
 #[test]
 fn periods_of_unavailabilities(rt: HostRuntime) -> Result<(), Fail> {
-    let instance = edited(rt.alloc(), MINI, "Constraints: 0", "Constraints: 1")?;
-    for (line, fault) in [
-        ("a 0 3", "OutOfRange at byte 186"),
-        ("a 1 0", "OutOfRange at byte 184"),
-        ("a 99999999999999999999999 0", "OutOfRange at byte 184"),
-        ("z 0 0", "UnknownCourse at byte 182"),
-        ("a x 0", "NotANumber at byte 184"),
+    for (words, refused) in [
+        (
+            "UNAVAILABILITY_CONSTRAINTS:\na 0 3\n",
+            "refused: instance: OutOfRange at byte 186\n",
+        ),
+        (
+            "UNAVAILABILITY_CONSTRAINTS:\na 1 0\n",
+            "refused: instance: OutOfRange at byte 184\n",
+        ),
+        (
+            "UNAVAILABILITY_CONSTRAINTS:\na 99999999999999999999999 0\n",
+            "refused: instance: OutOfRange at byte 184\n",
+        ),
+        (
+            "UNAVAILABILITY_CONSTRAINTS:\nz 0 0\n",
+            "refused: instance: UnknownCourse at byte 182\n",
+        ),
+        (
+            "UNAVAILABILITY_CONSTRAINTS:\na x 0\n",
+            "refused: instance: NotANumber at byte 184\n",
+        ),
     ] {
-        let words = format!(in rt.alloc(); "UNAVAILABILITY_CONSTRAINTS:\n{line}\n")?;
-        let instance = edited(
-            rt.alloc(),
-            &instance,
-            "UNAVAILABILITY_CONSTRAINTS:\n",
-            &words,
-        )?;
-        let outcome = validated(rt.alloc(), &instance, "")?;
-        let refused = format!(in rt.alloc(); "refused: instance: {fault}\n")?;
-        assert_eq!(rt; outcome.answer(), (2, "", refused.as_str()), "with {line}");
+        let steps = [
+            Put("a.ctt", MINI),
+            Edit("a.ctt", "Constraints: 0", "Constraints: 1"),
+            Edit("a.ctt", "UNAVAILABILITY_CONSTRAINTS:\n", words),
+            Put("a.sol", ""),
+            Run("validate a.ctt a.sol", 2, "", refused),
+        ];
+        play_refusing(rt.alloc(), Refusal::NewFiles, &steps)?;
     }
     Ok(())
 }
 
 #[test]
 fn solutions(rt: HostRuntime) -> Result<(), Fail> {
-    for (solution, fault) in [
-        ("c R 0 0", "UnknownCourse at byte 0"),
-        ("a S 0 0", "UnknownRoom at byte 2"),
-        ("a R x 0", "NotANumber at byte 4"),
-        ("a R 1 0", "OutOfRange at byte 4"),
-        ("a R 0 3", "OutOfRange at byte 6"),
-        ("a R 0 18446744073709551616", "OutOfRange at byte 6"),
-        ("a R 0 -1", "NotANumber at byte 6"),
-        ("a R 0 0 b R", "Ended at byte 11"),
-        ("a R 0 0 b R \n", "Ended at byte 13"),
+    for (solution, refused) in [
+        ("c R 0 0", "refused: solution: UnknownCourse at byte 0\n"),
+        ("a S 0 0", "refused: solution: UnknownRoom at byte 2\n"),
+        ("a R x 0", "refused: solution: NotANumber at byte 4\n"),
+        ("a R 1 0", "refused: solution: OutOfRange at byte 4\n"),
+        ("a R 0 3", "refused: solution: OutOfRange at byte 6\n"),
+        (
+            "a R 0 18446744073709551616",
+            "refused: solution: OutOfRange at byte 6\n",
+        ),
+        ("a R 0 -1", "refused: solution: NotANumber at byte 6\n"),
+        ("a R 0 0 b R", "refused: solution: Ended at byte 11\n"),
+        ("a R 0 0 b R \n", "refused: solution: Ended at byte 13\n"),
     ] {
-        let refused = format!(in rt.alloc(); "refused: solution: {fault}\n")?;
-        let reported = (2, "", refused.as_str());
-        let outcome = validated(rt.alloc(), MINI, solution)?;
-        assert_eq!(rt; outcome.answer(), reported, "with {solution}");
-        let outcome = checked(rt.alloc(), MINI, solution, "CTTP 1 bound 0 B ; end")?;
-        assert_eq!(rt; outcome.answer(), reported, "with {solution}");
+        let reported = (2, "", refused);
+        play_validate(rt.alloc(), MINI, solution, reported)?;
+        play_check(
+            rt.alloc(),
+            MINI,
+            solution,
+            "CTTP 1 bound 0 B ; end",
+            reported,
+        )?;
     }
     Ok(())
 }
@@ -131,41 +161,53 @@ pub const PROOFS: [(&str, &str); 14] = [
     ),
 ];
 
+/// Expects that a proof for Mini with a solution that breaks no hard rule is refused with this error.
+fn refuse_proof(alloc: Global, proof: &str, fault: &str) -> Result<(), Fail> {
+    let refused = format!(in alloc; "refused: proof: {fault}\n")?;
+    play_check(
+        alloc,
+        MINI,
+        "a R 0 0 b R 0 1",
+        proof,
+        (2, "", refused.as_str()),
+    )
+}
+
 #[test]
 fn proofs(rt: HostRuntime) -> Result<(), Fail> {
     for (proof, fault) in PROOFS {
-        let outcome = checked(rt.alloc(), MINI, "a R 0 0 b R 0 1", proof)?;
-        let refused = format!(in rt.alloc(); "refused: proof: {fault}\n")?;
-        assert_eq!(rt; outcome.answer(), (2, "", refused.as_str()), "with {proof}");
+        refuse_proof(rt.alloc(), proof, fault)?;
     }
     Ok(())
 }
 
 #[test]
 fn the_first_fault_of_all(rt: HostRuntime) -> Result<(), Fail> {
-    let instance = edited(rt.alloc(), WIDE, "a t1 2 3 10", "a t1 +2 3 10")?;
-    for (instance, solution, proof, refused) in [
-        (
-            instance.as_str(),
-            "a S 0 0",
-            "x",
+    let steps = [
+        Put("a.ctt", WIDE),
+        Put("b.ctt", WIDE),
+        Edit("b.ctt", "a t1 2 3 10", "a t1 +2 3 10"),
+        Put("a.sol", "a S 0 0"),
+        Put("b.sol", WIDE_SOLUTION),
+        Put("a.proof", "x"),
+        Run(
+            "check b.ctt a.sol a.proof",
+            2,
+            "",
             "refused: instance: NotANumber at byte 101\n",
         ),
-        (
-            WIDE,
-            "a S 0 0",
-            "x",
+        Run(
+            "check a.ctt a.sol a.proof",
+            2,
+            "",
             "refused: solution: UnknownRoom at byte 2\n",
         ),
-        (
-            WIDE,
-            WIDE_SOLUTION,
-            "x",
+        Run(
+            "check a.ctt b.sol a.proof",
+            2,
+            "",
             "refused: proof: Expected CTTP at byte 0\n",
         ),
-    ] {
-        let outcome = checked(rt.alloc(), instance, solution, proof)?;
-        assert_eq!(rt; outcome.answer(), (2, "", refused));
-    }
-    Ok(())
+    ];
+    play_refusing(rt.alloc(), Refusal::NewFiles, &steps)
 }

@@ -3,8 +3,9 @@
 use crate::refusing::PROOFS;
 use std::alloc::Global;
 use std::test::Fail;
-use tt_testing_files::StoredFile;
-use tt_testing_runs::{Outcome, run_with};
+use tt_testing_files::{Refusal, StoredFile};
+use tt_testing_runs::Step::{Put, Run};
+use tt_testing_runs::{Outcome, play_refusing, run_with};
 use tt_testing_samples::{GAP, GAP_PROOF, MINI, SAME, WIDE, WIDE_SOLUTION, edited};
 
 /// The room of Mini lacks one seat for its second course.
@@ -28,12 +29,7 @@ const NOTHING: &str = "CTTP 1 bound 0 B ; end";
 const NAMES: [&str; 4] = ["1.proof", "2.proof", "3.proof", "4.proof"];
 
 /// Returns the outcome of `sum` for an instance and proofs, with a solution if one is given.
-pub fn summed(
-    alloc: Global,
-    instance: &str,
-    solution: &str,
-    proofs: &[&str],
-) -> Result<Outcome, Fail> {
+fn summed(alloc: Global, instance: &str, solution: &str, proofs: &[&str]) -> Result<Outcome, Fail> {
     let mut words = Vec::new(alloc);
     let mut files = Vec::new(alloc);
     words.extend_from_slice(&["sum", "a.ctt"])?;
@@ -49,6 +45,33 @@ pub fn summed(
     run_with(alloc, &words, &files)
 }
 
+/// Expects this status, standard output and standard error of `sum` for an instance and proofs, with a solution if one is given.
+pub fn sum_gives(
+    alloc: Global,
+    instance: &str,
+    solution: &str,
+    proofs: &[&str],
+    answer: (u8, &str, &str),
+) -> Result<(), Fail> {
+    let outcome = summed(alloc, instance, solution, proofs)?;
+    if outcome.answer() == answer {
+        return Ok(());
+    }
+    let came = outcome.answer();
+    Err(Fail::new(format_args!("{came:?}, and not {answer:?}, with {proofs:?}")))
+}
+
+/// Expects that `sum` refuses proofs with this error.
+pub fn sum_refuses(
+    alloc: Global,
+    instance: &str,
+    proofs: &[&str],
+    fault: &str,
+) -> Result<(), Fail> {
+    let refused = format!(in alloc; "refused: {fault}\n")?;
+    sum_gives(alloc, instance, "", proofs, (2, "", refused.as_str()))
+}
+
 #[test]
 fn bounds_that_add_up(rt: HostRuntime) -> Result<(), Fail> {
     let cramped = edited(rt.alloc(), WIDE, "R 11", "R 9")?;
@@ -59,8 +82,7 @@ fn bounds_that_add_up(rt: HostRuntime) -> Result<(), Fail> {
         (cramped.as_str(), [CRAMPED, DAYS].as_slice(), "bound 7\n"),
         (cramped.as_str(), [STACKED, CRAMPED].as_slice(), "bound 7\n"),
     ] {
-        let outcome = summed(rt.alloc(), instance, "", proofs)?;
-        assert_eq!(rt; outcome.answer(), (0, out, ""), "with {proofs:?}");
+        sum_gives(rt.alloc(), instance, "", proofs, (0, out, ""))?;
     }
     Ok(())
 }
@@ -73,59 +95,74 @@ fn no_timetable_at_all(rt: HostRuntime) -> Result<(), Fail> {
         [none, none].as_slice(),
         [NOTHING, none, NOTHING].as_slice(),
     ] {
-        let outcome = summed(rt.alloc(), SAME, "", proofs)?;
-        assert_eq!(rt;
-            outcome.answer(),
-            (0, "bound none\n", ""),
-            "with {proofs:?}"
-        );
+        sum_gives(rt.alloc(), SAME, "", proofs, (0, "bound none\n", ""))?;
     }
     Ok(())
 }
 
-/// Each case has the number of the proof that is refused, its node and the earlier proof.
 #[test]
 fn targets_that_are_claimed_twice(rt: HostRuntime) -> Result<(), Fail> {
-    for (instance, proofs, (proof, node, earlier)) in [
-        (MINI, [SEATS, SEATS].as_slice(), (2, 0, 1)),
-        (MINI, [SEATS, PRICED].as_slice(), (2, 0, 1)),
-        (MINI, [PRICED, NOTHING, SEATS].as_slice(), (3, 0, 1)),
-        (WIDE, [NOTHING, DAYS, STACKED].as_slice(), (3, 0, 2)),
-        (WIDE, [STACKED, DAYS].as_slice(), (2, 0, 1)),
-        (GAP, [SEATS, GAP_PROOF].as_slice(), (2, 2, 1)),
-        (GAP, [GAP_PROOF, SEATS].as_slice(), (2, 0, 1)),
+    for (instance, proofs, fault) in [
+        (
+            MINI,
+            [SEATS, SEATS].as_slice(),
+            "proof 2: ClaimedElsewhere at node 0, by proof 1",
+        ),
+        (
+            MINI,
+            [SEATS, PRICED].as_slice(),
+            "proof 2: ClaimedElsewhere at node 0, by proof 1",
+        ),
+        (
+            MINI,
+            [PRICED, NOTHING, SEATS].as_slice(),
+            "proof 3: ClaimedElsewhere at node 0, by proof 1",
+        ),
+        (
+            WIDE,
+            [NOTHING, DAYS, STACKED].as_slice(),
+            "proof 3: ClaimedElsewhere at node 0, by proof 2",
+        ),
+        (
+            WIDE,
+            [STACKED, DAYS].as_slice(),
+            "proof 2: ClaimedElsewhere at node 0, by proof 1",
+        ),
+        (
+            GAP,
+            [SEATS, GAP_PROOF].as_slice(),
+            "proof 2: ClaimedElsewhere at node 2, by proof 1",
+        ),
+        (
+            GAP,
+            [GAP_PROOF, SEATS].as_slice(),
+            "proof 2: ClaimedElsewhere at node 0, by proof 1",
+        ),
     ] {
-        let outcome = summed(rt.alloc(), instance, "", proofs)?;
-        let clash = format!(in rt.alloc(); "ClaimedElsewhere at node {node}, by proof {earlier}")?;
-        let refused = format!(in rt.alloc(); "refused: proof {proof}: {clash}\n")?;
-        assert_eq!(rt;
-            outcome.answer(),
-            (2, "", refused.as_str()),
-            "with {proofs:?}"
-        );
+        sum_refuses(rt.alloc(), instance, proofs, fault)?;
     }
     Ok(())
+}
+
+/// Expects that `sum` refuses the second of three proofs for Mini with this error.
+fn refuse_second(alloc: Global, proof: &str, fault: &str) -> Result<(), Fail> {
+    let refused = format!(in alloc; "proof 2: {fault}")?;
+    sum_refuses(alloc, MINI, &[SEATS, proof, "x"], refused.as_str())
 }
 
 #[test]
 fn faults_of_the_second_proof(rt: HostRuntime) -> Result<(), Fail> {
     for (proof, fault) in PROOFS {
-        let outcome = summed(rt.alloc(), MINI, "", &[SEATS, proof, "x"])?;
-        let refused = format!(in rt.alloc(); "refused: proof 2: {fault}\n")?;
-        assert_eq!(rt; outcome.answer(), (2, "", refused.as_str()), "with {proof}");
+        refuse_second(rt.alloc(), proof, fault)?;
     }
     // A proof's own error is reported before a target claimed twice.
-    let outcome = summed(
+    sum_gives(
         rt.alloc(),
         MINI,
         "",
         &[SEATS, "CTTP 1 bound 2 B C c1 1 ; end"],
-    )?;
-    assert_eq!(rt;
-        outcome.answer(),
-        (2, "", "refused: proof 2: TooCheap at node 0\n")
-    );
-    Ok(())
+        (2, "", "refused: proof 2: TooCheap at node 0\n"),
+    )
 }
 
 #[test]
@@ -143,36 +180,37 @@ fn solutions_beside_proofs(rt: HostRuntime) -> Result<(), Fail> {
         // The proofs aren't read.
         ("a R 0 0", ["x"].as_slice(), 1, "broken hard 1 cost 11\n"),
     ] {
-        let outcome = summed(rt.alloc(), &cramped, solution, proofs)?;
-        assert_eq!(rt; outcome.answer(), (status, out, ""), "with {proofs:?}");
+        sum_gives(rt.alloc(), &cramped, solution, proofs, (status, out, ""))?;
     }
-    let outcome = summed(rt.alloc(), &cramped, WIDE_SOLUTION, &[DAYS, STACKED])?;
     let refused = "refused: proof 2: ClaimedElsewhere at node 0, by proof 1\n";
-    assert_eq!(rt; outcome.answer(), (2, "", refused));
-    Ok(())
+    sum_gives(
+        rt.alloc(),
+        &cramped,
+        WIDE_SOLUTION,
+        &[DAYS, STACKED],
+        (2, "", refused),
+    )
 }
 
 #[test]
 fn files_of_proofs_that_are_not_there(rt: HostRuntime) -> Result<(), Fail> {
-    let files = [
-        StoredFile::new("a.ctt", MINI.as_bytes()),
-        StoredFile::new("1.proof", SEATS.as_bytes()),
-    ];
-    let outcome = run_with(rt.alloc(), &["sum", "a.ctt", "1.proof", "none"], &files)?;
-    assert_eq!(rt;
-        outcome.answer(),
-        (2, "", "refused: proof 2: Read: none: entity not found\n")
-    );
-    let outcome = run_with(rt.alloc(), &["sum", "none", "1.proof"], &files)?;
-    assert_eq!(rt;
-        outcome.answer(),
-        (
+    let steps = [
+        Put("a.ctt", MINI),
+        Put("1.proof", SEATS),
+        Run(
+            "sum a.ctt 1.proof none",
             2,
             "",
-            "refused: instance: cannot read: none: entity not found\n"
-        )
-    );
-    Ok(())
+            "refused: proof 2: Read: none: entity not found\n",
+        ),
+        Run(
+            "sum none 1.proof",
+            2,
+            "",
+            "refused: instance: cannot read: none: entity not found\n",
+        ),
+    ];
+    play_refusing(rt.alloc(), Refusal::NewFiles, &steps)
 }
 
 #[test]
