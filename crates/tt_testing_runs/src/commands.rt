@@ -58,27 +58,3 @@ pub fn run_line<F: Files + Clock + Input + Drop>(
 pub fn run_with(alloc: Global, words: &[&str], files: &[StoredFile<'_>]) -> Result<Outcome, Fail> {
     run_on(alloc, words, Disk { files })
 }
-
-/// Returns the outcome of `validate` for an instance and a solution.
-pub fn validated(alloc: Global, instance: &str, solution: &str) -> Result<Outcome, Fail> {
-    let files = [
-        StoredFile::new("a.ctt", instance.as_bytes()),
-        StoredFile::new("a.sol", solution.as_bytes()),
-    ];
-    run_with(alloc, &["validate", "a.ctt", "a.sol"], &files)
-}
-
-/// Returns the outcome of `check` for an instance, a solution and a proof.
-pub fn checked(
-    alloc: Global,
-    instance: &str,
-    solution: &str,
-    proof: &str,
-) -> Result<Outcome, Fail> {
-    let files = [
-        StoredFile::new("a.ctt", instance.as_bytes()),
-        StoredFile::new("a.sol", solution.as_bytes()),
-        StoredFile::new("a.proof", proof.as_bytes()),
-    ];
-    run_with(alloc, &["check", "a.ctt", "a.sol", "a.proof"], &files)
-}

@@ -4,5 +4,5 @@
 mod commands;
 mod scenario;
 
-pub use commands::{Outcome, checked, run_line, run_on, run_with, validated};
+pub use commands::{Outcome, run_line, run_on, run_with};
 pub use scenario::{Step, Text, play, play_check, play_on, play_refusing, play_validate};

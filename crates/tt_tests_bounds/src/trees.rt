@@ -10,26 +10,32 @@ use tt_path::{Pattern, Who};
 use tt_proof_check::{NodesFault, check_nodes};
 use tt_proof_read::Node;
 use tt_stop::Stop;
-use tt_testing_files::StoredFile;
-use tt_testing_runs::{Outcome, checked, run_with};
-use tt_testing_samples::{
-    APART, CROWDED, GAP, GAP_PROOF, MINI, SAME, SEATS, TOUR, WIDE, edited, repeated,
-};
+use tt_testing_files::{Refusal, StoredFile};
+use tt_testing_runs::Step::{Edit, Put, Run};
+use tt_testing_runs::{play_check, play_refusing, run_with};
+use tt_testing_samples::{APART, CROWDED, GAP, GAP_PROOF, MINI, SAME, SEATS, TOUR, WIDE, repeated};
 use tt_text::Pieces;
 
-fn bounded(alloc: Global, instance: &str, proof: &str) -> Result<Outcome, Fail> {
-    let files = [
-        StoredFile::new("a.ctt", instance.as_bytes()),
-        StoredFile::new("a.cttp", proof.as_bytes()),
+/// Expects this status, standard output and standard error of `bound` for an instance and a proof.
+fn bound_gives(
+    alloc: Global,
+    instance: &str,
+    proof: &str,
+    answer: (u8, &str, &str),
+) -> Result<(), Fail> {
+    let (status, out, err) = answer;
+    let steps = [
+        Put("a.ctt", instance),
+        Put("a.cttp", proof),
+        Run("bound a.ctt a.cttp", status, out, err),
     ];
-    run_with(alloc, &["bound", "a.ctt", "a.cttp"], &files)
+    play_refusing(alloc, Refusal::NewFiles, &steps)
 }
 
-/// Checks whether `bound` refuses a proof with this error.
-fn is_refused(alloc: Global, instance: &str, proof: &str, fault: &str) -> Result<bool, Fail> {
-    let outcome = bounded(alloc, instance, proof)?;
+/// Expects that `bound` refuses a proof with this error.
+fn refuse(alloc: Global, instance: &str, proof: &str, fault: &str) -> Result<(), Fail> {
     let reported = format!(in alloc; "refused: proof: {fault}\n")?;
-    Ok(outcome.answer() == (2, "", reported.as_str()))
+    bound_gives(alloc, instance, proof, (2, "", reported.as_str()))
 }
 
 #[test]
@@ -50,8 +56,7 @@ fn solutions_with_bounds(rt: HostRuntime) -> Result<(), Fail> {
             "yes cost 5 bound 5 optimal\n",
         ),
     ] {
-        let outcome = checked(rt.alloc(), instance, solution, proof)?;
-        assert_eq!(rt; outcome.answer(), (0, out, ""));
+        play_check(rt.alloc(), instance, solution, proof, (0, out, ""))?;
     }
     Ok(())
 }
@@ -128,8 +133,7 @@ fn bounds_that_hold(rt: HostRuntime) -> Result<(), Fail> {
             "bound 4096000000\n",
         ),
     ] {
-        let outcome = bounded(rt.alloc(), instance, proof)?;
-        assert_eq!(rt; outcome.answer(), (0, out, ""), "of {proof}");
+        bound_gives(rt.alloc(), instance, proof, (0, out, ""))?;
     }
     Ok(())
 }
@@ -155,8 +159,7 @@ fn leaves_and_patterns_that_are_rare(rt: HostRuntime) -> Result<(), Fail> {
         ),
         (MINI, "CTTP 1 bound 0 S q0 * d0 p0 B ; B ; end", "bound 0\n"),
     ] {
-        let outcome = bounded(rt.alloc(), instance, proof)?;
-        assert_eq!(rt; outcome.answer(), (0, out, ""), "of {proof}");
+        bound_gives(rt.alloc(), instance, proof, (0, out, ""))?;
     }
     Ok(())
 }
@@ -198,7 +201,7 @@ fn leaves_that_are_wrong(rt: HostRuntime) -> Result<(), Fail> {
             "StillAlive at node 1",
         ),
     ] {
-        assert!(rt; is_refused(rt.alloc(), instance, proof, fault)?, "{proof}");
+        refuse(rt.alloc(), instance, proof, fault)?;
     }
     Ok(())
 }
@@ -227,41 +230,47 @@ fn prices_and_stacked_days_that_are_wrong(rt: HostRuntime) -> Result<(), Fail> {
             "ClaimedTwice at node 0",
         ),
     ] {
-        assert!(rt; is_refused(rt.alloc(), instance, proof, fault)?, "{proof}");
+        refuse(rt.alloc(), instance, proof, fault)?;
     }
     Ok(())
 }
 
 #[test]
 fn a_second_child_that_is_wrong(rt: HostRuntime) -> Result<(), Fail> {
-    for (old, new, node) in [
-        ("K c0 ;\nend", "K c1 ;\nend", 8),
-        ("K c1 ;\nS", "M c1\nS", 3),
+    for (old, new, refused) in [
+        (
+            "K c0 ;\nend",
+            "K c1 ;\nend",
+            "refused: proof: EnoughRoom at node 8\n",
+        ),
+        (
+            "K c1 ;\nS",
+            "M c1\nS",
+            "refused: proof: NotTooMany at node 3\n",
+        ),
     ] {
-        let proof = edited(rt.alloc(), GAP_PROOF, old, new)?;
-        let outcome = bounded(rt.alloc(), GAP, &proof)?;
-        let fault = if node == 8 {
-            "EnoughRoom"
-        } else {
-            "NotTooMany"
-        };
-        let reported = format!(in rt.alloc(); "refused: proof: {fault} at node {node}\n")?;
-        assert_eq!(rt; outcome.answer(), (2, "", reported.as_str()));
+        let steps = [
+            Put("a.ctt", GAP),
+            Put("a.cttp", GAP_PROOF),
+            Edit("a.cttp", old, new),
+            Run("bound a.ctt a.cttp", 2, "", refused),
+        ];
+        play_refusing(rt.alloc(), Refusal::NewFiles, &steps)?;
     }
     Ok(())
 }
 
+/// Expects that `bound` refuses a proof of so many splits for Mini with this error.
+fn refuse_splits(alloc: Global, splits: usize, fault: &str) -> Result<(), Fail> {
+    let nested = repeated(alloc, "S c0 * d0 p0 ", splits)?;
+    let proof = format!(in alloc; "CTTP 1 bound 0 {nested}B ; end")?;
+    refuse(alloc, MINI, proof.as_str(), fault)
+}
+
 #[test]
 fn splits_below_one_another(rt: HostRuntime) -> Result<(), Fail> {
-    for (splits, fault) in [
-        (65_536, "UnknownWord at byte 851987"),
-        (65_537, "TooDeep at node 65537"),
-    ] {
-        let nested = repeated(rt.alloc(), "S c0 * d0 p0 ", splits)?;
-        let proof = format!(in rt.alloc(); "CTTP 1 bound 0 {nested}B ; end")?;
-        assert!(rt; is_refused(rt.alloc(), MINI, &proof, fault)?, "{splits}");
-    }
-    Ok(())
+    refuse_splits(rt.alloc(), 65_536, "UnknownWord at byte 851987")?;
+    refuse_splits(rt.alloc(), 65_537, "TooDeep at node 65537")
 }
 
 #[test]
@@ -283,7 +292,7 @@ fn texts_that_are_wrong(rt: HostRuntime) -> Result<(), Fail> {
             "TokenTooLong at byte 15",
         ),
     ] {
-        assert!(rt; is_refused(rt.alloc(), instance, proof, fault)?, "{proof}");
+        refuse(rt.alloc(), instance, proof, fault)?;
     }
     Ok(())
 }
@@ -326,7 +335,7 @@ fn numbers_and_ends_that_are_wrong(rt: HostRuntime) -> Result<(), Fail> {
             "UnknownWord at byte 17",
         ),
     ] {
-        assert!(rt; is_refused(rt.alloc(), instance, proof, fault)?, "{proof}");
+        refuse(rt.alloc(), instance, proof, fault)?;
     }
     Ok(())
 }
