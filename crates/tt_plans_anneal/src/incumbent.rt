@@ -4,7 +4,7 @@ use crate::draft::Draft;
 use std::alloc::{AllocError, Global};
 use tt_moves::Step;
 use tt_plans::{Facts, Plan};
-use tt_plans_rooms::Seating;
+use crate::seating::Seating;
 use tt_plans_tables::put;
 
 /// A placeholder for no step.
