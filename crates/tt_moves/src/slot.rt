@@ -25,5 +25,9 @@ pub fn is_worse_in(occupied: &Occupied<'_, '_>, entry: u32, day: u32, period: u3
         ..rest.gone
     };
     let before = rest.hard_weight(rest.gone);
-    rest.slot_weight(there) > before
+    let after = rest.slot_weight(there);
+    if after <= before {
+        return false;
+    }
+    true
 }
