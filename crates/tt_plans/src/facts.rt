@@ -4,6 +4,7 @@ use crate::reading::{curricula_of, members_of, missing_seats, wants_of};
 use std::alloc::{AllocError, Global};
 use tt_instance::Instance;
 use tt_occupancy::Occupied;
+use tt_plans_slots::level_of;
 use tt_plans_tables::{Counts, Rows, Words};
 
 /// The sizes of an instance, and of its timetable.
@@ -118,22 +119,11 @@ impl Course {
     };
 
     fn of(instance: &Instance<'_>, course: u32) -> Course {
-        let (mut least, mut count) = (i32::MAX, 0usize);
-        for room in 0..instance.rooms() {
-            let missing = missing_seats(instance, course, room);
-            if missing < least {
-                least = missing;
-                count = 0;
-            }
-            if missing == least {
-                count = count.saturating_add(1);
-            }
-        }
         let (lectures, min_days) = wants_of(instance, course);
         Course {
             lectures,
             min_days,
-            level: count.saturating_sub(1),
+            level: level_of(instance, course) as usize,
         }
     }
 }

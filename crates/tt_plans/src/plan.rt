@@ -2,9 +2,11 @@
 
 use crate::facts::Facts;
 use crate::isolation::isolated_on;
+use crate::levels::Levels;
 use std::alloc::{AllocError, Global};
-use tt_instance::{ISOLATED_COST, MISSING_DAY_COST};
+use tt_instance::{ISOLATED_COST, Instance, MISSING_DAY_COST};
 use tt_plans_odds::POINT;
+use tt_plans_slots::Slots;
 use tt_plans_tables::{Counts, Words, put};
 
 /// The cost of a lecture whose home another lecture has in its slot, in quarters of a point.
@@ -19,23 +21,24 @@ pub const DAY_COST: i64 = MISSING_DAY_COST as i64 * POINT;
 /// The value of a slot in which a course has no lecture.
 const NOBODY: i32 = -1;
 
+/// The slot of a lecture that has none, since it may not be taught in the one that it was to have. It is in no count.
+const NOWHERE: u32 = u32::MAX;
+
 /// A slot for each lecture and a home for each course, with their counts. Costs are in quarters of a point.
-pub struct Plan {
-    /// The slot of each lecture.
+pub struct Plan<'a, 'i> {
+    /// The slot of each lecture, or `NOWHERE`.
     slots: Vec<u32>,
     /// The home of each course.
     homes: Vec<u32>,
     /// The lecture of each course in each slot, or `NOBODY`.
     held: Counts,
-    /// The courses that are taught in each slot, as a set.
-    pub taught: Words,
-    /// The number of lectures in each slot.
-    lectures_in: Counts,
+    /// The courses that are taught in each slot, and the spare of each slot at each level.
+    taught: Slots<'a, 'i>,
+    /// For each slot and level: by how many lectures the plan that was read last had more there than fit into its rooms. If this is 0
+    /// everywhere, all lectures of a slot can have rooms that miss the fewest seats for them.
+    beyond: Counts,
     /// The number of lectures at home in each room, for each slot.
     pub at_home: Counts,
-    /// For each slot and number of rooms, less 1: the number less the lectures whose courses fit into so many rooms or fewer. If none is
-    /// negative, all lectures of the slot can have rooms that miss the fewest seats for them.
-    pub levels: Counts,
     /// The periods in which each curriculum is taught on each day, as a set, above two bits.
     pub days: Words,
     /// The number of lectures of each course on each day.
@@ -50,16 +53,15 @@ pub struct Plan {
     pub day_cost: i64,
 }
 
-impl Drop for Plan {
+impl<'a, 'i> Drop for Plan<'a, 'i> {
     fn drop(self) {
         let Plan {
             slots: _,
             homes: _,
             held: _,
             taught: _,
-            lectures_in: _,
+            beyond: _,
             at_home: _,
-            levels: _,
             days: _,
             on_day: _,
             days_used: _,
@@ -71,18 +73,21 @@ impl Drop for Plan {
     }
 }
 
-impl Plan {
+impl<'a, 'i> Plan<'a, 'i> {
     /// Returns a plan without lectures. Fails if memory runs out.
-    pub fn new(alloc: Global, facts: &Facts) -> Result<Plan, AllocError> {
+    pub fn new(
+        alloc: Global,
+        facts: &Facts,
+        instance: &'a Instance<'i>,
+    ) -> Result<Plan<'a, 'i>, AllocError> {
         let sizes = facts.sizes;
         Ok(Plan {
             slots: vec![in alloc; 0u32; sizes.lectures]?,
             homes: vec![in alloc; 0u32; sizes.courses]?,
             held: Counts::new(alloc, sizes.courses, sizes.slots, NOBODY)?,
-            taught: Words::new(alloc, sizes.slots, sizes.words)?,
-            lectures_in: Counts::new(alloc, sizes.slots, 1, 0)?,
+            taught: Slots::new(alloc, instance)?,
+            beyond: Counts::new(alloc, sizes.slots, sizes.rooms, 0)?,
             at_home: Counts::new(alloc, sizes.slots, sizes.rooms, 0)?,
-            levels: Counts::new(alloc, sizes.slots, sizes.rooms, 0)?,
             days: Words::new(alloc, sizes.curricula, sizes.days)?,
             on_day: Counts::new(alloc, sizes.courses, sizes.days, 0)?,
             days_used: Counts::new(alloc, sizes.courses, 1, 0)?,
@@ -123,9 +128,22 @@ impl Plan {
         self.held.get(course, slot) != NOBODY
     }
 
-    /// Returns the number of lectures in a slot.
-    pub fn lectures_in(&self, slot: usize) -> i32 {
-        self.lectures_in.get(slot, 0)
+    /// Checks whether each lecture has a slot.
+    pub fn is_complete(&self) -> bool {
+        self.slots.iter().all(|slot| *slot != NOWHERE)
+    }
+
+    /// Returns the courses that are taught in a slot, as a set.
+    pub fn taught_in(&self, slot: usize) -> &[u64] {
+        self.taught.taught_in(slot)
+    }
+
+    /// Returns the levels of a slot.
+    pub fn levels_in(&self, slot: usize) -> Levels<'_> {
+        Levels {
+            spare: self.taught.spare_in(slot),
+            beyond: self.beyond.row(slot),
+        }
     }
 
     /// Returns the number of days that a course misses if it has this many more.
@@ -145,12 +163,6 @@ impl Plan {
     /// that are then at home where it is at home.
     fn count(&mut self, facts: &Facts, lecture: u32, course: usize, slot: usize, more: i32) -> i32 {
         let place = facts.place(slot);
-        let bit = 1u64.wrapping_shl((course % 64) as u32);
-        self.taught.turn(slot, course / 64, bit);
-        self.lectures_in.add(slot, 0, more);
-        for level in facts.course(course).level..facts.sizes.rooms {
-            self.levels.add(slot, level, more.wrapping_neg());
-        }
         let bit = 4u64.wrapping_shl(place.period);
         for curriculum in facts.curricula.row(course) {
             self.days.turn(*curriculum as usize, place.day, bit);
@@ -169,22 +181,46 @@ impl Plan {
         self.at_home.add(slot, home, more)
     }
 
-    /// Removes a lecture from the counts of its slot. Returns the number of clashes that end.
+    /// Removes a lecture from its slot. Nothing changes if it is nowhere. Returns the number of clashes that end.
     pub fn lift(&mut self, facts: &Facts, lecture: u32) -> i64 {
-        let slot = self.slot_of(lecture);
-        let left = self.count(facts, lecture, facts.course_of(lecture), slot, -1);
+        let (course, slot) = (facts.course_of(lecture), self.slot_of(lecture));
+        if !self.taught.leave(course, slot) {
+            return 0;
+        }
+        let left = self.count(facts, lecture, course, slot, -1);
         i64::from(left > 0)
     }
 
-    /// Puts a lecture that was lifted into a slot. Returns the number of clashes that begin.
+    /// Puts a lecture that was lifted into a slot. It is nowhere if it may not enter. Returns the number of clashes that begin.
     pub fn set_down(&mut self, facts: &Facts, lecture: u32, slot: usize) -> i64 {
-        put(
-            &mut self.slots,
-            lecture as usize,
-            u32::try_from(slot).unwrap_or(0),
-        );
-        let count = self.count(facts, lecture, facts.course_of(lecture), slot, 1);
+        let course = facts.course_of(lecture);
+        if !self.taught.enter(course, slot) {
+            put(&mut self.slots, lecture as usize, NOWHERE);
+            return 0;
+        }
+        self.write_slot(lecture, slot);
+        let count = self.count(facts, lecture, course, slot, 1);
         i64::from(count > 1)
+    }
+
+    /// Puts a lecture into a slot, also if its levels have no spare. It is nowhere if it may not be taught there.
+    fn admit(&mut self, facts: &Facts, lecture: u32, slot: usize) {
+        let course = facts.course_of(lecture);
+        if !self.taught.admit(course, slot) {
+            put(&mut self.slots, lecture as usize, NOWHERE);
+            return;
+        }
+        self.write_slot(lecture, slot);
+        self.count(facts, lecture, course, slot, 1);
+        for level in facts.course(course).level..facts.sizes.rooms {
+            self.beyond.add(slot, level, 1);
+        }
+    }
+
+    /// Writes the slot of a lecture. The counts remain.
+    fn write_slot(&mut self, lecture: u32, slot: usize) {
+        let number = u32::try_from(slot).unwrap_or(NOWHERE);
+        put(&mut self.slots, lecture as usize, number);
     }
 
     /// Writes the home of a course. The counts remain.
@@ -208,7 +244,6 @@ impl Plan {
     fn clear(&mut self, facts: &Facts) {
         self.held.fill(NOBODY);
         self.taught.clear();
-        self.lectures_in.fill(0);
         self.at_home.fill(0);
         self.days.clear();
         self.on_day.fill(0);
@@ -217,7 +252,17 @@ impl Plan {
             let mut rooms: i32 = 0;
             for level in 0..facts.sizes.rooms {
                 rooms = rooms.wrapping_add(1);
-                self.levels.put(slot, level, rooms);
+                self.beyond.put(slot, level, rooms.wrapping_neg());
+            }
+        }
+    }
+
+    /// Counts no level of a slot as beyond its rooms that isn't.
+    fn end_levels(&mut self, facts: &Facts) {
+        for slot in 0..facts.sizes.slots {
+            for level in 0..facts.sizes.rooms {
+                let beyond = self.beyond.get(slot, level).max(0);
+                self.beyond.put(slot, level, beyond);
             }
         }
     }
@@ -230,9 +275,10 @@ impl Plan {
         }
         let mut lecture: u32 = 0;
         for slot in slots {
-            self.set_down(facts, lecture, *slot as usize);
+            self.admit(facts, lecture, *slot as usize);
             lecture = lecture.saturating_add(1);
         }
+        self.end_levels(facts);
         self.count_costs(facts);
     }
 

@@ -40,16 +40,16 @@ const MOST_ROOMS: u32 = 512;
 
 /// A plan that is heated and cooled slowly.
 #[derive(Drop)]
-pub struct Annealing {
+pub struct Annealing<'a, 'i> {
     facts: Facts,
     dice: Dice,
     stepper: Stepper,
     load: Load,
     cooling: Cooling,
     schedule: Schedule,
-    plan: Plan,
+    plan: Plan<'a, 'i>,
     heat: Heat,
-    incumbent: Incumbent,
+    incumbent: Incumbent<'a, 'i>,
     /// The plan of least cost since rooms were last given, if it costs less than the best timetable.
     cheapest: Draft,
     /// The plan of least cost with more expensive clashes since rooms were last given, if that costs less than the best timetable.
@@ -59,7 +59,7 @@ pub struct Annealing {
     /// The plan of least cost with cheaper clashes so far, from which warm parts go on.
     promise: Draft,
     /// The plan whose homes are searched alone.
-    homed: Plan,
+    homed: Plan<'a, 'i>,
     is_melted: bool,
     is_warm: bool,
     rounds: u64,
@@ -105,7 +105,7 @@ fn heat_of_stage(dice: &Dice, stage: u64) -> Heat {
 fn anneal_homes(
     facts: &Facts,
     stepper: &Stepper,
-    plan: &mut Plan,
+    plan: &mut Plan<'_, '_>,
     dice: &mut Dice,
     steps: u64,
     kept: &mut Draft,
@@ -121,18 +121,19 @@ fn anneal_homes(
     }
 }
 
-impl Annealing {
+impl<'a, 'i> Annealing<'a, 'i> {
     /// Begins with a timetable that breaks no hard rule. No later call allocates memory.
     pub fn new(
         alloc: Global,
-        occupied: &Occupied<'_, '_>,
+        occupied: &Occupied<'a, 'i>,
         seed: u64,
         steps: u64,
-    ) -> Result<Annealing, AllocError> {
+    ) -> Result<Annealing<'a, 'i>, AllocError> {
+        let instance = occupied.instance();
         let facts = Facts::new(alloc, occupied)?;
         let load = Load::new(&facts);
         let start = start_of(alloc, &facts, occupied)?;
-        let mut plan = Plan::new(alloc, &facts)?;
+        let mut plan = Plan::new(alloc, &facts, instance)?;
         plan.read(&facts, &start.slots, &start.homes);
         let mut cheapest = Draft::new(alloc, &facts)?;
         let mut clearest = Draft::new(alloc, &facts)?;
@@ -150,12 +151,12 @@ impl Annealing {
             schedule: Schedule::new(steps, facts.sizes),
             plan,
             heat: Heat::new(load.melting()),
-            incumbent: Incumbent::new(alloc, &facts, start)?,
+            incumbent: Incumbent::new(alloc, &facts, instance, start)?,
             cheapest,
             clearest,
             barest,
             promise,
-            homed: Plan::new(alloc, &facts)?,
+            homed: Plan::new(alloc, &facts, instance)?,
             facts,
             is_melted: false,
             is_warm: false,

@@ -31,7 +31,7 @@ impl Draft {
     }
 
     /// Copies a plan, if it costs less.
-    pub fn keep(&mut self, plan: &Plan, cost: i64) {
+    pub fn keep(&mut self, plan: &Plan<'_, '_>, cost: i64) {
         if cost < self.cost {
             self.cost = cost;
             self.copy(plan.slots(), plan.homes());

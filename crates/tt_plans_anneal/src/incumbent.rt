@@ -2,6 +2,7 @@
 
 use crate::draft::Draft;
 use std::alloc::{AllocError, Global};
+use tt_instance::Instance;
 use tt_moves::Step;
 use tt_plans::{Facts, Plan};
 use tt_plans_rooms::Seating;
@@ -15,20 +16,25 @@ const NO_STEP: Step = Step::Swap {
 
 /// The best plan so far, and the moves to its timetable.
 #[derive(Drop)]
-pub struct Incumbent {
+pub struct Incumbent<'a, 'i> {
     /// Its cost is that of its timetable.
     pub best: Draft,
     moves: Vec<Step>,
     /// The plan that is given rooms.
-    plan: Plan,
+    plan: Plan<'a, 'i>,
     seating: Seating,
 }
 
-impl Incumbent {
+impl<'a, 'i> Incumbent<'a, 'i> {
     /// Begins with a plan and the cost of its timetable. Fails if memory runs out.
-    pub fn new(alloc: Global, facts: &Facts, best: Draft) -> Result<Incumbent, AllocError> {
+    pub fn new(
+        alloc: Global,
+        facts: &Facts,
+        instance: &'a Instance<'i>,
+        best: Draft,
+    ) -> Result<Incumbent<'a, 'i>, AllocError> {
         let moves = vec![in alloc; NO_STEP; facts.sizes.lectures]?;
-        let plan = Plan::new(alloc, facts)?;
+        let plan = Plan::new(alloc, facts, instance)?;
         let seating = Seating::new(alloc, facts)?;
         Ok(Incumbent {
             best,
@@ -62,6 +68,9 @@ impl Incumbent {
     /// Gives a plan rooms, and takes it over if its timetable costs less. Returns whether it does.
     pub fn challenge(&mut self, facts: &Facts, draft: &Draft) -> bool {
         self.plan.read(facts, &draft.slots, &draft.homes);
+        if !self.plan.is_complete() {
+            return false;
+        }
         let cost = self.seating.seat(facts, &self.plan);
         if cost >= self.best.cost {
             return false;

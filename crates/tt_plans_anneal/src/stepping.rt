@@ -44,7 +44,13 @@ impl Stepper {
     }
 
     /// Gives a random course a random home, if the cost of it is accepted. Returns whether it did.
-    pub fn settle(&self, facts: &Facts, plan: &mut Plan, dice: &mut Dice, heat: Heat) -> bool {
+    pub fn settle(
+        &self,
+        facts: &Facts,
+        plan: &mut Plan<'_, '_>,
+        dice: &mut Dice,
+        heat: Heat,
+    ) -> bool {
         let course = facts.course_of(dice.below(self.lectures));
         let room = dice.below(self.rooms);
         let limit = heat.limit(dice);
@@ -52,7 +58,13 @@ impl Stepper {
     }
 
     /// Makes the chain of a random lecture and a random slot, if its cost is accepted. Returns whether it did.
-    fn turn(&mut self, facts: &Facts, plan: &mut Plan, dice: &mut Dice, heat: Heat) -> bool {
+    fn turn(
+        &mut self,
+        facts: &Facts,
+        plan: &mut Plan<'_, '_>,
+        dice: &mut Dice,
+        heat: Heat,
+    ) -> bool {
         let lecture = dice.below(self.lectures);
         let slot = dice.one_of(facts.open.row(facts.course_of(lecture)));
         let limit = heat.limit(dice);
@@ -60,7 +72,7 @@ impl Stepper {
     }
 
     /// Makes a chain or gives a new home, so that a plan forgets its start.
-    pub fn melt(&mut self, facts: &Facts, plan: &mut Plan, dice: &mut Dice, heat: Heat) {
+    pub fn melt(&mut self, facts: &Facts, plan: &mut Plan<'_, '_>, dice: &mut Dice, heat: Heat) {
         if dice.below(ALL) < REDRAWS {
             self.settle(facts, plan, dice, heat);
         } else {
@@ -69,7 +81,13 @@ impl Stepper {
     }
 
     /// Makes a step: a redraw, a new home or a chain. Returns whether the plan changed.
-    pub fn step(&mut self, facts: &Facts, plan: &mut Plan, dice: &mut Dice, heat: Heat) -> bool {
+    pub fn step(
+        &mut self,
+        facts: &Facts,
+        plan: &mut Plan<'_, '_>,
+        dice: &mut Dice,
+        heat: Heat,
+    ) -> bool {
         let kind = dice.below(ALL);
         if kind < REDRAWS {
             let course = facts.course_of(dice.below(self.lectures));

@@ -12,17 +12,6 @@ pub struct Chain {
     weigher: Weigher,
 }
 
-/// Checks whether both slots have rooms for the lectures that a chain brings.
-fn has_rooms(facts: &Facts, plan: &Plan, links: &Links, span: Span) -> bool {
-    let mut more: i64 = 0;
-    for link in links.all() {
-        more = more.wrapping_add(if link.leaves { 1 } else { -1 });
-    }
-    let rooms = i64::try_from(facts.sizes.rooms).unwrap_or(i64::MAX);
-    i64::from(plan.lectures_in(span.second)).wrapping_add(more) <= rooms
-        && i64::from(plan.lectures_in(span.first)).wrapping_sub(more) <= rooms
-}
-
 impl Chain {
     /// Makes the tables. Fails if memory runs out.
     pub fn new(alloc: Global, facts: &Facts) -> Result<Chain, AllocError> {
@@ -36,7 +25,7 @@ impl Chain {
     pub fn turn(
         &mut self,
         facts: &Facts,
-        plan: &mut Plan,
+        plan: &mut Plan<'_, '_>,
         lecture: u32,
         slot: usize,
         limit: i64,
@@ -46,11 +35,11 @@ impl Chain {
             second: slot,
         };
         let course = facts.course_of(lecture);
-        if span.first == slot || plan.has_lecture(course, slot) {
+        let is_nowhere = span.first >= facts.sizes.slots;
+        if is_nowhere || span.first == slot || plan.has_lecture(course, slot) {
             return false;
         }
         if !self.links.find(facts, plan, lecture, span)
-            || !has_rooms(facts, plan, &self.links, span)
             || !self
                 .weigher
                 .are_levels_kept(facts, plan, self.links.all(), span)
@@ -61,7 +50,7 @@ impl Chain {
     }
 
     /// Makes the chain that was found, if it costs at most `limit`. Returns whether it was made.
-    fn make(&mut self, facts: &Facts, plan: &mut Plan, span: Span, limit: i64) -> bool {
+    fn make(&mut self, facts: &Facts, plan: &mut Plan<'_, '_>, span: Span, limit: i64) -> bool {
         let links = self.links.all();
         let missing = more_missing_days(facts, plan, links, span);
         let isolated = self.weigher.more_isolated(facts, plan, links, span);

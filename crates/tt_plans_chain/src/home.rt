@@ -4,7 +4,7 @@ use tt_plans::{CLASH_COST, Facts, Plan};
 use tt_plans_odds::POINT;
 
 /// Returns how many more lectures of a course have a home that is taken, once the course moves from one room to another.
-fn more_clashes(facts: &Facts, plan: &Plan, course: usize, from: usize, to: usize) -> i64 {
+fn more_clashes(facts: &Facts, plan: &Plan<'_, '_>, course: usize, from: usize, to: usize) -> i64 {
     let mut more: i64 = 0;
     for lecture in facts.lectures.row(course) {
         let slot = plan.slot_of(*lecture);
@@ -16,7 +16,13 @@ fn more_clashes(facts: &Facts, plan: &Plan, course: usize, from: usize, to: usiz
 }
 
 /// Gives a course a new home, if this costs at most `limit`. Returns whether it did.
-pub fn change_home(facts: &Facts, plan: &mut Plan, course: usize, room: u32, limit: i64) -> bool {
+pub fn change_home(
+    facts: &Facts,
+    plan: &mut Plan<'_, '_>,
+    course: usize,
+    room: u32,
+    limit: i64,
+) -> bool {
     let (from, to) = (plan.home_of(course), room as usize);
     if from == to {
         return false;

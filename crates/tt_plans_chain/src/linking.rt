@@ -84,9 +84,10 @@ impl Links {
     }
 
     /// Adds the lectures in a slot that conflict with a course. Returns whether there was a place for all.
-    fn pull(&mut self, facts: &Facts, plan: &Plan, link: Link, slot: usize) -> bool {
-        for word in 0..facts.sizes.words {
-            let mut rivals = facts.conflicts.get(link.course, word) & plan.taught.get(slot, word);
+    fn pull(&mut self, facts: &Facts, plan: &Plan<'_, '_>, link: Link, slot: usize) -> bool {
+        let conflicts = facts.conflicts.row(link.course);
+        for (word, (conflicts, taught)) in conflicts.iter().zip(plan.taught_in(slot)).enumerate() {
+            let mut rivals = *conflicts & *taught;
             for _ in 0..rivals.count_ones() {
                 let course = word
                     .wrapping_mul(64)
@@ -108,7 +109,7 @@ impl Links {
 
     /// Finds the lectures that change sides with a lecture of the first slot. Returns whether they can: none is barred in its new slot,
     /// and they are few enough.
-    pub fn find(&mut self, facts: &Facts, plan: &Plan, lecture: u32, span: Span) -> bool {
+    pub fn find(&mut self, facts: &Facts, plan: &Plan<'_, '_>, lecture: u32, span: Span) -> bool {
         self.len = 0;
         self.chain = self.chain.wrapping_add(1);
         self.add(Link {

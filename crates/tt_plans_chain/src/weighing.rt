@@ -18,7 +18,7 @@ pub struct Weigher {
 }
 
 /// Returns by how much more days a course misses once a lecture moves from one day to another.
-fn more_missing(facts: &Facts, plan: &Plan, course: usize, from: usize, to: usize) -> i64 {
+fn more_missing(facts: &Facts, plan: &Plan<'_, '_>, course: usize, from: usize, to: usize) -> i64 {
     if from == to {
         return 0;
     }
@@ -33,7 +33,7 @@ fn more_missing(facts: &Facts, plan: &Plan, course: usize, from: usize, to: usiz
 }
 
 /// Returns by how much more days are missing after a chain.
-pub fn more_missing_days(facts: &Facts, plan: &Plan, links: &[Link], span: Span) -> i64 {
+pub fn more_missing_days(facts: &Facts, plan: &Plan<'_, '_>, links: &[Link], span: Span) -> i64 {
     let (first, second) = (facts.place(span.first).day, facts.place(span.second).day);
     let mut more: i64 = 0;
     if first == second {
@@ -54,7 +54,7 @@ pub fn more_missing_days(facts: &Facts, plan: &Plan, links: &[Link], span: Span)
 }
 
 /// Returns by how many more lectures have a home that is taken after a chain. The counts of the plan are the same afterwards.
-pub fn more_clashes(plan: &mut Plan, links: &[Link], span: Span) -> i64 {
+pub fn more_clashes(plan: &mut Plan<'_, '_>, links: &[Link], span: Span) -> i64 {
     let mut more: i64 = 0;
     for link in links {
         let (from, _) = span.ends(*link);
@@ -78,7 +78,13 @@ pub fn more_clashes(plan: &mut Plan, links: &[Link], span: Span) -> i64 {
 }
 
 /// Returns by how many more periods of a curriculum are isolated once it leaves one slot for another.
-fn more_isolated(facts: &Facts, plan: &Plan, curriculum: usize, from: usize, to: usize) -> i64 {
+fn more_isolated(
+    facts: &Facts,
+    plan: &Plan<'_, '_>,
+    curriculum: usize,
+    from: usize,
+    to: usize,
+) -> i64 {
     let (left, entered) = (facts.place(from), facts.place(to));
     let day = plan.days.get(curriculum, left.day);
     let other = if left.day == entered.day {
@@ -105,7 +111,7 @@ impl Weigher {
     pub fn are_levels_kept(
         &mut self,
         facts: &Facts,
-        plan: &Plan,
+        plan: &Plan<'_, '_>,
         links: &[Link],
         span: Span,
     ) -> bool {
@@ -117,11 +123,12 @@ impl Weigher {
             }
         }
         let mut more: i32 = 0;
-        let first = plan.levels.row(span.first);
-        let second = plan.levels.row(span.second);
-        for ((leaving, first), second) in self.leaving.iter().zip(first).zip(second) {
+        let (first, second) = (plan.levels_in(span.first), plan.levels_in(span.second));
+        for (level, leaving) in self.leaving.iter().enumerate() {
             more = more.wrapping_add(*leaving);
-            if (more > 0 && *second < more) || (more < 0 && *first < more.wrapping_neg()) {
+            if (more > 0 && second.left(level) < more)
+                || (more < 0 && first.left(level) < more.wrapping_neg())
+            {
                 return false;
             }
         }
@@ -140,7 +147,13 @@ impl Weigher {
     }
 
     /// Returns by how many more periods of curricula are isolated after a chain.
-    pub fn more_isolated(&mut self, facts: &Facts, plan: &Plan, links: &[Link], span: Span) -> i64 {
+    pub fn more_isolated(
+        &mut self,
+        facts: &Facts,
+        plan: &Plan<'_, '_>,
+        links: &[Link],
+        span: Span,
+    ) -> i64 {
         self.count = 0;
         for link in links {
             for curriculum in facts.curricula.row(link.course) {

@@ -115,9 +115,10 @@ pub struct Board {
 }
 
 /// Checks whether a course conflicts with another in a slot, without the lecture of the group that is there now.
-fn has_rival(facts: &Facts, plan: &Plan, course: usize, slot: usize, now: Member) -> bool {
-    for word in 0..facts.sizes.words {
-        let mut rivals = facts.conflicts.get(course, word) & plan.taught.get(slot, word);
+fn has_rival(facts: &Facts, plan: &Plan<'_, '_>, course: usize, slot: usize, now: Member) -> bool {
+    let conflicts = facts.conflicts.row(course);
+    for (word, (conflicts, taught)) in conflicts.iter().zip(plan.taught_in(slot)).enumerate() {
+        let mut rivals = *conflicts & *taught;
         if now.course / 64 == word {
             rivals &= !1u64.wrapping_shl((now.course % 64) as u32);
         }
@@ -129,15 +130,16 @@ fn has_rival(facts: &Facts, plan: &Plan, course: usize, slot: usize, now: Member
 }
 
 /// Checks whether the levels of a slot allow another course, without the lecture of the group that is there now.
-fn has_level(facts: &Facts, plan: &Plan, course: usize, slot: usize, now: Member) -> bool {
+fn has_level(facts: &Facts, plan: &Plan<'_, '_>, course: usize, slot: usize, now: Member) -> bool {
     let first = facts.course(course).level;
     let lifted = if now.course < facts.sizes.courses {
         facts.course(now.course).level
     } else {
         usize::MAX
     };
-    for (level, left) in plan.levels.row(slot).iter().enumerate().skip(first) {
-        if *left < i32::from(level < lifted) {
+    let levels = plan.levels_in(slot);
+    for level in first..facts.sizes.rooms {
+        if levels.left(level) < i32::from(level < lifted) {
             return false;
         }
     }
@@ -221,7 +223,7 @@ impl Board {
     }
 
     /// Marks the slots of the group's lectures.
-    fn mark_lectures(&mut self, facts: &Facts, plan: &Plan, group: &Group) {
+    fn mark_lectures(&mut self, facts: &Facts, plan: &Plan<'_, '_>, group: &Group) {
         for (number, member) in group.members().iter().enumerate() {
             for lecture in facts.lectures.row(member.course) {
                 if let Some(square) = self.squares.get_mut(plan.slot_of(*lecture)) {
@@ -232,7 +234,7 @@ impl Board {
     }
 
     /// Marks the slots in which the curricula are taught.
-    fn mark_curricula(&mut self, facts: &Facts, plan: &Plan) {
+    fn mark_curricula(&mut self, facts: &Facts, plan: &Plan<'_, '_>) {
         for number in 0..self.count {
             let curriculum = self.curricula.get(number).copied().unwrap_or(0) as usize;
             let bit = 1u64.wrapping_shl((number % 64) as u32);
@@ -251,7 +253,7 @@ impl Board {
     }
 
     /// Opens the choices of each slot.
-    fn open_squares(&mut self, facts: &Facts, plan: &Plan, group: &Group) {
+    fn open_squares(&mut self, facts: &Facts, plan: &Plan<'_, '_>, group: &Group) {
         for slot in 0..facts.sizes.slots {
             let mut square = self.squares.get(slot).copied().unwrap_or(Square::NONE);
             let fixed = square.fixed & !self.set(square.now);
@@ -279,7 +281,7 @@ impl Board {
     }
 
     /// Reads a plan without the lectures of a group. Returns whether its curricula are few enough.
-    pub fn read(&mut self, facts: &Facts, plan: &Plan, group: &Group) -> bool {
+    pub fn read(&mut self, facts: &Facts, plan: &Plan<'_, '_>, group: &Group) -> bool {
         self.clear();
         if !self.find_sets(facts, group) {
             return false;
@@ -325,7 +327,7 @@ impl Board {
     }
 
     /// Returns the cost of the present plan of the group.
-    pub fn present_cost(&self, facts: &Facts, plan: &Plan, group: &Group) -> i64 {
+    pub fn present_cost(&self, facts: &Facts, plan: &Plan<'_, '_>, group: &Group) -> i64 {
         let mut cost: i64 = 0;
         for day in 0..facts.sizes.days {
             let first = day.wrapping_mul(self.periods);

@@ -111,7 +111,7 @@ impl Redrawer {
     }
 
     /// Draws a week by its odds. Returns whether there is one.
-    fn draw(&mut self, facts: &Facts, plan: &Plan, dice: &mut Dice, heat: Heat) -> bool {
+    fn draw(&mut self, facts: &Facts, plan: &Plan<'_, '_>, dice: &mut Dice, heat: Heat) -> bool {
         let present = self.board.present_cost(facts, plan, &self.group);
         let most = present
             .wrapping_add(heat.cost(LONGEST_WAIT))
@@ -149,7 +149,7 @@ impl Redrawer {
     }
 
     /// Returns the isolated periods of the group's curricula, and the missing days of its courses.
-    fn losses(&self, facts: &Facts, plan: &Plan) -> (i64, i64) {
+    fn losses(&self, facts: &Facts, plan: &Plan<'_, '_>) -> (i64, i64) {
         let (mut isolated, mut missing): (i64, i64) = (0, 0);
         for curriculum in self.board.curricula() {
             for day in plan.days.row(*curriculum as usize) {
@@ -163,7 +163,7 @@ impl Redrawer {
     }
 
     /// Puts the lectures of a member into the slots that were drawn for it. Returns the number of clashes that begin.
-    fn set_down(&self, facts: &Facts, plan: &mut Plan, number: usize) -> i64 {
+    fn set_down(&self, facts: &Facts, plan: &mut Plan<'_, '_>, number: usize) -> i64 {
         let course = self.group.member(number).course;
         let mut lectures = facts.lectures.row(course).iter();
         let mut clashes: i64 = 0;
@@ -178,7 +178,7 @@ impl Redrawer {
     }
 
     /// Moves the lectures of the group to the slots that were drawn.
-    fn make(&self, facts: &Facts, plan: &mut Plan) {
+    fn make(&self, facts: &Facts, plan: &mut Plan<'_, '_>) {
         let (isolated, missing) = self.losses(facts, plan);
         let mut clashes: i64 = 0;
         for member in self.group.members() {
@@ -205,7 +205,7 @@ impl Redrawer {
     pub fn redraw(
         &mut self,
         facts: &Facts,
-        plan: &mut Plan,
+        plan: &mut Plan<'_, '_>,
         dice: &mut Dice,
         heat: Heat,
         course: usize,

@@ -53,10 +53,10 @@ impl Seating {
     }
 
     /// Lists the lectures of a slot, and leaves those at home that can stay there.
-    fn list(&mut self, facts: &Facts, plan: &Plan, slot: usize) {
+    fn list(&mut self, facts: &Facts, plan: &Plan<'_, '_>, slot: usize) {
         let mut count: usize = 0;
         self.away_count = 0;
-        for (word, courses) in plan.taught.row(slot).iter().enumerate() {
+        for (word, courses) in plan.taught_in(slot).iter().enumerate() {
             let mut courses = *courses;
             for _ in 0..courses.count_ones() {
                 let course = word
@@ -73,7 +73,7 @@ impl Seating {
     }
 
     /// Leaves a lecture of a course at home, if it can stay there.
-    fn place(&mut self, facts: &Facts, plan: &Plan, course: usize, row: usize) {
+    fn place(&mut self, facts: &Facts, plan: &Plan<'_, '_>, course: usize, row: usize) {
         self.weigh(facts, plan, course, row);
         let home = plan.home_of(course);
         let number = row.saturating_add(1);
@@ -85,7 +85,7 @@ impl Seating {
     }
 
     /// Weighs the rooms for a lecture of a course.
-    fn weigh(&mut self, facts: &Facts, plan: &Plan, course: usize, row: usize) {
+    fn weigh(&mut self, facts: &Facts, plan: &Plan<'_, '_>, course: usize, row: usize) {
         let home = plan.home_of(course);
         for room in 0..facts.sizes.rooms {
             let move_weight = if room == home {
@@ -101,7 +101,7 @@ impl Seating {
     }
 
     /// Gives the lectures of a slot their rooms.
-    fn seat_slot(&mut self, facts: &Facts, plan: &Plan, slot: usize) {
+    fn seat_slot(&mut self, facts: &Facts, plan: &Plan<'_, '_>, slot: usize) {
         self.matching.clear();
         self.list(facts, plan, slot);
         for index in 0..self.away_count {
@@ -140,7 +140,7 @@ impl Seating {
     }
 
     /// Gives all lectures rooms, and returns the true cost of the timetable, in quarters of a point.
-    pub fn seat(&mut self, facts: &Facts, plan: &Plan) -> i64 {
+    pub fn seat(&mut self, facts: &Facts, plan: &Plan<'_, '_>) -> i64 {
         self.used.fill(0);
         for slot in 0..facts.sizes.slots {
             self.seat_slot(facts, plan, slot);

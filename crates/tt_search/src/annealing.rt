@@ -15,7 +15,12 @@ use tt_watch::Watch;
 
 /// Goes on with the search, and if a timetable was found that `draws` moves from the first one lead to, makes them and stores it if it is the
 /// best one so far. No memory is allocated.
-fn advance(standing: &mut Standing<'_, '_>, first: &[Entry], annealing: &mut Annealing, draws: u64)
+fn advance(
+    standing: &mut Standing<'_, '_>,
+    first: &[Entry],
+    annealing: &mut Annealing<'_, '_>,
+    draws: u64,
+)
     requires in_range { IsTimetable standing.old.occupied.problem first.now }
     requires courses { courses_of standing.old.occupied.entries ≡ courses_of first.now }
     requires best { (t : List Cell) × (courses_of standing.old.occupied.entries ≡ courses_of t)
@@ -44,7 +49,7 @@ fn advance(standing: &mut Standing<'_, '_>, first: &[Entry], annealing: &mut Ann
 pub fn walk_by_annealing<W: Watch>(
     standing: &mut Standing<'_, '_>,
     first: &[Entry],
-    annealing: &mut Annealing,
+    annealing: &mut Annealing<'_, '_>,
     draws: u64,
     span: Span,
     watch: &mut W,

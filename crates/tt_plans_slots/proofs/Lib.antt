@@ -1,0 +1,8 @@
+pub mod Changes
+pub mod Counted
+pub mod Fewest
+pub mod Kept
+pub mod Stepping
+pub mod Untaught
+pub mod Words
+pub mod Written

@@ -1,0 +1,4 @@
+-- Definitions on which no part of the trusted statement rests.
+pub mod CourseWords
+pub mod Spares
+pub mod States
