@@ -21,6 +21,6 @@ pub use changing::{change, lowers};
 pub use cost::EntryCost;
 pub use exchanging::Change;
 pub use pricing::{cost_change, entry_cost};
-pub use slot::is_worse_in;
+pub use slot::next_room;
 pub use step::{Step, apply, can_step, undo};
 pub use within::{change_within, hard_change};

@@ -1,5 +1,6 @@
 -- Scans in turn, and the descents that they make.
-use Rattle.std.proofs.Common.{◌≡◌, ℕ, ◌+◌, ◌<◌, true, false, refl, sym, ◌∙◌, subst, below_more, arith, Result, Ok, Err, OnOk, OnErr, is_err}
+use Rattle.std.proofs.Common.{◌≡◌, ℕ, ◌+◌, ◌<◌, ◌≤◌, true, false, inl, inr, refl, sym, ◌∙◌, subst, below_more, arith, Result, Ok, Err, OnOk, OnErr, is_err}
+use Rattle.std.proofs.lemmas.Bool.{cases_order}
 use Rattle.tt_occupancy.specs.Filled.{Filled}
 use Rattle.tt_moves.specs.Steps.{CanStep, stepped}
 use Rattle.tt_moves.specs.declared.step.Step.{Step}
@@ -86,6 +87,17 @@ module _ (A : Filled → Type 0) (x y : Filled) (k l : ℕ) (first : IsScan A x 
     still = λ same. let a = first.still same in (a.0, more a.1);
   }
 
+  -- a fact that holds after the scan holds before it, if the scan made no step
+  pub scan_seen : (C : Filled → Type 0) → C y → IsScan (λ o. A o × C o) x y k l
+  scan_seen C seen = record {
+    problem = first.problem;
+    size = first.size;
+    made = first.made;
+    count = first.count;
+    path = first.path;
+    still = λ same. let a = first.still same in (a.0, (a.1, subst C a.0 seen));
+  }
+
   pub scan_spent : (z : Filled) → IsSpent y z l → IsSpent x z k
   scan_spent z end =
       let p = first.problem in
@@ -110,6 +122,27 @@ module _ (B : ℕ → Filled → Type 0) where
   scan_next x y z i k l m first second =
       scan_then (λ o. (n : ℕ) → n < i → B n o) x y k l first (B i) (λ o. (n : ℕ) → n < i + 1 → B n o) z m second
       (λ below at. below_more (λ n. B n x) i below at)
+
+-- -- scans in a loop that passes over numbers
+
+-- what holds below i, at i, and from there to j, holds below j
+below_passed : (B : ℕ → Type 0) (i j : ℕ) → ((n : ℕ) → n < i → B n) → B i → ((n : ℕ) → i + 1 ≤ n → n < j → B n) → (n : ℕ) → n < j → B n
+below_passed B i j below at passed n h =
+    elim (cases_order n i) [
+      | inl same ↦ subst B (sym same) at
+      | inr (inl less) ↦ below n less
+      | inr (inr more) ↦ passed n (omega (arith, more)) h
+    ]
+
+module _ (B : ℕ → Filled → Type 0) where
+  -- the numbers between the next one and another are passed over
+  pub scan_pass : (x y z : Filled) (i j k l m : ℕ) → IsScan (λ o. (n : ℕ) → n < i → B n o) x y k l → IsScan (B i) y z l m
+      → ((n : ℕ) → i + 1 ≤ n → n < j → B n z) → IsScan (λ o. (n : ℕ) → n < j → B n o) x z k m
+  scan_pass x y z i j k l m first second passed =
+      let pass : Filled → Type 0 = λ o. (n : ℕ) → i + 1 ≤ n → n < j → B n o in
+      scan_then (λ o. (n : ℕ) → n < i → B n o) x y k l first (λ o. B i o × pass o) (λ o. (n : ℕ) → n < j → B n o) z m
+      (scan_seen (B i) y z l m second pass passed)
+      (λ below more. below_passed (λ n. B n x) i j below more.0 more.1)
 
 -- ---- the end of a descent
 

@@ -5,7 +5,8 @@ ghost use Rattle.tt_moves_descend.specs.Inner.Scan.{IsScan, IsSpent, NoMoveOn, N
 
 use crate::resting::is_at_rest;
 use crate::trying::{Spent, try_step};
-use tt_moves::{Step, is_worse_in};
+use tt_instance::Slot;
+use tt_moves::{Step, next_room};
 use tt_occupancy::Occupied;
 
 /// Tries the Moves of an entry to a slot, and makes each that lowers the pair.
@@ -23,10 +24,10 @@ fn move_to(
         occupied.old occupied.new left.old left.new) }
     ensures err { OnErr result (IsSpent occupied.old occupied.new left.old) }
 {
-    if is_worse_in(occupied, entry, day, period) {
-        return Ok(());
-    }
-    for room in 0..occupied.instance().rooms() {
+    let slot = Slot { day, period };
+    let rooms = occupied.instance().rooms();
+    let mut room = next_room(occupied, entry, slot, 0);
+    while room < rooms {
         let step = Step::Move {
             entry,
             room,
@@ -34,6 +35,7 @@ fn move_to(
             period,
         };
         try_step(occupied, step, left)?;
+        room = next_room(occupied, entry, slot, room + 1);
     }
     Ok(())
 }

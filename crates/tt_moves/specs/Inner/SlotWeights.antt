@@ -7,3 +7,7 @@ use Rattle.tt_tallies.specs.Weight.{repeats, against, barred}
 -- the entry's violations of the hard rules next to the entries u, without a room that it shares
 abbrev pub slot_weight : Problem → List Cell → Cell → ℕ
 slot_weight p u x = cond (repeats u x) 1 0 + against p u x + cond (barred p x) 1 0
+
+-- the entry in another room of its slot
+abbrev pub in_room : Cell → ℕ → Cell
+in_room x r = record { course = x.course; room = r; day = x.day; period = x.period }
