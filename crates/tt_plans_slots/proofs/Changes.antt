@@ -1,10 +1,9 @@
 -- The state after a course was added to a slot or removed from one.
-use Rattle.std.proofs.Common.{◌≡◌, ℕ, ◌+◌, ◌-◌, ◌^◌, ◌<◌, ◌≤◌, Bool, true, false, not, cond, ◌&&◌, ◌||◌, List, [], length, get_or, set, refl, sym, ap, ◌∙◌, subst, inl, inr, arith, eq-eqb, ne_eqb, eqb-true}
-use Rattle.std.specs.Prelude.{◌==◌, nat_le, count_by, slice_index}
+use Rattle.std.proofs.Common.{◌≡◌, ℕ, ◌+◌, ◌-◌, ◌^◌, ◌<◌, Bool, true, false, not, cond, ◌&&◌, ◌||◌, List, [], length, get_or, set, refl, sym, ap, ◌∙◌, subst, inl, inr, arith, eq-eqb, ne_eqb, eqb-true}
+use Rattle.std.specs.Prelude.{◌==◌, nat_le}
 use Rattle.std.proofs.Math.Bool.{or-false, or-true}
-use Rattle.std.proofs.lemmas.Bool.{and_parts, and_right, both_ways, cases_Bool, cases_eq, cases_lt, lt-leb}
+use Rattle.std.proofs.lemmas.Bool.{and_left, and_parts, and_right, both_ways, cases_Bool, cases_eq, cases_lt, lt-leb}
 use Rattle.std.proofs.lemmas.List.{get_or_past, get_or_read, get_or-set_same, get_or-set_other, length-set}
-use Rattle.tt_list_laws.specs.Words.{range_below}
 use Rattle.tt_list_laws.proofs.Sums.{one_if}
 use Rattle.tt_instance.specs.Problem.{Problem}
 use Rattle.tt_plans_slots.specs.Levels.{level}
@@ -71,6 +70,20 @@ module _ (p : Problem) (rows : List (List Bool)) (spares : List (List ℕ)) (c s
       by_test : (b : Bool) → get_or (cond b line (get_or spares t [])) k 0 ≡ cond b (get_or line k 0) (spare old t k)
       by_test true = refl
       by_test false = refl
+
+  -- what a change does to the line at a level it does to the spare of the slot, and to that of no other
+  spare_changed : (f : ℕ → Bool → ℕ) → ((n : ℕ) → f n false ≡ n) → (k : ℕ) (b : Bool)
+      → get_or line k 0 ≡ f (get_or (get_or spares s []) k 0) b → (t : ℕ) → spare new t k ≡ f (spare old t k) ((t == s) && b)
+  spare_changed f none k b here t = elim (cases_eq t s) [
+    | inl e ↦
+        let same = eq-eqb t s e in
+        let line_new = rw same at (spare_new t k) in
+        rw same (line_new ∙ here ∙ ap (λ i. f (get_or (get_or spares i []) k 0) b) (sym e))
+    | inr n ↦
+        let apart = ne_eqb t s n in
+        let line_new = rw apart at (spare_new t k) in
+        rw apart (line_new ∙ sym (none (spare old t k)))
+  ]
 
   shaped_new : IsShaped new
   shaped_new = record {
@@ -143,18 +156,8 @@ module _ (p : Problem) (rows : List (List Bool)) (spares : List (List ℕ)) (c s
 
   spare_taken : (t k : ℕ) → spare after t k ≡ spare before t k - one_if (is_raised t k)
   spare_taken t k =
-      spare_new p rows spares c s true row line is.state.shaped is.can.course is.can.slot is.written t k ∙ elim (cases_eq t s) [
-        | inl e ↦
-            ap (λ b. cond b (get_or line k 0) (spare before t k)) (eq-eqb t s e) ∙ is.taken k
-            ∙ ap (λ i. get_or (get_or spares i []) k 0 - one_if (nat_le (level p c) k)) (sym e)
-            ∙ sym (ap (λ b. spare before t k - one_if (b && nat_le (level p c) k)) (eq-eqb t s e))
-        | inr n ↦
-            ap (λ b. cond b (get_or line k 0) (spare before t k)) (ne_eqb t s n) ∙ sym (minus_zero (spare before t k))
-            ∙ sym (ap (λ b. spare before t k - one_if (b && nat_le (level p c) k)) (ne_eqb t s n))
-      ]
-    where
-      minus_zero : (n : ℕ) → n - 0 ≡ n
-      minus_zero n = omega arith
+      spare_changed p rows spares c s true row line is.state.shaped is.can.course is.can.slot is.written (λ n b. n - one_if b)
+      (λ n. omega arith) k (nat_le (level p c) k) (is.taken k) t
 
   pub raises : RaisesMost before after c s
   raises t k h =
@@ -171,15 +174,11 @@ module _ (p : Problem) (rows : List (List Bool)) (spares : List (List ℕ)) (c s
         omega (arith, count, none, few, e)
     | inr some ↦
         let same : one_if (is_raised t k && (spare before t k == 0)) ≡ 0 =
-        ap (λ b. one_if (is_raised t k && b)) (ne_eqb (spare before t k) 0 some) ∙ never (is_raised t k) in
+        ap one_if (and_right (is_raised t k) (spare before t k == 0) (ne_eqb (spare before t k) 0 some)) in
         let fits = is.state.fits t k h in
         let sum = raises t k h in
         omega (arith, sum, same, fits)
   ]
-    where
-      never : (b : Bool) → one_if (b && false) ≡ 0
-      never true = refl
-      never false = refl
 
   pub still_with : IsTeaching after
   still_with = record {
@@ -262,18 +261,8 @@ module _ (p : Problem) (rows : List (List Bool)) (spares : List (List ℕ)) (c s
 
   spare_given : (t k : ℕ) → k < length p.rooms → spare rest t k ≡ spare whole t k + one_if (is_lowered t k)
   spare_given t k h =
-      spare_new p rows spares c s false row line is.state.shaped range.1 range.0 is.written t k ∙ elim (cases_eq t s) [
-        | inl e ↦
-            ap (λ b. cond b (get_or line k 0) (spare whole t k)) (eq-eqb t s e) ∙ is.given k h
-            ∙ ap (λ i. get_or (get_or spares i []) k 0 + one_if (nat_le (level p c) k)) (sym e)
-            ∙ sym (ap (λ b. spare whole t k + one_if (b && nat_le (level p c) k)) (eq-eqb t s e))
-        | inr n ↦
-            ap (λ b. cond b (get_or line k 0) (spare whole t k)) (ne_eqb t s n) ∙ sym (plus_zero (spare whole t k))
-            ∙ sym (ap (λ b. spare whole t k + one_if (b && nat_le (level p c) k)) (ne_eqb t s n))
-      ]
-    where
-      plus_zero : (n : ℕ) → n + 0 ≡ n
-      plus_zero n = omega arith
+      spare_changed p rows spares c s false row line is.state.shaped range.1 range.0 is.written (λ n b. n + one_if b) (λ n. omega arith)
+      k (nat_le (level p c) k) (is.given k h) t
 
   pub keeps_most : KeepsMost whole rest
   keeps_most t k h =
@@ -310,24 +299,21 @@ line_fits p rows spares c s on state there on_is k h =
 -- what a slot may take is as before if it had spare
 module _ (old new : Teaching) (c s : ℕ) (some : HasSpare old c s) (raised_so : RaisesMost old new c s) where
   none_raised : (t k : ℕ) → k < length old.problem.rooms → ((t == s) && nat_le (level old.problem c) k && (spare old t k == 0)) ≡ false
-  none_raised t k h = elim (cases_eq t s) [
-    | inl e ↦ elim (cases_lt k (level old.problem c)) [
-      | inl lt ↦
-          ap (λ b. (t == s) && b && (spare old t k == 0)) (lt-leb (level old.problem c) k lt) ∙ between (t == s) (spare old t k == 0)
-      | inr le ↦
-          let there : 0 < spare old t k = subst (λ i. 0 < spare old i k) (sym e) (some k le h) in
-          and_right ((t == s) && nat_le (level old.problem c) k) (spare old t k == 0)
-          (ne_eqb (spare old t k) 0 (λ z. omega (arith, there, z)))
-    ]
-    | inr n ↦ ap (λ b. b && nat_le (level old.problem c) k && (spare old t k == 0)) (ne_eqb t s n)
-  ]
-    where
-      between : (a b : Bool) → (a && false && b) ≡ false
-      between true b = refl
-      between false b = refl
+  none_raised t k h =
+      let here = t == s in
+      let up = nat_le (level old.problem c) k in
+      elim (cases_eq t s) [
+        | inl e ↦ elim (cases_lt k (level old.problem c)) [
+          | inl lt ↦ and_left (here && up) (spare old t k == 0) (and_right here up (lt-leb (level old.problem c) k lt))
+          | inr le ↦
+              let there : 0 < spare old t k = subst (λ i. 0 < spare old i k) (sym e) (some k le h) in
+              and_right (here && up) (spare old t k == 0) (ne_eqb (spare old t k) 0 (λ z. omega (arith, there, z)))
+        ]
+        | inr n ↦ and_left (here && up) (spare old t k == 0) (and_left here up (ne_eqb t s n))
+      ]
 
   pub keeps-raised : KeepsMost old new
-  keeps-raised t k h = raised_so t k h ∙ ap (λ b. most old t k + one_if b) (none_raised t k h) ∙ plus_zero (most old t k)
-    where
-      plus_zero : (n : ℕ) → n + 0 ≡ n
-      plus_zero n = omega arith
+  keeps-raised t k h =
+      let sum = raised_so t k h in
+      let none = ap one_if (none_raised t k h) in
+      omega (arith, sum, none)

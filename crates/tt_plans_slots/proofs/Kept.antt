@@ -1,5 +1,5 @@
 -- The rules of periods after a course was added to a slot or removed from one.
-use Rattle.std.proofs.Common.{◌≡◌, ℕ, ◌/◌, ◌%◌, ◌<◌, Bool, true, false, ◌&&◌, ◌||◌, length, sym, ap, ◌∙◌, inl, inr, eqb-true}
+use Rattle.std.proofs.Common.{◌≡◌, ℕ, ◌/◌, ◌%◌, Bool, true, false, ◌&&◌, ◌||◌, sym, ap, ◌∙◌, inl, inr, eqb-true}
 use Rattle.std.specs.Prelude.{◌==◌}
 use Rattle.std.proofs.lemmas.Bool.{and_parts, both_ways, false_from_ne_true, or_cases}
 use Rattle.tt_instance.specs.Problem.{Problem}
@@ -17,9 +17,9 @@ module _ (p : Problem) (old new : ℕ → ℕ → Bool) (c s : ℕ) (kept : Keep
   -- a course that conflicts with none of a slot is added to it
   pub kept_with : KeepsPeriods p new
   kept_with = record {
-    apart = λ t a b ha hb ta tb. elim (or_cases (old t a) ((t == s) && (a == c)) (sym (adds t a) ∙ ta)) [
+    apart = λ t a b ta tb. elim (or_cases (old t a) ((t == s) && (a == c)) (sym (adds t a) ∙ ta)) [
       | inl a_old ↦ elim (or_cases (old t b) ((t == s) && (b == c)) (sym (adds t b) ∙ tb)) [
-        | inl b_old ↦ kept.apart t a b ha hb a_old b_old
+        | inl b_old ↦ kept.apart t a b a_old b_old
         | inr b_new ↦
             let e = and_parts (t == s) (b == c) b_new in
             let slot = eqb-true t s e.0 in
@@ -47,6 +47,6 @@ module _ (p : Problem) (old new : ℕ → ℕ → Bool) (c s : ℕ) (kept : Keep
 pub kept_without : (p : Problem) (old new : ℕ → ℕ → Bool) → KeepsPeriods p old → ((t d : ℕ) → new t d ≡ true → old t d ≡ true)
     → KeepsPeriods p new
 kept_without p old new kept fewer = record {
-  apart = λ t a b ha hb ta tb. kept.apart t a b ha hb (fewer t a ta) (fewer t b tb);
+  apart = λ t a b ta tb. kept.apart t a b (fewer t a ta) (fewer t b tb);
   available = λ t a ta. kept.available t a (fewer t a ta);
 }

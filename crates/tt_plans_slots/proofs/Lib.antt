@@ -2,7 +2,6 @@ pub mod Changes
 pub mod Counted
 pub mod Fewest
 pub mod Kept
-pub mod Stepping
 pub mod Untaught
 pub mod Words
 pub mod Written

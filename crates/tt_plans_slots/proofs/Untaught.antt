@@ -1,5 +1,5 @@
 -- States in which nothing is taught.
-use Rattle.std.proofs.Common.{◌≡◌, ℕ, ◌+◌, ◌^◌, ◌<◌, ◌≤◌, Bool, true, false, ◌&&◌, List, [], length, get_or, sym, ap, ◌∙◌, subst, inl, inr, arith}
+use Rattle.std.proofs.Common.{◌≡◌, ℕ, ◌+◌, ◌^◌, ◌<◌, Bool, false, ◌&&◌, List, [], length, get_or, ap, ◌∙◌, subst, inl, inr, arith}
 use Rattle.std.specs.Prelude.{nat_le}
 use Rattle.std.proofs.lemmas.Bool.{and_parts, both_ways, cases_lt}
 use Rattle.std.proofs.lemmas.List.{get_or_past, length-replicate}
@@ -53,7 +53,7 @@ module _ (p : Problem) (rows : List (List Bool)) (spares : List (List ℕ)) (emp
         levels = λ s h. (full.each s h).len;
       };
       kept = record {
-        apart = λ s c d hc hd e k. absurd (both_ways (taught here s c) (none s c) e);
+        apart = λ s c d e k. absurd (both_ways (taught here s c) (none s c) e);
         available = λ s c e. absurd (both_ways (taught here s c) (none s c) e);
       };
       few = few;

@@ -36,7 +36,7 @@ most v s k = taught_up_to v s k + spare v s k
 
 -- No two courses that conflict are taught in one slot, and no course is taught where it is unavailable.
 pub record KeepsPeriods (p : Problem) (teaches : ℕ → ℕ → Bool) : Type 0 where
-  pub apart : (s c d : ℕ) → c < length p.courses → d < length p.courses → teaches s c ≡ true → teaches s d ≡ true → conflict p c d ≡ false
+  pub apart : (s c d : ℕ) → teaches s c ≡ true → teaches s d ≡ true → conflict p c d ≡ false
   pub available : (s c : ℕ) → teaches s c ≡ true → unavailable p c (s / p.periods) (s % p.periods) ≡ false
 
 -- Course `c` may be taught in slot `s` besides those that are: it isn't yet, it isn't unavailable there, and it conflicts with none of them.

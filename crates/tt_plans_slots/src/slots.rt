@@ -1,6 +1,6 @@
 //! The courses of each slot.
 
-ghost use Rattle.std.specs.Prelude.{◌≡◌, ◌<◌, ◌/◌, ◌%◌, ◌↔◌, ℕ, IsTrue, length, slice_index, slice_index_or, IfOk};
+ghost use Rattle.std.specs.Prelude.{◌≡◌, ◌<◌, ◌≤◌, ◌/◌, ◌%◌, ◌↔◌, ℕ, IsTrue, length, slice_index, slice_index_or, IfOk};
 ghost use Rattle.std.specs.Bool.{OnTrue, OnFalse};
 ghost use Rattle.tt_bits.specs.Inner.Bits.{has_bit};
 ghost use Rattle.tt_plans_slots.specs.Teaching.{slot_count, taught, spare, KeepsPeriods, CanBeTaught, CanEnter, HasSpare, IsUntaught, AddsCourse, RemovesCourse, KeepsMost, RaisesMost};
@@ -178,6 +178,7 @@ impl<'a, 'i> Slots<'a, 'i> {
     /// is no such slot.
     pub fn taught_in(&self, slot: usize) -> &[u64]
         ensures bits { (c : ℕ) → has_bit (slice_index_or result.now (c / 64) 0) (c % 64) ≡ taught self.now slot c }
+        ensures none { slot_count self.now.problem ≤ slot → length result.now ≡ 0 }
         // The rules hold in every state.
         ensures kept { KeepsPeriods self.now.problem (taught self.now) }
     {
@@ -191,6 +192,7 @@ impl<'a, 'i> Slots<'a, 'i> {
     pub fn spare_in(&self, slot: usize) -> &[u32]
         ensures value { (k : ℕ) → slice_index result.now k ≡ spare self.now slot k }
         ensures len { slot < slot_count self.now.problem → length result.now ≡ length self.now.problem.rooms }
+        ensures none { slot_count self.now.problem ≤ slot → length result.now ≡ 0 }
     {
         match self.spares.get(slot) {
             Some(spare) => spare.as_slice(),

@@ -1,4 +1,4 @@
-use Rattle.std.proofs.Common.{subst, arith}
+use Rattle.std.proofs.Common.{arith}
 use Rattle.tt_plans_slots.proofs.Untaught.{empty_of, full_of, untaught, untaught_state}
 use Rattle.tt_plans_slots.proofs.slots.Slots.clear.Goals as goal
 

@@ -1,6 +1,5 @@
 use Rattle.std.proofs.Common.{◌≡◌, ◌*◌, arith}
 use Rattle.tt_plans_slots.specs.Teaching.{slot_count}
-use Rattle.tt_plans_slots.specs.Inner.Spares.{AreEmpty, AreFull}
 use Rattle.tt_plans_slots.proofs.Untaught.{empty_of, full_of, untaught, untaught_state}
 use Rattle.tt_plans_slots.proofs.slots.Slots.new.Goals as goal
 
