@@ -177,8 +177,11 @@ impl Days {
         self.found = self.found.saturating_add(1);
     }
 
-    /// Tries all ways to continue a day that can end cheaply enough.
+    /// Tries all ways to continue a day that can end cheaply enough, until there are too many.
     fn spell(&mut self, search: &Search<'_>, period: usize, left: usize, front: Front) {
+        if self.found > MOST_PATTERNS {
+            return;
+        }
         if left == 0 {
             self.keep(&front);
             return;
