@@ -44,7 +44,7 @@ fn advance(
     standing.best.keep(&standing.occupied);
 }
 
-/// Searches by annealing until it is at its end or the search is to end, and stores the best timetable on the way. Each move to it from the
+/// Searches by annealing until it is at its end, the cost is 0 or the search is to end, and stores the best timetable on the way. Each move to it from the
 /// first one is a draw. No memory is allocated.
 pub fn walk_by_annealing<W: Watch>(
     standing: &mut Standing<'_, '_>,
@@ -66,7 +66,7 @@ pub fn walk_by_annealing<W: Watch>(
         → LeadsWithin standing.old.occupied.problem first.now draws standing.new.best.entries.items }
 {
     for _ in 0..u64::MAX {
-        if annealing.is_over() || watch.is_over() {
+        if annealing.is_over() || watch.is_over() || standing.best.pair.cost == 0 {
             break;
         }
         advance(standing, first, annealing, draws);

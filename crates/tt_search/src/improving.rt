@@ -57,7 +57,7 @@ fn walk_phases<W: Watch>(
     walker: &mut Walker,
     is_settled: bool,
     draws: u64,
-    limit: u64,
+    span: Span,
     watch: &mut W,
 ) -> u64
     requires positive { 0 < length standing.old.occupied.entries }
@@ -81,11 +81,7 @@ fn walk_phases<W: Watch>(
         }
         let next = phase.draws(draws, made);
         let cooling = Cooling::new(*phase, next, samples, standing.best.pair.cost, entries);
-        let span = Span {
-            before: made,
-            limit,
-        };
-        walk_phase(standing, walker, cooling, next, span, watch);
+        walk_phase(standing, walker, cooling, next, span.after(made), watch);
         made += next;
     }
     made
@@ -141,7 +137,19 @@ fn annealed_steps(draws: u64, entries: usize) -> u64 {
     draws.isqrt().saturating_mul(ANNEALED).min(most)
 }
 
-/// Moves to the best timetable that annealing finds, and returns it.
+/// The number of steps of an annealing that take as long as a draw of a walk.
+const STEPS_OF_A_DRAW: u64 = 128;
+
+/// Returns how many of the draws are left for a walk after an annealing: it takes no longer, and the annealing may move each entry.
+fn draws_left(draws: u64, entries: usize) -> u64
+    ensures { result ≤ draws }
+{
+    let steps = annealed_steps(draws, entries);
+    let most = draws.saturating_sub(entries as u64).min(draws / 2);
+    most.min(steps / STEPS_OF_A_DRAW)
+}
+
+/// Moves to the best timetable that annealing finds, and returns it. At most `draws` moves are made.
 fn anneal_to_best<'a, 'i, W: Watch>(
     alloc: Global,
     occupied: Occupied<'a, 'i>,
@@ -156,7 +164,7 @@ fn anneal_to_best<'a, 'i, W: Watch>(
 {
     let mut standing = Standing::new(alloc, occupied)?;
     let first = Vec::from_slice(alloc, standing.occupied.table().entries())?;
-    let steps = annealed_steps(draws, first.len());
+    let steps = annealed_steps(limit / 2, first.len());
     let mut annealing = Annealing::new(alloc, &standing.occupied, seed, steps)?;
     let span = Span { before: 0, limit };
     walk_by_annealing(&mut standing, &first, &mut annealing, draws, span, watch);
@@ -164,8 +172,44 @@ fn anneal_to_best<'a, 'i, W: Watch>(
     Ok(standing.occupied)
 }
 
-/// Moves to the best timetable that this many drawn steps lead to, and returns it.
+/// Moves to the best timetable that this many drawn steps over entries lead to, and returns it.
 fn walk_to_best<'a, 'i, W: Watch>(
+    alloc: Global,
+    occupied: Occupied<'a, 'i>,
+    seed: u64,
+    draws: u64,
+    span: Span,
+    watch: &mut W,
+) -> Result<Occupied<'a, 'i>, AllocError>
+    ensures problem { IfOk result (λ o. o.problem ≡ occupied.entry.problem) }
+    ensures best { IfOk result (λ o. IsNoWorse occupied.entry.problem occupied.entry.entries o.entries) }
+    ensures reached { IfOk result (λ o. LeadsWithin occupied.entry.problem occupied.entry.entries draws o.entries) }
+{
+    if occupied.table().is_empty() {
+        return Ok(occupied);
+    }
+    let mut standing = Standing::new(alloc, occupied)?;
+    let mut walker = Walker::new(alloc, &standing.occupied, seed)?;
+    let mut replanner = Replanner::new(alloc, &standing.occupied)?;
+    walker.begin(&standing.occupied);
+    let is_settled = is_settled(&standing.occupied, &mut walker);
+    let made = walk_phases(&mut standing, &mut walker, is_settled, draws, span, watch);
+    let schedule = Schedule::new(draws - made, is_settled);
+    let rng = &mut walker.rng;
+    go_plans(
+        &mut standing,
+        &mut replanner,
+        rng,
+        schedule,
+        span.after(made),
+        watch,
+    );
+    Ok(standing.occupied)
+}
+
+/// Moves to the best timetable that this many drawn steps lead to, and returns it. Annealing knows no costs of seats, so a walk follows where
+/// seats lack.
+fn draw_to_best<'a, 'i, W: Watch>(
     alloc: Global,
     occupied: Occupied<'a, 'i>,
     seed: u64,
@@ -177,26 +221,26 @@ fn walk_to_best<'a, 'i, W: Watch>(
     ensures best { IfOk result (λ o. IsNoWorse occupied.entry.problem occupied.entry.entries o.entries) }
     ensures reached { IfOk result (λ o. LeadsWithin occupied.entry.problem occupied.entry.entries draws o.entries) }
 {
-    if occupied.table().is_empty() {
+    if !is_annealed(&occupied, draws) {
+        return walk_to_best(
+            alloc,
+            occupied,
+            seed,
+            draws,
+            Span { before: 0, limit },
+            watch,
+        );
+    }
+    let left = draws_left(draws, occupied.table().len());
+    let occupied = anneal_to_best(alloc, occupied, seed, draws - left, limit, watch)?;
+    if occupied.score().room_capacity == 0 {
         return Ok(occupied);
     }
-    if is_annealed(&occupied, draws) {
-        return anneal_to_best(alloc, occupied, seed, draws, limit, watch);
-    }
-    let mut standing = Standing::new(alloc, occupied)?;
-    let mut walker = Walker::new(alloc, &standing.occupied, seed)?;
-    let mut replanner = Replanner::new(alloc, &standing.occupied)?;
-    walker.begin(&standing.occupied);
-    let is_settled = is_settled(&standing.occupied, &mut walker);
-    let made = walk_phases(&mut standing, &mut walker, is_settled, draws, limit, watch);
-    let schedule = Schedule::new(draws - made, is_settled);
     let span = Span {
-        before: made,
+        before: draws,
         limit,
     };
-    let rng = &mut walker.rng;
-    go_plans(&mut standing, &mut replanner, rng, schedule, span, watch);
-    Ok(standing.occupied)
+    walk_to_best(alloc, occupied, seed, left, span, watch)
 }
 
 /// Searches for a better timetable with the same courses, from a seed and a number of steps: half of them are drawn, and make a walk
@@ -219,7 +263,7 @@ pub fn improve<W: Watch>(
     let Ok(occupied) = Occupied::new(alloc, instance, table) else {
         return Err(AllocError);
     };
-    let mut occupied = walk_to_best(alloc, occupied, seed, draws, steps, watch)?;
+    let mut occupied = draw_to_best(alloc, occupied, seed, draws, steps, watch)?;
     descend_in(&mut occupied, steps - draws);
     Ok(occupied.into_timetable())
 }

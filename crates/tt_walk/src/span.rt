@@ -16,6 +16,14 @@ pub struct Span {
 }
 
 impl Span {
+    /// Returns the position once this many more steps were made.
+    pub fn after(self, made: u64) -> Span {
+        Span {
+            before: self.before.saturating_add(made),
+            limit: self.limit,
+        }
+    }
+
     /// Reports a walk that has made this many steps, at intervals.
     pub fn show<W: Watch>(self, watch: &mut W, made: u64, best: &Best) {
         if made % STEPS_BETWEEN == 0 {
