@@ -1,6 +1,7 @@
 //! The checker of proofs, and the headline that it certifies.
 #![tactic(auto)]
 
+mod checker;
 mod fault;
 mod headline;
 mod laws;
@@ -10,6 +11,7 @@ mod stream;
 mod visitor;
 mod walk;
 
+pub use checker::ProofChecker;
 pub use fault::{CertifyFault, CheckFault, NodesFault, Verdict, stop_from_text};
 pub use headline::certify;
 pub use laws::{derived_bounds_hold, files_have_one_fault, proofs_have_one_fault};

@@ -19,8 +19,9 @@ ghost use Rattle.tt_proof_check.specs.Inner.Steps.{Steps, Stops};
 ghost use Rattle.tt_proof_check.specs.Inner.CheckedPart.{CheckedPart, Proved, ExplainsNodes, ExplainsChild};
 ghost use Rattle.tt_proof_check.specs.Streams.{stream_of, NodeFails, IsProved, IsProofFault};
 
+use crate::checker::ProofChecker;
 use crate::fault::{CheckFault, stop_from_text};
-use crate::root::start_path;
+use crate::root::restart;
 use crate::visitor::{NoVisitor, NodeVisitor};
 use crate::walk::{NodeStop, check_node};
 use std::alloc::Global;
@@ -90,6 +91,7 @@ fn check_tree<'i, P: Path<'i>, R: Source, L: NodeVisitor>(
         (CheckedPart (P.problem path.old) (P.facts path.old) reader.old.version reader.old.bound true Unvisited)) }
     ensures up_to_failed_read { result ≡ Err Stop.ReadFailed → UpToFailure reader.old.fed (R.remaining source.old) (R.remaining source.new)
         (λ s. NodeFails (P.problem path.old) (P.facts path.old) reader.old.version reader.old.bound s read_failed) }
+    ensures unchanged { P.problem path.new ≡ P.problem path.old }
 {
     let bound = reader.bound();
     let root = path.depth();
@@ -126,6 +128,7 @@ fn check_on_path<'i, P: Path<'i>, R: Source, L: NodeVisitor>(
         IfFault result (λ f. IsProofFault (P.problem path.old) (P.facts path.old) (stream_at fresh (R.remaining source.old)) f) }
     ensures up_to_failed_read { result ≡ Err Stop.ReadFailed →
         UpToFailure fresh (R.remaining source.old) (R.remaining source.new) (IsCutOff (P.problem path.old) (P.facts path.old)) }
+    ensures unchanged { P.problem path.new ≡ P.problem path.old }
 {
     let mut reader = match NodeReader::new(alloc, path.instance(), source) {
         Ok(reader) => reader,
@@ -158,27 +161,28 @@ fn deep_root<R: Source>(alloc: Global, instance: &Instance<'_>, source: &mut R) 
     deep_fault(&mut reader, source, 0)
 }
 
-/// Reads a proof and checks it with these facts at its root.
-fn check_on_root<R: Source, L: NodeVisitor>(
+/// Reads a proof and checks it with these facts at its root. It drops the facts that the path has, and leaves others on it.
+pub fn check_on_root<'i, P: Path<'i>, R: Source, L: NodeVisitor>(
     alloc: Global,
-    instance: &Instance<'_>,
+    path: &mut P,
     root: &[Fact],
     visitor: &mut L,
     source: &mut R,
 ) -> Result<Bound, Stop<CheckFault>>
     ensures known { StaysKnown (R.remaining source.old) (R.remaining source.new) }
-    ensures proved { IfOk result (λ b. Proved instance.now root.now (is_some (R.remaining source.old))
+    ensures proved { IfOk result (λ b. Proved (P.problem path.old) root.now (is_some (R.remaining source.old))
         (Visited L.visits 0 visitor.old visitor.new) (stream_at fresh (R.remaining source.old)) b) }
     ensures failed { R.has_failed source.new ≡ (if is_read_failed result then true else R.has_failed source.old) }
     ensures lower { IfFault result HoldsNoStop }
     ensures fault { is_some (R.remaining source.old) ≡ true →
-        IfFault result (λ f. IsProofFault instance.now root.now (stream_at fresh (R.remaining source.old)) f) }
+        IfFault result (λ f. IsProofFault (P.problem path.old) root.now (stream_at fresh (R.remaining source.old)) f) }
     ensures up_to_failed_read { result ≡ Err Stop.ReadFailed →
-        UpToFailure fresh (R.remaining source.old) (R.remaining source.new) (IsCutOff instance.now root.now) }
+        UpToFailure fresh (R.remaining source.old) (R.remaining source.new) (IsCutOff (P.problem path.old) root.now) }
+    ensures unchanged { P.problem path.new ≡ P.problem path.old }
 {
-    match start_path(alloc, instance, root) {
-        Ok(mut path) => check_on_path(alloc, &mut path, visitor, source),
-        Err(PathFault::TooDeep) => Err(deep_root(alloc, instance, source)),
+    match restart(path, root) {
+        Ok(()) => check_on_path(alloc, path, visitor, source),
+        Err(PathFault::TooDeep) => Err(deep_root(alloc, path.instance(), source)),
         Err(PathFault::OutOfMemory) => Err(Stop::OutOfMemory),
     }
 }
@@ -211,9 +215,8 @@ pub fn check_proof_on<R: Source, L: NodeVisitor>(
     ensures up_to_failed_read { result ≡ Err Stop.ReadFailed → (bytes : List ℕ) → R.remaining source.old ≡ Some bytes →
         IsCheckedUpToFailedRead instance.now root.now bytes (R.remaining source.new) }
 {
-    // Brings the instance's limits into the proof.
-    prove!(instance.days() > 0);
-    check_on_root(alloc, instance, root, visitor, source)
+    let mut checker = ProofChecker::new(instance);
+    checker.check(alloc, root, visitor, source)
 }
 
 /// Checks a proof as it is read, node by node, and returns the bound that it proves; the visitor visits each node. It stores no node.

@@ -19,13 +19,16 @@ use Rattle.tt_leaf.specs.declared.leaf.Bound.TheVariants.{AtLeast, Nothing}
 use Rattle.tt_proof_read.specs.Trees.{Tree, preorder}
 use Rattle.tt_proof_read.specs.declared.node.Node.{Node}
 use Rattle.tt_proof_check.proofs.Texts.{proved_faultless, spelled_once}
+use Rattle.tt_stop.specs.Stops.{OnFault}
+use Rattle.tt_stop.specs.declared.stop.Stop.{Stop}
+use Rattle.tt_stop.proofs.Stops.{OnFault-weaker}
 use Rattle.tt_proof_sum.specs.declared.fault.FileFault.{FileFault}
 use Rattle.tt_proof_sum.specs.declared.fault.FileFault.TheVariants.{Proof, Groups, Prices, ClaimedElsewhere, TargetClaimedElsewhere, TooLarge}
 use Rattle.tt_proof_sum.specs.declared.claimed.ClaimedTarget.{ClaimedTarget}
 use Rattle.tt_proof_sum.specs.declared.summed.Sum.{Sum}
 use Rattle.tt_text_peek.specs.declared.kind.FileKind.TheVariants as kind
 use Rattle.tt_prices_file.proofs.Once as prices
-use Rattle.tt_proof_sum.specs.Added.{IsPartOf, Joins, IsSumOf, Adds}
+use Rattle.tt_proof_sum.specs.Added.{IsPartOf, Joins, IsSumOf, Adds, problem_of}
 use Rattle.tt_proof_sum.specs.Faults.{points, all_points, AreSmall, IsLarge, IsSmall, IsClaimedElsewhere, IsTooLarge, IsTargetClaimedElsewhere, ExplainsAddedOn, IsUnfinished}
 use Rattle.tt_proof_sum.specs.Sums.{claimed_by, is_among, are_apart, TreePart, GroupsPart, PricesPart, Part, TreeProof, GroupsFile, PricesFile, IsTreePart, IsGroupsPart, IsPricesPart, IsPartOn, prices_targets, bound_of, claims_of, AreApart, both_bounds, sum_of}
 use Rattle.tt_proof_sum.specs.Tables.{State, claims_at}
@@ -103,10 +106,10 @@ small_more parts part before small n = elim (cases_lt n (length parts + 1)) [
 
 -- -- the sum after adding
 
-pub adds : (p : Problem) (root : List Fact) (remaining : Option (List ℕ)) (s : Sum) (parts : List Part) (a : State) (b total : Bound)
-    → IsSumOf s parts → Joins p root remaining parts a b → total ≡ both_bounds s.total b → IsSmall total
-    → Adds p root remaining parts (record { table = a; total = total })
-adds p root remaining s parts a b total of j e small = (
+pub adds : (p : Problem) (root : List Fact) (remaining : Option (List ℕ)) (s : Sum) (parts : List Part) (q : Problem) (a : State)
+    (b total : Bound) → IsSumOf s parts → Joins p root remaining parts a b → total ≡ both_bounds s.total b → IsSmall total
+    → Adds p root remaining parts (record { table = a; total = total; checker = q })
+adds p root remaining s parts q a b total of j e small = (
   j.part,
   j.is,
   record {
@@ -119,6 +122,20 @@ adds p root remaining s parts a b total of j e small = (
   where
     sum_is : both_bounds s.total b ≡ sum_of (parts ++ j.part ∷ [])
     sum_is = ap (λ x. both_bounds x b) of.total ∙ ap (both_bounds (sum_of parts)) (sym j.bound) ∙ sym (sum_of-push parts j.part)
+
+-- -- a sum over a known instance
+
+pub added_over : (p : Problem) (root : List Fact) (remaining : Option (List ℕ)) (s t : Sum) → problem_of s ≡ p
+    → ((parts : List Part) → IsSumOf s parts → Adds (problem_of s) root remaining parts t)
+    → (parts : List Part) → IsSumOf s parts → Adds p root remaining parts t
+added_over p root remaining s t e added parts of = subst (λ (q : Problem). Adds q root remaining parts t) e (added parts of)
+
+pub explained_over : (p : Problem) (root : List Fact) (remaining : Option (List ℕ)) (s : Sum) (x : Stop FileFault) → problem_of s ≡ p
+    → OnFault x (λ f. (parts : List Part) (bytes : List ℕ) → IsSumOf s parts → remaining ≡ Some bytes
+    → ExplainsAddedOn (problem_of s) root parts bytes f)
+    → OnFault x (λ f. (parts : List Part) (bytes : List ℕ) → IsSumOf s parts → remaining ≡ Some bytes → ExplainsAddedOn p root parts bytes f)
+explained_over p root remaining s x e tells = OnFault-weaker x _ _ (λ f explains parts bytes of known.
+    subst (λ (q : Problem). ExplainsAddedOn q root parts bytes f) e (explains parts bytes of known)) tells
 
 -- if the bytes are known, they spell the part
 pub spelled_part : (p : Problem) (root : List Fact) (remaining : Option (List ℕ)) (bytes : List ℕ) (k : Part) → remaining ≡ Some bytes

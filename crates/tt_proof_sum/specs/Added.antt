@@ -61,6 +61,10 @@ pub record IsSumOf (s : Sum) (parts : List Part) : Type 0 where
   pub total : s.total ≡ sum_of parts
   pub small : AreSmall parts
 
+-- The instance of a sum.
+abbrev pub problem_of : Sum → Problem
+problem_of s = s.checker
+
 -- The number of the next file, counted from 1.
 abbrev pub due : Sum → ℕ
 due s = s.table.proof + 1

@@ -48,10 +48,10 @@ pub fn sum_proofs_on<R: Peek>(
 {
     // Brings the instance's limits into the proof.
     prove!(instance.days() > 0);
-    let mut sum = Sum::new(alloc)?;
+    let mut sum = Sum::new(alloc, instance)?;
     for source in sources {
         let file = sum.due();
-        sum = match sum.add(alloc, instance, root, source) {
+        sum = match sum.add(alloc, root, source) {
             Ok(sum) => sum,
             Err(stop) => return Err(SumStop { file, stop }),
         };

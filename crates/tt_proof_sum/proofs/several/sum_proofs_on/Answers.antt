@@ -8,6 +8,7 @@ use Rattle.tt_leaf.specs.declared.leaf.Bound.{Bound}
 use Rattle.tt_proof_sum.specs.Added.{due}
 use Rattle.tt_proof_sum.specs.Faults.{read_failed_at}
 use Rattle.tt_proof_sum.specs.Sums.{IsSumOn}
+use Rattle.tt_proof_sum.proofs.Added.{added_over, explained_over}
 use Rattle.tt_proof_sum.proofs.FailedReads.{memory_read}
 use Rattle.tt_proof_sum.specs.declared.fault.FileFault.{FileFault}
 use Rattle.tt_proof_sum.specs.declared.fault.SumStop.{SumStop}
@@ -42,7 +43,9 @@ returns-in-Err-clause-fault g c =
     c.loop-source.source-index c.loop-source.sum (get_or c.loop-source.source-items c.loop-source.source-index c.source-item.result)
     c.due-file.result c.in-Err.stop c.loop-source-test.true
     (ap (get_or c.loop-source.source-items c.loop-source.source-index) c.source-item.is) c.loop-source.invariant.sofar
-    c.due-file.ensures c.in-Err.ensures.fault
+    c.due-file.ensures
+    (explained_over c.args.instance.now c.args.root.now (g.R.Source.remaining (get_or c.loop-source.source-items c.loop-source.source-index c.source-item.result))
+    c.loop-source.sum c.in-Err.stop c.loop-source.invariant.problem c.in-Err.ensures.fault)
 
 pub returns-in-Err-clause-only : goal.returns-in-Err-clause-only
 returns-in-Err-clause-only g c =
@@ -52,7 +55,9 @@ returns-in-Err-clause-only g c =
     (get_or c.loop-source.source-items c.loop-source.source-index c.source-item.result)
     c.due-file.result c.in-Err.stop c.loop-source-test.true
     (ap (get_or c.loop-source.source-items c.loop-source.source-index) c.source-item.is) c.loop-source.invariant.sofar
-    c.due-file.ensures c.in-Err.ensures.fault proofs given in
+    c.due-file.ensures
+    (explained_over c.args.instance.now c.args.root.now (g.R.Source.remaining (get_or c.loop-source.source-items c.loop-source.source-index c.source-item.result))
+    c.loop-source.sum c.in-Err.stop c.loop-source.invariant.problem c.in-Err.ensures.fault) proofs given in
     sum_unfinished c.args.instance.now c.args.root.now c.days.ensures.instance proofs s h within c.due-file.result c.in-Err.stop reported
 
 pub returns-in_err-sum-clause-later : goal.returns-in_err-sum-clause-later
@@ -109,7 +114,7 @@ returns-in-Err-clause-up_to_failed_read g c =
     c.loop-source.invariant.long (ap (get_or c.loop-source.source-items c.loop-source.source-index) c.source-item.is)
     c.loop-source.invariant.sofar i r q place before after in
     subst (λ x. IsFileCheckedUpToFailedReadOn c.args.instance.now c.args.root.now bytes (g.R.Source.remaining x)) (sym at.is)
-    (c.in-Err.ensures.up_to_failed_read (ap (λ (x : SumStop). Err x.stop) is) bytes
+    ((rw c.loop-source.invariant.problem at c.in-Err.ensures.up_to_failed_read) (ap (λ (x : SumStop). Err x.stop) is) bytes
     (ap g.R.Source.remaining at.was ∙ known))
 
 pub loop-source-preserved : goal.loop-source-preserved
@@ -120,7 +125,9 @@ loop-source-preserved g c = record {
       (get_or c.loop-source.source-items c.loop-source.source-index c.source-item.result) c.add.new.source
       c.loop-source-test.true c.loop-source.invariant.long
       (ap (get_or c.loop-source.source-items c.loop-source.source-index) c.source-item.is) c.loop-source.invariant.sofar
-      c.in-Ok.ensures.added c.in-Ok.ensures.failed;
+      (added_over c.args.instance.now c.args.root.now (g.R.Source.remaining (get_or c.loop-source.source-items c.loop-source.source-index c.source-item.result))
+      c.loop-source.sum c.in-Ok.sum c.loop-source.invariant.problem c.in-Ok.ensures.added) c.in-Ok.ensures.failed;
+  problem = c.in-Ok.ensures.unchanged ∙ c.loop-source.invariant.problem;
   long = simp length-set c.loop-source.invariant.long;
 }
 
