@@ -286,7 +286,8 @@ module _ (p : Problem) (rows : List (List Bool)) (spares : List (List ℕ)) (c s
 
 -- each number of the line of a slot in which a course is taught may grow by one
 pub line_fits : (p : Problem) (rows : List (List Bool)) (spares : List (List ℕ)) (c s : ℕ) (on : List ℕ)
-    → IsTeaching (teaching p rows spares) → taught (teaching p rows spares) s c ≡ true → on ≡ get_or spares s on → (k : ℕ) → k < length on → get_or on k 0 + 1 < 2 ^ 32
+    → IsTeaching (teaching p rows spares) → taught (teaching p rows spares) s c ≡ true → on ≡ get_or spares s on → (k : ℕ) → k < length on
+    → get_or on k 0 + 1 < 2 ^ 32
 line_fits p rows spares c s on state there on_is k h =
     let spares_len = state.shaped.spares in
     let slot = (in_range (teaching p rows spares) state.shaped s c there).0 in

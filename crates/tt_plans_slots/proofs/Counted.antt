@@ -42,7 +42,8 @@ module _ (f g q : ℕ → Bool) (n c : ℕ) (h : c < n) (absent : f c ≡ false)
 -- counts by tests that agree
 pub count_same : (f g q : ℕ → Bool) (n : ℕ) → ((d : ℕ) → g d ≡ f d) → count_by (λ d. g d && q d) (range_below n) ≡ count_by
     (λ d. f d && q d) (range_below n)
-count_same f g q n same = sum_by-same_below (λ d. one_if (g d && q d)) (λ d. one_if (f d && q d)) n (λ d l. ap (λ b. one_if (b && q d)) (same d))
+count_same f g q n same =
+    sum_by-same_below (λ d. one_if (g d && q d)) (λ d. one_if (f d && q d)) n (λ d l. ap (λ b. one_if (b && q d)) (same d))
 
 -- in a row that may be the one with another number
 pub count_grown_if : (f g q : ℕ → Bool) (n c : ℕ) (b : Bool) → c < n → (b ≡ true → f c ≡ false)

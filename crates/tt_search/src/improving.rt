@@ -243,10 +243,10 @@ fn draw_to_best<'a, 'i, W: Watch>(
     walk_to_best(alloc, occupied, seed, left, span, watch)
 }
 
-/// Searches for a better timetable with the same courses, from a seed and a number of steps: half of them are drawn, and make a walk
-/// near the best timetable so far, or lead to what annealing has found; the others descend from the best one. If the watch ends the search, fewer are drawn. The same seed gives
-/// the same result on every machine, unless the watch ends the search. The table is consumed even if memory runs out. It is not proved that
-/// the result is mostly better.
+/// Searches for a better timetable with the same courses, from a seed and a number of steps: half of them are drawn, and make a walk near the
+/// best timetable so far, or lead to what annealing has found; the others descend from the best one. If the watch ends the search, fewer are
+/// drawn. The same seed gives the same result on every machine, unless the watch ends the search. The table is consumed even if memory runs
+/// out. It is not proved that the result is mostly better.
 pub fn improve<W: Watch>(
     alloc: Global,
     instance: &Instance<'_>,

@@ -18,4 +18,5 @@ loop-place-preserved c =
     (not-true (list_any (has_bit c.both.result) bits) (sym c.is_empty.ensures ∙ c.if-not-is_empty.false)) c.loop-place.invariant
 
 pub returns-clause-none : goal.returns-clause-none
-returns-clause-none c = λ _ k e. apart_all c.args.words.now c.args.others.now c.loop-place.place c.loop-place-test.false c.loop-place.invariant k e
+returns-clause-none c = λ _ k e.
+    apart_all c.args.words.now c.args.others.now c.loop-place.place c.loop-place-test.false c.loop-place.invariant k e

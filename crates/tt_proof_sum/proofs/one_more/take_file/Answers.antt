@@ -78,7 +78,8 @@ returns-in-Ok-Prices-clause-up_to_failed_read g c =
     let next = keeps_known (g.R.Source.remaining c.args.source.now) (g.R.Source.remaining c.peek_kind.new.self) bytes here.bytes known in
     inr (inr (
       sym (here.kind bytes known) ∙ c.in-Ok-Prices.field-0-is,
-      subst (λ (p : Problem). HoldsOfGiven bytes (g.R.Source.remaining c.take_prices.new.source) (ArePricesCutOff p)) c.instance-in-Ok-Prices.ensures
+      subst (λ (p : Problem). HoldsOfGiven bytes (g.R.Source.remaining c.take_prices.new.source) (ArePricesCutOff p))
+          c.instance-in-Ok-Prices.ensures
           (c.take_prices.ensures.up_to_failed_read reported bytes next),
     ))
 

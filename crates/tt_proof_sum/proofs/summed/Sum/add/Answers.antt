@@ -26,7 +26,8 @@ pub returns-in-Some-clause-added : goal.returns-in-Some-clause-added
 returns-in-Some-clause-added g c =
     λ parts of.
     adds c.args.self.checker c.args.root.now (g.R.Source.remaining c.args.source.now) c.args.self parts
-    c.take_file.new.checker c.take_file.new.table c.in_ok-bound.bound c.in-Some.total of (c.in_ok-bound.ensures.joins parts of.table) c.in-Some.ensures.0 c.in-Some.ensures.1
+    c.take_file.new.checker c.take_file.new.table c.in_ok-bound.bound c.in-Some.total of (c.in_ok-bound.ensures.joins parts of.table)
+    c.in-Some.ensures.0 c.in-Some.ensures.1
 
 pub returns-clause-only : goal.returns-clause-only
 returns-clause-only g c =
