@@ -3,3 +3,4 @@ pub mod Exchanges
 pub mod Rests
 pub mod RoomsAndDays
 pub mod Rounds
+pub mod SlotWeights

@@ -8,6 +8,7 @@ ghost use Rattle.tt_tallies.specs.Weight.{hard_weight};
 ghost use Rattle.tt_moves.specs.Pricing.{IsCost};
 ghost use Rattle.tt_moves.specs.Inner.Rests.{IsRest};
 ghost use Rattle.tt_moves.specs.Inner.RoomsAndDays.{room_and_day_rise};
+ghost use Rattle.tt_moves.specs.Inner.SlotWeights.{slot_weight};
 ghost use Rattle.tt_instance.specs.declared.limit.TheConstants.{MAX_MIN_DAYS, MAX_SEATS, MAX_SLOTS};
 ghost use Rattle.tt_table.specs.declared.table.TheConstants.{MAX_ENTRIES};
 
@@ -63,6 +64,20 @@ impl WithoutEntry<'_, '_, '_> {
         }
     }
 
+    /// Returns the amount that an entry of the course left out adds to the hard count, whatever its room is.
+    pub fn slot_weight(&self, entry: Entry) -> u32
+        requires in_range { InRange self.now.occupied.now.problem entry }
+        requires course { entry.course ≡ self.now.gone.course }
+        requires rest { (u : List Cell) × IsRest self.now u }
+        ensures value { (u : List Cell) → IsRest self.now u
+            → result ≡ slot_weight self.now.occupied.now.problem u entry }
+        ensures at_most { result ≤ MAX_ENTRIES + 3 }
+    {
+        let instance = self.occupied.instance();
+        let barred = instance.unavailable(entry.course, entry.day, entry.period);
+        one_if(self.has_repeat(entry)) + self.against(entry) + one_if(barred)
+    }
+
     /// Returns the amount that an entry of the course left out adds to the hard count.
     pub fn hard_weight(&self, entry: Entry) -> u32
         requires in_range { InRange self.now.occupied.now.problem entry }
@@ -72,11 +87,6 @@ impl WithoutEntry<'_, '_, '_> {
             → result ≡ hard_weight self.now.occupied.now.problem u entry }
         ensures at_most { result ≤ MAX_ENTRIES + 4 }
     {
-        let instance = self.occupied.instance();
-        let barred = instance.unavailable(entry.course, entry.day, entry.period);
-        one_if(self.has_repeat(entry))
-            + self.against(entry)
-            + one_if(barred)
-            + one_if(self.has_shared_room(entry))
+        self.slot_weight(entry) + one_if(self.has_shared_room(entry))
     }
 }

@@ -17,7 +17,7 @@ swap_turned t i j apart =
     set_comm t i j (in_place_of (entry_at t i) (entry_at t j)) (in_place_of (entry_at t j) (entry_at t i)) apart
 
 pub settled_where_none : (o : Filled) → NoMove o → NoSwap o → IsSettled o.problem o.entries
-settled_where_none o moves swaps (Move e r d s) can low = moves e can.0 r can.1 d can.2 s can.3 low
+settled_where_none o moves swaps (Move e r d s) can low = moves e can.0 d can.2 s can.3 r can.1 low
 settled_where_none o moves swaps (Swap i j) can low = elim (cases_lt i j) [
   | inl before ↦ swaps i can.0 j before can.1 low
   | inr after ↦

@@ -9,7 +9,7 @@ use Rattle.tt_moves_descend.specs.Inner.Scan.{IsAtRest, NoMoveOf, NoSwapBy, NoSw
 use Rattle.tt_moves_descend.proofs.Settling.{swap_turned}
 
 pub no_move_at_rest : (e : ℕ) (o : Filled) → e < length o.entries → IsAtRest e o → NoMoveOf e o
-no_move_at_rest e o h rest r room d day s period =
+no_move_at_rest e o h rest d day s period r room =
     no_gain_by_move o.problem o.entries e r d s rest.in_range (h, room, day, period) rest.none rest.idle
 
 -- if each entry is at rest or has no Swap that lowers the pair, there is no such Swap

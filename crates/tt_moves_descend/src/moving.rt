@@ -1,29 +1,32 @@
-//! All Moves in turn: by entry, room, day and period.
+//! All Moves in turn: by entry, day, period and room.
 
 ghost use Rattle.std.specs.Prelude.{◌<◌, length, OnOk, OnErr};
 ghost use Rattle.tt_moves_descend.specs.Inner.Scan.{IsScan, IsSpent, NoMoveOn, NoMoveTo, NoMoveOf, NoMove};
 
 use crate::resting::is_at_rest;
 use crate::trying::{Spent, try_step};
-use tt_moves::Step;
+use tt_moves::{Step, is_worse_in};
 use tt_occupancy::Occupied;
 
-/// Tries the Moves of an entry to a room on a day, and makes each that lowers the pair.
-fn move_on(
+/// Tries the Moves of an entry to a slot, and makes each that lowers the pair.
+fn move_to(
     occupied: &mut Occupied<'_, '_>,
     entry: u32,
-    room: u32,
     day: u32,
+    period: u32,
     left: &mut u64,
 ) -> Result<(), Spent>
     requires entry { entry < length occupied.old.entries }
-    requires room { room < length occupied.old.problem.rooms }
     requires day { day < occupied.old.problem.days }
-    ensures ok { OnOk result (IsScan (NoMoveOn entry room day)
+    requires period { period < occupied.old.problem.periods }
+    ensures ok { OnOk result (IsScan (NoMoveTo entry day period)
         occupied.old occupied.new left.old left.new) }
     ensures err { OnErr result (IsSpent occupied.old occupied.new left.old) }
 {
-    for period in 0..occupied.instance().periods() {
+    if is_worse_in(occupied, entry, day, period) {
+        return Ok(());
+    }
+    for room in 0..occupied.instance().rooms() {
         let step = Step::Move {
             entry,
             room,
@@ -35,21 +38,21 @@ fn move_on(
     Ok(())
 }
 
-/// Tries the Moves of an entry to a room, and makes each that lowers the pair.
-fn move_to(
+/// Tries the Moves of an entry to a day, and makes each that lowers the pair.
+fn move_on(
     occupied: &mut Occupied<'_, '_>,
     entry: u32,
-    room: u32,
+    day: u32,
     left: &mut u64,
 ) -> Result<(), Spent>
     requires entry { entry < length occupied.old.entries }
-    requires room { room < length occupied.old.problem.rooms }
-    ensures ok { OnOk result (IsScan (NoMoveTo entry room)
+    requires day { day < occupied.old.problem.days }
+    ensures ok { OnOk result (IsScan (NoMoveOn entry day)
         occupied.old occupied.new left.old left.new) }
     ensures err { OnErr result (IsSpent occupied.old occupied.new left.old) }
 {
-    for day in 0..occupied.instance().days() {
-        move_on(occupied, entry, room, day, left)?;
+    for period in 0..occupied.instance().periods() {
+        move_to(occupied, entry, day, period, left)?;
     }
     Ok(())
 }
@@ -63,8 +66,8 @@ fn move_of(occupied: &mut Occupied<'_, '_>, entry: u32, left: &mut u64) -> Resul
     if is_at_rest(occupied, entry) {
         return Ok(());
     }
-    for room in 0..occupied.instance().rooms() {
-        move_to(occupied, entry, room, left)?;
+    for day in 0..occupied.instance().days() {
+        move_on(occupied, entry, day, left)?;
     }
     Ok(())
 }

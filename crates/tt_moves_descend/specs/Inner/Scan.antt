@@ -14,17 +14,17 @@ use Rattle.tt_moves_descend.specs.Descent.{Descends}
 abbrev pub Lowers : Filled → Step → Type 0
 Lowers o s = IsBelow o.problem (stepped o.entries s) o.entries
 
--- whether no Move of the entry to the room on the day lowers the pair
-abbrev pub NoMoveOn : ℕ → ℕ → ℕ → Filled → Type 0
-NoMoveOn e r d o = (s : ℕ) → s < o.problem.periods → ¬ Lowers o (Move e r d s)
+-- whether no Move of the entry to the slot lowers the pair, to any room
+abbrev pub NoMoveTo : ℕ → ℕ → ℕ → Filled → Type 0
+NoMoveTo e d s o = (r : ℕ) → r < length o.problem.rooms → ¬ Lowers o (Move e r d s)
 
--- whether no Move of the entry to the room lowers the pair
-abbrev pub NoMoveTo : ℕ → ℕ → Filled → Type 0
-NoMoveTo e r o = (d : ℕ) → d < o.problem.days → NoMoveOn e r d o
+-- whether no Move of the entry to the day lowers the pair
+abbrev pub NoMoveOn : ℕ → ℕ → Filled → Type 0
+NoMoveOn e d o = (s : ℕ) → s < o.problem.periods → NoMoveTo e d s o
 
 -- whether no Move of the entry lowers the pair
 abbrev pub NoMoveOf : ℕ → Filled → Type 0
-NoMoveOf e o = (r : ℕ) → r < length o.problem.rooms → NoMoveTo e r o
+NoMoveOf e o = (d : ℕ) → d < o.problem.days → NoMoveOn e d o
 
 -- whether no Move lowers the pair
 abbrev pub NoMove : Filled → Type 0

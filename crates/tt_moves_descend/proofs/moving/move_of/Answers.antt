@@ -1,24 +1,24 @@
-use Rattle.tt_moves_descend.specs.Inner.Scan.{NoMoveOf, NoMoveTo}
+use Rattle.tt_moves_descend.specs.Inner.Scan.{NoMoveOf, NoMoveOn}
 use Rattle.tt_moves_descend.proofs.Still.{no_move_at_rest}
 use Rattle.tt_moves_descend.proofs.Scans.{on_err, scan_begin, scan_next, scan_none, scan_spent}
 use Rattle.tt_moves_descend.proofs.moving.move_of.Goals as goal
 
-pub loop-room-init : goal.loop-room-init
-loop-room-init c = let a = c.args in scan_begin (NoMoveTo a.entry) a.occupied.now a.left.now
+pub loop-day-init : goal.loop-day-init
+loop-day-init c = let a = c.args in scan_begin (NoMoveOn a.entry) a.occupied.now a.left.now
 
-pub returns-in_err-move_to-clause-err : goal.returns-in_err-move_to-clause-err
-returns-in_err-move_to-clause-err c =
+pub returns-in_err-move_on-clause-err : goal.returns-in_err-move_on-clause-err
+returns-in_err-move_on-clause-err c =
     let a = c.args in
-    let l = c.loop-room in
+    let l = c.loop-day in
     on_err c.from_residual.result
-    (scan_spent _ a.occupied.now l.occupied a.left.now l.left l.invariant c.move_to.new.occupied c.in_err-move_to.ensures.err)
+    (scan_spent _ a.occupied.now l.occupied a.left.now l.left l.invariant c.move_on.new.occupied c.in_err-move_on.ensures.err)
 
-pub loop-room-preserved : goal.loop-room-preserved
-loop-room-preserved c =
+pub loop-day-preserved : goal.loop-day-preserved
+loop-day-preserved c =
     let a = c.args in
-    let l = c.loop-room in
-    scan_next (NoMoveTo a.entry) a.occupied.now l.occupied c.move_to.new.occupied l.room a.left.now l.left c.move_to.new.left l.invariant
-    (c.in_ok-move_to.ensures.ok)
+    let l = c.loop-day in
+    scan_next (NoMoveOn a.entry) a.occupied.now l.occupied c.move_on.new.occupied l.day a.left.now l.left c.move_on.new.left l.invariant
+    (c.in_ok-move_on.ensures.ok)
 
 pub returns-then-is_at_rest-clause-ok : goal.returns-then-is_at_rest-clause-ok
 returns-then-is_at_rest-clause-ok c =

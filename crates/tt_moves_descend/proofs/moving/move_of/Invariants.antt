@@ -1,7 +1,7 @@
 use Rattle.std.proofs.Common.{ℕ, ◌<◌}
-use Rattle.tt_moves_descend.specs.Inner.Scan.{NoMoveTo, IsScan}
+use Rattle.tt_moves_descend.specs.Inner.Scan.{NoMoveOn, IsScan}
 use Rattle.tt_moves_descend.proofs.moving.move_of.Given as goal
 
-abbrev pub invariant-loop-room : goal.invariant-loop-room
-invariant-loop-room l =
-    IsScan (λ o. (r : ℕ) → r < l.room → NoMoveTo l.entry r o) l.initial.occupied l.occupied l.initial.left l.left
+abbrev pub invariant-loop-day : goal.invariant-loop-day
+invariant-loop-day l =
+    IsScan (λ o. (d : ℕ) → d < l.day → NoMoveOn l.entry d o) l.initial.occupied l.occupied l.initial.left l.left

@@ -1,7 +1,8 @@
 use Rattle.std.proofs.Common.{ℕ, ◌<◌}
-use Rattle.tt_moves_descend.specs.Inner.Scan.{NoMoveOn, IsScan}
+use Rattle.tt_moves.specs.declared.step.Step.TheVariants.{Move}
+use Rattle.tt_moves_descend.specs.Inner.Scan.{Lowers, IsScan}
 use Rattle.tt_moves_descend.proofs.moving.move_to.Given as goal
 
-abbrev pub invariant-loop-day : goal.invariant-loop-day
-invariant-loop-day l =
-    IsScan (λ o. (d : ℕ) → d < l.day → NoMoveOn l.entry l.room d o) l.initial.occupied l.occupied l.initial.left l.left
+abbrev pub invariant-loop-room : goal.invariant-loop-room
+invariant-loop-room l =
+    IsScan (λ o. (r : ℕ) → r < l.room → ¬ Lowers o (Move l.entry r l.day l.period)) l.initial.occupied l.occupied l.initial.left l.left

@@ -1,0 +1,9 @@
+-- What an entry adds to the hard count in a slot, whatever its room is.
+use Rattle.std.specs.Prelude.{ℕ, ◌+◌, cond, List}
+use Rattle.tt_instance.specs.Problem.{Problem}
+use Rattle.tt_instance.specs.declared.cell.Cell.{Cell}
+use Rattle.tt_tallies.specs.Weight.{repeats, against, barred}
+
+-- the entry's violations of the hard rules next to the entries u, without a room that it shares
+abbrev pub slot_weight : Problem → List Cell → Cell → ℕ
+slot_weight p u x = cond (repeats u x) 1 0 + against p u x + cond (barred p x) 1 0
