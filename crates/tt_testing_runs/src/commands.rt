@@ -1,10 +1,9 @@
-//! The program on a disk in memory.
+//! The program over files in memory.
 
+use crate::memory_files::MemoryFiles;
 use std::alloc::Global;
-use std::rt::{Clock, Files};
 use std::test::Fail;
 use tt_cli::run;
-use tt_testing_files::{Disk, StoredFile};
 
 /// The status of a run, and its output.
 #[derive(Debug, Drop)]
@@ -21,12 +20,8 @@ impl Outcome {
     }
 }
 
-/// Runs the program on words, over a file system.
-pub fn run_on<F: Files + Clock + Input + Drop>(
-    alloc: Global,
-    words: &[&str],
-    files: F,
-) -> Result<Outcome, Fail> {
+/// Runs the program on words, over a memory.
+pub fn run_on(alloc: Global, words: &[&str], files: &MemoryFiles) -> Result<Outcome, Fail> {
     let mut owned = Vec::new(alloc);
     for word in words {
         owned.push(String::from_str(alloc, word)?)?;
@@ -41,31 +36,11 @@ pub fn run_on<F: Files + Clock + Input + Drop>(
     })
 }
 
-/// Runs the program on words, over files that can be read.
-pub fn run_with(alloc: Global, words: &[&str], files: &[StoredFile<'_>]) -> Result<Outcome, Fail> {
-    run_on(alloc, words, Disk { files })
-}
-
-/// Returns the outcome of `validate` for an instance and a solution.
-pub fn validated(alloc: Global, instance: &str, solution: &str) -> Result<Outcome, Fail> {
-    let files = [
-        StoredFile::new("a.ctt", instance.as_bytes()),
-        StoredFile::new("a.sol", solution.as_bytes()),
-    ];
-    run_with(alloc, &["validate", "a.ctt", "a.sol"], &files)
-}
-
-/// Returns the outcome of `check` for an instance, a solution and a proof.
-pub fn checked(
-    alloc: Global,
-    instance: &str,
-    solution: &str,
-    proof: &str,
-) -> Result<Outcome, Fail> {
-    let files = [
-        StoredFile::new("a.ctt", instance.as_bytes()),
-        StoredFile::new("a.sol", solution.as_bytes()),
-        StoredFile::new("a.proof", proof.as_bytes()),
-    ];
-    run_with(alloc, &["check", "a.ctt", "a.sol", "a.proof"], &files)
+/// Runs the program on words, over a memory that has files with these paths and bytes.
+pub fn run_with(alloc: Global, words: &[&str], files: &[(&str, &[u8])]) -> Result<Outcome, Fail> {
+    let memory = MemoryFiles::new(alloc);
+    for (path, bytes) in files {
+        memory.put(path, bytes)?;
+    }
+    run_on(alloc, words, &memory)
 }

@@ -53,6 +53,18 @@ pub const FLAT: &str =
 /// The lectures of Flat in both rooms; no single step improves this timetable.
 pub const FLAT_SOLUTION: &str = "x A 0 0\nx A 0 1\nx B 0 2\nx B 0 3\n";
 
+/// Five courses in a circle, of which neighbours conflict, in two periods.
+pub const CIRCLE: &str =
+    "Name: circle\nCourses: 5\nRooms: 3\nDays: 1\nPeriods_per_day: 2\nCurricula: 5\nConstraints: 0\n\nCOURSES:\na s 1 1 1\nb t 1 1 1\nc u 1 1 1\nd v 1 1 1\ne w 1 1 1\n\nROOMS:\nR 1\nS 1\nT 1\n\nCURRICULA:\nq 2 a b\nr 2 b c\ns 2 c d\nt 2 d e\nu 2 e a\n\nUNAVAILABILITY_CONSTRAINTS:\n\nEND.\n";
+
+/// Mini with a curriculum over two lines, two rooms in one line, and two unavailabilities.
+pub const LINES: &str =
+    "Name: Mini\nCourses: 2\nRooms: 3\nDays: 1\nPeriods_per_day: 3\nCurricula: 2\nConstraints: 2\n\nCOURSES:\na t1 1 1 10\nb t2 1 1 12\n\nROOMS:\nR 11 S 12\nT 9\n\nCURRICULA:\nq 2\na b\nr 1 a\n\nUNAVAILABILITY_CONSTRAINTS:\na 0 1\nb 0 2\n\nEND.\n";
+
+/// Two lectures that are to be on two days, each of two periods.
+pub const PAIR: &str =
+    "Name: Pair\nCourses: 1\nRooms: 1\nDays: 2\nPeriods_per_day: 2\nCurricula: 0\nConstraints: 0\n\nCOURSES:\na t 2 2 1\n\nROOMS:\nR 1\n\nCURRICULA:\n\nUNAVAILABILITY_CONSTRAINTS:\n\nEND.\n";
+
 /// Both lectures of Mini, each isolated.
 pub const MINI_SOLUTION: &str = "a R 0 0\nb R 0 2\n";
 
@@ -62,6 +74,32 @@ pub const GAP_PROOF: &str =
 
 /// A line that a test of memory prints before and after its call: between the two, hostile/run.py refuses allocations.
 pub const MARK: &str = "mark";
+
+/// Returns the sample with a name.
+pub fn sample(name: &str) -> Result<&'static str, Fail> {
+    let text = match name {
+        "MINI" => MINI,
+        "GAP" => GAP,
+        "LONG" => LONG,
+        "WIDE" => WIDE,
+        "APART" => APART,
+        "SAME" => SAME,
+        "SEATS" => SEATS,
+        "TRIO" => TRIO,
+        "TOUR" => TOUR,
+        "WIDE_SOLUTION" => WIDE_SOLUTION,
+        "CROWDED" => CROWDED,
+        "FLAT" => FLAT,
+        "FLAT_SOLUTION" => FLAT_SOLUTION,
+        "CIRCLE" => CIRCLE,
+        "LINES" => LINES,
+        "PAIR" => PAIR,
+        "MINI_SOLUTION" => MINI_SOLUTION,
+        "GAP_PROOF" => GAP_PROOF,
+        _ => return Err(Fail::new(format_args!("{name} is no sample"))),
+    };
+    Ok(text)
+}
 
 /// Returns a text in which the first occurrence of some words is replaced by others.
 pub fn edited(alloc: Global, text: &str, old: &str, new: &str) -> Result<String, Fail> {

@@ -1,70 +1,11 @@
-//! The results of `check`.
+//! The results of `check` for proofs whose reads end early or fail.
 
 use std::test::Fail;
 use tt_app::{AppFault, check};
-use tt_testing_runs::{checked, run_with};
-use tt_testing_samples::{MINI, WIDE, WIDE_SOLUTION, edited};
+use tt_testing_samples::{GAP, GAP_PROOF, MINI_SOLUTION, WIDE, WIDE_SOLUTION};
 use tt_text::{Pieces, Source};
 
 const WIDE_PROOF: &str = "CTTP 1 bound 5 B D c0 ; end";
-
-#[test]
-fn bounds_of_working_days(rt: HostRuntime) -> Result<(), Fail> {
-    for (proof, status, out, err) in [
-        (WIDE_PROOF, 0, "yes cost 5 bound 5 optimal\n", ""),
-        (
-            "CTTP 1 bound 05\nB\tD c00 ;\r\nend\n",
-            0,
-            "yes cost 5 bound 5 optimal\n",
-            "",
-        ),
-        ("CTTP 1 bound 4 B D c0 ; end", 0, "yes cost 5 bound 4\n", ""),
-        ("CTTP 1 bound 0 B ; end", 0, "yes cost 5 bound 0\n", ""),
-        (
-            "CTTP 1 bound 6 B D c0 ; end",
-            2,
-            "",
-            "refused: proof: TooCheap at node 0\n",
-        ),
-        (
-            "CTTP 1 bound 1 B ; end",
-            2,
-            "",
-            "refused: proof: TooCheap at node 0\n",
-        ),
-        (
-            "CTTP 1 bound none B D c0 ; end",
-            2,
-            "",
-            "refused: proof: NoBound at node 0\n",
-        ),
-    ] {
-        let outcome = checked(rt.alloc(), WIDE, WIDE_SOLUTION, proof)?;
-        assert_eq!(rt; outcome.answer(), (status, out, err), "with {proof}");
-    }
-    Ok(())
-}
-
-#[test]
-fn broken_hard_rules(rt: HostRuntime) -> Result<(), Fail> {
-    for (instance, proof, out) in [
-        (MINI, WIDE_PROOF, "broken hard 2 cost 10\n"),
-        (MINI, "no proof", "broken hard 2 cost 10\n"),
-        (WIDE, WIDE_PROOF, "broken hard 2 cost 15\n"),
-    ] {
-        let outcome = checked(rt.alloc(), instance, "", proof)?;
-        assert_eq!(rt; outcome.answer(), (1, out, ""));
-    }
-    Ok(())
-}
-
-#[test]
-fn nothing_is_read_after_the_end(rt: HostRuntime) -> Result<(), Fail> {
-    let longer = edited(rt.alloc(), WIDE, "END.\n", "END.\nx y\n")?;
-    let outcome = checked(rt.alloc(), &longer, WIDE_SOLUTION, "CTTP 1 bound 0 B ; end")?;
-    assert_eq!(rt; outcome.answer(), (0, "yes cost 5 bound 0\n", ""));
-    Ok(())
-}
 
 #[test]
 fn a_proof_of_a_broken_solution_is_not_read(rt: HostRuntime) -> Result<(), Fail> {
@@ -107,8 +48,27 @@ fn a_proof_in_pieces(rt: HostRuntime) -> Result<(), Fail> {
 }
 
 #[test]
-fn the_stored_proof(rt: HostRuntime) -> Result<(), Fail> {
-    let outcome = run_with(rt.alloc(), &[], &[])?;
-    assert_eq!(rt; outcome.answer(), (0, "yes cost 5 bound 5 optimal\n", ""));
+fn a_tree_in_pieces_of_each_size(rt: HostRuntime) -> Result<(), Fail> {
+    let solution = MINI_SOLUTION.as_bytes();
+    for size in 1..=GAP_PROOF.len() {
+        let mut proof = Pieces::new(GAP_PROOF.as_bytes(), size, 0);
+        let answer = check(rt.alloc(), GAP.as_bytes(), solution, &mut proof)?;
+        assert_eq!(rt;
+            answer.out.as_slice(),
+            b"yes cost 5 bound 5 optimal\n".as_slice()
+        );
+    }
+    Ok(())
+}
+
+#[test]
+fn each_read_of_a_tree_fails(rt: HostRuntime) -> Result<(), Fail> {
+    let solution = MINI_SOLUTION.as_bytes();
+    // One byte in each read; the last read finds the end.
+    for fail_at in 1..=125 {
+        let mut proof = Pieces::new(GAP_PROOF.as_bytes(), 1, fail_at);
+        let answer = check(rt.alloc(), GAP.as_bytes(), solution, &mut proof);
+        assert_eq!(rt; answer.err(), Some(AppFault::ReadFailed));
+    }
     Ok(())
 }

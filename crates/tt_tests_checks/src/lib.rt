@@ -1,4 +1,4 @@
-//! Tests of the checker and of refusals: worked examples, through the commands and the library's calls.
+//! Tests of the checker's calls, of reads that fail on the way, and of the texts of faults.
 #![tactic(auto)]
 
 #[cfg(test)]
@@ -6,8 +6,6 @@ mod checking;
 #[cfg(test)]
 mod faults;
 #[cfg(test)]
-mod prices;
+mod library;
 #[cfg(test)]
-mod refusing;
-#[cfg(test)]
-mod sums;
+mod nodes;

@@ -1,13 +1,10 @@
-//! Tests of `validate` and `upgrade`, of the files and the words of the command line, and of the library's calls.
+//! Tests of the commands that can't be scenarios of text: files of 64 MB, closed outputs, each cut of a proof, each limit of a search, and names
+//! whose letters don't show.
 #![tactic(auto)]
 
 #[cfg(test)]
 mod files;
 #[cfg(test)]
-mod keeping;
+mod names;
 #[cfg(test)]
-mod library;
-#[cfg(test)]
-mod upgrades;
-#[cfg(test)]
-mod validating;
+mod proofs;

@@ -1,17 +1,13 @@
-//! Tests of what the program shows about a timetable: reports, pages and changes, through the commands and the library's calls.
+//! Tests of what is shown about a timetable and why there is none, by the library's calls: texts, pages and reports over writers that stop.
 #![tactic(auto)]
 
 #[cfg(test)]
 mod buffers;
 #[cfg(test)]
-mod changed_pages;
-#[cfg(test)]
-mod changes;
+mod explaining;
 #[cfg(test)]
 mod pages;
 #[cfg(test)]
 mod reports;
-#[cfg(test)]
-mod sheets;
 #[cfg(test)]
 mod writers;
