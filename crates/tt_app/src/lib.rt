@@ -10,7 +10,7 @@ pub use tt_call_clash::{ClashingLines, find_clashing_lines};
 pub use tt_call_json::{inspect_json, validate_json};
 pub use tt_call_kept::{KeptFault, KeptFiles, check_kept, sum_kept};
 pub use tt_call_kept_page::{PageTexts, kept_page};
-pub use tt_call_names::{PageNames, UNNAMED};
+pub use tt_call_answers::{PageNames, UNNAMED};
 pub use tt_call_searches::{
     BestAnswer, BestSearch, Effort, ImproveSearch, PartsAnswer, TreeEffort, WatchBest, best,
     improve, parts, solve,

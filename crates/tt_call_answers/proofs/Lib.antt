@@ -1,4 +1,5 @@
 pub mod FailedReads
 pub mod Files
-pub mod Sums
+pub mod Fitting
 pub mod ReportedMemory
+pub mod Sums

@@ -1,4 +1,5 @@
 pub mod FaultMaps
 pub mod Lines
+pub mod Names
 pub mod Refusals
 pub mod Sums

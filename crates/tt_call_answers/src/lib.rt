@@ -3,6 +3,8 @@
 
 mod answer;
 mod fault;
+mod names;
 
 pub use answer::Answer;
 pub use fault::AppFault;
+pub use names::{PageNames, UNNAMED, labels_for};

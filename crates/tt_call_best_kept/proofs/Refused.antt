@@ -18,8 +18,8 @@ use Rattle.tt_page_text.specs.declared.fault.LabelsFault.{LabelsFault}
 use Rattle.tt_page_text.specs.declared.fault.LabelsFault.TheVariants as labels
 use Rattle.tt_call_answers.specs.FaultMaps.{fault_from_instance, fault_from_labels, fault_from_solution}
 use Rattle.tt_call_answers.specs.declared.fault.AppFault.TheVariants as app
-use Rattle.tt_call_names.specs.Names.{labels_for}
-use Rattle.tt_call_names.specs.declared.names.PageNames.{PageNames}
+use Rattle.tt_call_answers.specs.Names.{labels_for}
+use Rattle.tt_call_answers.specs.declared.names.PageNames.{PageNames}
 use Rattle.tt_call_searches.specs.Given.{FailsGiven, IsGiven, SpellsGiven}
 use Rattle.tt_call_kept.specs.Kept.{IsFileRefusal, SpellsKept, fault_from_wishes}
 use Rattle.tt_call_kept.specs.declared.fault.KeptFault.{KeptFault}

@@ -18,8 +18,8 @@ use Rattle.tt_page_text.specs.declared.fault.LabelsFault.TheVariants as labels
 use Rattle.tt_parts.specs.Found.{texts_of}
 use Rattle.tt_call_answers.specs.Lines.{best_line, none_line}
 use Rattle.tt_call_answers.specs.declared.fault.AppFault.TheVariants as app
-use Rattle.tt_call_names.specs.Names.{labels_for}
-use Rattle.tt_call_names.specs.declared.names.PageNames.{PageNames}
+use Rattle.tt_call_answers.specs.Names.{labels_for}
+use Rattle.tt_call_answers.specs.declared.names.PageNames.{PageNames}
 use Rattle.tt_call_searches.specs.Best.{ShowsPage}
 use Rattle.tt_call_searches.specs.Given.{FailsGiven, SpellsGiven}
 use Rattle.tt_call_searches.specs.declared.calls.best.BestAnswer.{BestAnswer}

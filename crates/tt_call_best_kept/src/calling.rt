@@ -9,7 +9,7 @@ use crate::answering::Answering;
 use crate::reading::{Read, read_kept, read_labels, read_start};
 use std::alloc::Global;
 use tt_call_kept::{KeptFault, KeptFiles};
-use tt_call_names::PageNames;
+use tt_call_answers::PageNames;
 use tt_call_searches::{BestAnswer, BestSearch, WatchBest};
 use tt_page::Look;
 use tt_wishes_best::{Rounds, Start, Wishing, find_best_kept};

@@ -25,7 +25,7 @@ use Rattle.tt_stop.specs.declared.stop.Stop.TheVariants.{Fault, ReadFailed, OutO
 use Rattle.tt_proof_sum.specs.Faults.{IsSumStop}
 use Rattle.tt_proof_sum.specs.declared.fault.FileFault.{FileFault}
 use Rattle.tt_proof_sum.specs.declared.fault.SumStop.{SumStop}
-use Rattle.tt_call_names.specs.Names.{labels_for}
+use Rattle.tt_call_answers.specs.Names.{labels_for}
 use Rattle.tt_call_answers.specs.FaultMaps.{fault_from_labels, fault_from_page, fault_at_file, fault_from_sum}
 use Rattle.tt_call_answers.specs.Refusals as refusals
 use Rattle.tt_call_answers.specs.declared.fault.AppFault.{AppFault}

@@ -19,7 +19,7 @@ use Rattle.tt_page_text.specs.declared.fault.LabelsFault.{LabelsFault}
 use Rattle.tt_page_text.specs.declared.fault.LabelsFault.TheVariants as labels
 use Rattle.tt_proof_check.specs.Verdicts.{FailsSolution}
 use Rattle.tt_call_changes.specs.Changed.{FailsOlder}
-use Rattle.tt_call_names.specs.Names.{labels_for}
+use Rattle.tt_call_answers.specs.Names.{labels_for}
 use Rattle.tt_call_answers.specs.Refusals as refusals
 use Rattle.tt_call_answers.specs.declared.fault.AppFault.{AppFault}
 use Rattle.tt_call_answers.specs.declared.fault.AppFault.TheVariants as app

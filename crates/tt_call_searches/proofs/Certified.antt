@@ -25,8 +25,8 @@ use Rattle.tt_best.specs.Weeks.{IsNoHigher, IsNoWorseThan}
 use Rattle.tt_call_searches.specs.Best.{BeginsWell, ShowsPage, CostsAtMost, CostsNoMore}
 use Rattle.tt_call_searches.specs.Given.{IsGiven}
 use Rattle.tt_call_searches.specs.declared.calls.best.BestAnswer.{BestAnswer}
-use Rattle.tt_call_names.specs.Names.{labels_for}
-use Rattle.tt_call_names.specs.declared.names.PageNames.{PageNames}
+use Rattle.tt_call_answers.specs.Names.{labels_for}
+use Rattle.tt_call_answers.specs.declared.names.PageNames.{PageNames}
 use Rattle.tt_call_answers.specs.Sums.{CertifiesSum}
 
 -- the solution and the proofs certify a cost and a bound, which holds for every feasible timetable, and the page shows them

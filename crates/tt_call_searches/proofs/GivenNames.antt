@@ -10,8 +10,8 @@ use Rattle.tt_page_text.specs.declared.fault.LabelsFault.TheVariants as labels
 use Rattle.tt_call_answers.specs.FaultMaps.{fault_from_labels}
 use Rattle.tt_call_answers.specs.declared.fault.AppFault.{AppFault}
 use Rattle.tt_call_answers.specs.declared.fault.AppFault.TheVariants as fault
-use Rattle.tt_call_names.specs.Names.{labels_for}
-use Rattle.tt_call_names.specs.declared.names.PageNames.{PageNames}
+use Rattle.tt_call_answers.specs.Names.{labels_for}
+use Rattle.tt_call_answers.specs.declared.names.PageNames.{PageNames}
 use Rattle.tt_call_searches.specs.Best.{IsBestRefusal}
 use Rattle.tt_call_searches.specs.Given.{IsGiven, IsGivenRefusal, SpellsGiven}
 use Rattle.tt_call_searches.proofs.Given.{tells_memory}

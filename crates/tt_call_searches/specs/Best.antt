@@ -27,8 +27,8 @@ use Rattle.tt_call_answers.specs.Lines.{best_line, none_line}
 use Rattle.tt_call_answers.specs.Sums.{CertifiesSum}
 use Rattle.tt_call_answers.specs.declared.fault.AppFault.{AppFault}
 use Rattle.tt_call_answers.specs.declared.fault.AppFault.TheVariants as fault
-use Rattle.tt_call_names.specs.Names.{labels_for}
-use Rattle.tt_call_names.specs.declared.names.PageNames.{PageNames}
+use Rattle.tt_call_answers.specs.Names.{labels_for}
+use Rattle.tt_call_answers.specs.declared.names.PageNames.{PageNames}
 use Rattle.tt_call_searches.specs.Given.{IsGivenRefusal, SpellsGiven}
 use Rattle.tt_call_searches.specs.declared.calls.best.BestAnswer.{BestAnswer}
 

@@ -31,8 +31,8 @@ use Rattle.tt_proof_sum.specs.declared.fault.FileFault.{FileFault}
 use Rattle.tt_proof_sum.specs.declared.fault.SumStop.{SumStop}
 use Rattle.tt_call_answers.specs.FaultMaps.{fault_from_labels, fault_from_page, fault_at_file, fault_from_sum}
 use Rattle.tt_call_answers.specs.Refusals.{IsUnwritten}
-use Rattle.tt_call_names.specs.Names.{labels_for}
-use Rattle.tt_call_names.specs.declared.names.PageNames.{PageNames}
+use Rattle.tt_call_answers.specs.Names.{labels_for}
+use Rattle.tt_call_answers.specs.declared.names.PageNames.{PageNames}
 use Rattle.tt_call_texts.specs.Paged.{IsBeforeProofs, IsNotPut, IsPageRefusal, IsProvedPageRefusal, has_weeks, unproved_text}
 use Rattle.tt_call_texts.specs.declared.calls.page.PageForm.{PageForm}
 use Rattle.tt_call_answers.specs.declared.fault.AppFault.{AppFault}

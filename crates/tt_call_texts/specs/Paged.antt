@@ -28,8 +28,8 @@ use Rattle.tt_proof_sum.specs.declared.fault.FileFault.{FileFault}
 use Rattle.tt_text.specs.Sinks.{TakesPart}
 use Rattle.tt_table.specs.Spelling.{SpellsBoth}
 use Rattle.tt_call_answers.specs.Refusals.{IsSilentRefusal}
-use Rattle.tt_call_names.specs.Names.{labels_for}
-use Rattle.tt_call_names.specs.declared.names.PageNames.{PageNames}
+use Rattle.tt_call_answers.specs.Names.{labels_for}
+use Rattle.tt_call_answers.specs.declared.names.PageNames.{PageNames}
 use Rattle.tt_call_texts.specs.declared.calls.page.PageForm.{PageForm}
 use Rattle.tt_call_answers.specs.declared.fault.AppFault.{AppFault}
 use Rattle.tt_call_answers.specs.declared.fault.AppFault.TheVariants as fault

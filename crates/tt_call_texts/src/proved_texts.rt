@@ -1,6 +1,6 @@
 //! What a page with a bound is made of.
 
-use tt_call_names::PageNames;
+use tt_call_answers::PageNames;
 
 /// What a page is made of besides the proofs of its bound.
 #[derive(Clone, Copy, Debug)]

@@ -6,8 +6,8 @@ use Rattle.tt_wishes.specs.Spelling.{AreWishes}
 use Rattle.tt_wishes_narrow.specs.Narrowed.{narrowed}
 use Rattle.tt_page_text.specs.declared.fault.LabelsFault.TheVariants as labels
 use Rattle.tt_call_answers.specs.declared.fault.AppFault.TheVariants as app
-use Rattle.tt_call_names.specs.Names.{labels_for}
-use Rattle.tt_call_names.specs.declared.names.PageNames.{PageNames}
+use Rattle.tt_call_answers.specs.Names.{labels_for}
+use Rattle.tt_call_answers.specs.declared.names.PageNames.{PageNames}
 use Rattle.tt_call_searches.specs.Given.{FailsGiven}
 use Rattle.tt_call_kept.specs.Kept.{SpellsKept}
 use Rattle.tt_call_kept.specs.declared.fault.KeptFault.{KeptFault}

@@ -9,7 +9,7 @@ use crate::calls::said::said_of;
 use crate::changed_texts::ChangedTexts;
 use crate::fault::ChangedPageFault;
 use std::alloc::Global;
-use tt_call_names::{PageNames, labels_for};
+use tt_call_answers::{PageNames, labels_for};
 use tt_changes::find_changes;
 use tt_instance_read::read_instance;
 use tt_page::{Look, Moves, Shown};

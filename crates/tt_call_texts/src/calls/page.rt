@@ -18,7 +18,7 @@ ghost use Rattle.tt_proof_sum.specs.Faults.{all_points};
 ghost use Rattle.tt_proof_sum.specs.Sums.{IsSum};
 ghost use Rattle.tt_table.specs.Spelling.{SpellsBoth};
 ghost use Rattle.tt_call_answers.specs.FaultMaps.{HoldsNoStop};
-ghost use Rattle.tt_call_names.specs.Names.{labels_for};
+ghost use Rattle.tt_call_answers.specs.Names.{labels_for};
 ghost use Rattle.tt_call_texts.specs.Paged.{IsBeforeProofs, IsNotPut, IsPaged, IsPageRefusal, IsProvedPaged, IsProvedPageRefusal, IsSilentOrNotPut, has_weeks, unproved_text};
 ghost use Rattle.tt_call_answers.specs.Refusals.{IsUnwritten, is_failed_write};
 ghost use Rattle.tt_call_answers.specs.Sums.{IsSpelledAndFileCheckedUpToFailedRead};
@@ -26,8 +26,7 @@ ghost use Rattle.tt_call_answers.specs.Refusals.{is_failed_read_at};
 
 use crate::proved_texts::ProvedTexts;
 use std::alloc::Global;
-use tt_call_answers::AppFault;
-use tt_call_names::{PageNames, labels_for};
+use tt_call_answers::{AppFault, PageNames, labels_for};
 use tt_instance::Instance;
 use tt_instance_read::read_instance;
 use tt_page::{Look, Proved, Sheet, Shown};

@@ -2,8 +2,8 @@ use Rattle.std.proofs.Common.{◌≡◌, ℕ, List, Ok, inl, arith}
 use Rattle.std.proofs.lemmas.Result.{IfOk-weaker}
 use Rattle.tt_instance.specs.Spelling.{Spells}
 use Rattle.tt_rules.specs.Score.{IsFeasible, cost}
-use Rattle.tt_call_names.specs.Names.{labels_for}
-use Rattle.tt_call_names.specs.declared.names.PageNames.{PageNames}
+use Rattle.tt_call_answers.specs.Names.{labels_for}
+use Rattle.tt_call_answers.specs.declared.names.PageNames.{PageNames}
 use Rattle.tt_call_searches.specs.Best.{IsBest, CostsAtMost}
 use Rattle.tt_call_searches.proofs.calls.best.answer_of.Goals as goal
 

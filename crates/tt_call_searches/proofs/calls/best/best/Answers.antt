@@ -1,7 +1,7 @@
 use Rattle.std.proofs.lemmas.Result.{err_from_is_err_and}
 use Rattle.std.specs.Option.{option_copied}
 use Rattle.tt_call_searches.proofs.Certified.{begins_well, costs_no_more}
-use Rattle.tt_call_names.proofs.Fitting.{names_memory}
+use Rattle.tt_call_answers.proofs.Fitting.{names_memory}
 use Rattle.tt_call_searches.proofs.Given.{tells_first, tells_given, tells_memory, given_memory, given_fits}
 use Rattle.tt_call_searches.proofs.GivenNames.{before_names, names_told}
 use Rattle.tt_call_searches.proofs.Searching.{read_memory}

@@ -14,7 +14,7 @@ use Rattle.tt_call_answers.proofs.ReportedMemory.{lower_sum, lower_instance, low
 use Rattle.tt_call_answers.proofs.FailedReads.{read_summed, passed, calm, unread, sum_read, instance_read_at, solution_read_at, labels_read_at, page_read_at, instance_write, solution_write, labels_write, sum_write, page_write}
 use Rattle.tt_call_answers.proofs.Sums.{sum_here, silent_refusal}
 use Rattle.tt_call_answers.proofs.Files.{tells_instance, tells_solution, only_memory}
-use Rattle.tt_call_names.proofs.Fitting.{names_memory}
+use Rattle.tt_call_answers.proofs.Fitting.{names_memory}
 use Rattle.tt_call_texts.proofs.Paging.{names_tell_proved, sum_tells_page, page_tells, page_same, proved_same, output_tells, page_after, page_unwritten}
 use Rattle.tt_call_texts.proofs.calls.page.proved_page.Goals as goal
 

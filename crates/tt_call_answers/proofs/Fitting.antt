@@ -10,8 +10,8 @@ use Rattle.tt_page_text.specs.declared.fault.LabelsFault.{LabelsFault}
 use Rattle.tt_page_text.specs.declared.fault.LabelsFault.TheVariants as labels
 use Rattle.tt_call_answers.specs.FaultMaps.{fault_from_labels}
 use Rattle.tt_call_answers.specs.declared.fault.AppFault.TheVariants as fault
-use Rattle.tt_call_names.specs.Names.{labels_for}
-use Rattle.tt_call_names.specs.declared.names.PageNames.{PageNames}
+use Rattle.tt_call_answers.specs.Names.{labels_for}
+use Rattle.tt_call_answers.specs.declared.names.PageNames.{PageNames}
 
 -- if the names fit the instance that the bytes spell, they are refused only for being out of memory
 pub names_memory : (i : List ℕ) (p read : Problem) (names : PageNames) (l : Labelled) (f : LabelsFault) → Spells i p → Spells i read

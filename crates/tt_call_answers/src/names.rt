@@ -1,7 +1,7 @@
 //! The names of the days and of the periods of a page, as a call is given them.
 
 ghost use Rattle.tt_page_text.specs.Labels.{Gives};
-ghost use Rattle.tt_call_names.specs.Names.{labels_for};
+ghost use Rattle.tt_call_answers.specs.Names.{labels_for};
 
 use std::alloc::Global;
 use tt_instance::Instance;

@@ -5,7 +5,7 @@ use Rattle.tt_instance.specs.Problem.{Problem}
 use Rattle.tt_page_text.specs.Labelled.{Labelled}
 use Rattle.tt_page_text.specs.Labels.{labels_of}
 use Rattle.tt_page_text.specs.declared.fault.LabelsFault.{LabelsFault}
-use Rattle.tt_call_names.specs.declared.names.PageNames.{PageNames}
+use Rattle.tt_call_answers.specs.declared.names.PageNames.{PageNames}
 
 -- the labels that the names spell for the instance's days and periods, or why they don't fit
 abbrev pub labels_for : Problem → PageNames → Result Labelled LabelsFault
