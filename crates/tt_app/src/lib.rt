@@ -3,7 +3,7 @@
 
 pub use tt_call_answers::{Answer, AppFault};
 pub use tt_call_best_kept::best_kept;
-pub use tt_call_changed_page::{ChangedForm, ChangedPageFault, ChangedTexts, changed_page};
+pub use tt_call_changes::{ChangedForm, ChangedPageFault, ChangedTexts, changed_page};
 pub use tt_call_changes::{ChangesFault, changes};
 pub use tt_call_checks::{bound, check, check_sum, sum, upgrade, validate};
 pub use tt_call_clash::{ClashingLines, find_clashing_lines};

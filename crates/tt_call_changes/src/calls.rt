@@ -1,3 +1,5 @@
 //! The calls, one file each.
 
+pub mod changed_page;
 pub mod changes;
+mod said;

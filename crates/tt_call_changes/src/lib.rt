@@ -3,6 +3,11 @@
 
 mod calls;
 mod fault;
+mod page_fault;
+mod page_texts;
 
+pub use calls::changed_page::{ChangedForm, changed_page};
 pub use calls::changes::changes;
 pub use fault::ChangesFault;
+pub use page_fault::ChangedPageFault;
+pub use page_texts::ChangedTexts;

@@ -23,10 +23,10 @@ use Rattle.tt_call_answers.specs.Names.{labels_for}
 use Rattle.tt_call_answers.specs.Refusals as refusals
 use Rattle.tt_call_answers.specs.declared.fault.AppFault.{AppFault}
 use Rattle.tt_call_answers.specs.declared.fault.AppFault.TheVariants as app
-use Rattle.tt_call_changed_page.specs.Said.{IsSaid, IsSumRefusal}
-use Rattle.tt_call_changed_page.specs.declared.calls.changed_page.ChangedForm.{ChangedForm}
-use Rattle.tt_call_changed_page.specs.declared.fault.ChangedPageFault.{ChangedPageFault}
-use Rattle.tt_call_changed_page.specs.declared.fault.ChangedPageFault.TheVariants as fault
+use Rattle.tt_call_changes.specs.Said.{IsSaid, IsSumRefusal}
+use Rattle.tt_call_changes.specs.declared.calls.changed_page.ChangedForm.{ChangedForm}
+use Rattle.tt_call_changes.specs.declared.page_fault.ChangedPageFault.{ChangedPageFault}
+use Rattle.tt_call_changes.specs.declared.page_fault.ChangedPageFault.TheVariants as fault
 
 -- The fault of a call for a fault of the older solution.
 abbrev pub fault_from_older : SolutionFault → ChangedPageFault

@@ -1,2 +1,0 @@
-pub mod ChangedPaged
-pub mod Said
