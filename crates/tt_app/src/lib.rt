@@ -6,7 +6,7 @@ pub use tt_call_best_kept::best_kept;
 pub use tt_call_changes::{ChangedForm, ChangedPageFault, ChangedTexts, changed_page};
 pub use tt_call_changes::{ChangesFault, changes};
 pub use tt_call_checks::{bound, check, check_sum, sum, upgrade, validate};
-pub use tt_call_clash::{ClashingLines, find_clashing_lines};
+pub use tt_call_wishes::{ClashingLines, find_clashing_lines};
 pub use tt_call_json::{inspect_json, validate_json};
 pub use tt_call_kept::{KeptFault, KeptFiles, check_kept, sum_kept};
 pub use tt_call_kept_page::{PageTexts, kept_page};

@@ -1,2 +1,3 @@
+mod ClashRefused
 pub mod Counted
 pub mod Refused

@@ -2,8 +2,7 @@
 
 use std::alloc::{AllocError, Global};
 use std::io::Write;
-use tt_call_clash::find_clashing_lines;
-use tt_call_wishes::ValidateFault;
+use tt_call_wishes::{ValidateFault, find_clashing_lines};
 
 /// Writes on standard error why no feasible timetable keeps all wishes, if a reason is found. A failed write has no effect, nor have files that are
 /// refused.

@@ -1,11 +1,11 @@
 //! The call `find_clashing_lines`.
 
 ghost use Rattle.std.specs.Prelude.{IfErr, IfOk, IsSome, IsNone};
-ghost use Rattle.tt_call_clash.specs.Clashing.{AreUnkept, HasNoReason, IsClashRefusal};
+ghost use Rattle.tt_call_wishes.specs.Clashing.{AreUnkept, HasNoReason, IsClashRefusal};
 
 use crate::lines::{ClashingLines, lines_of};
 use std::alloc::Global;
-use tt_call_wishes::ValidateFault;
+use crate::fault::ValidateFault;
 use tt_instance_read::read_instance;
 use tt_wishes::read_wishes;
 use tt_wishes_clash::find_clash;

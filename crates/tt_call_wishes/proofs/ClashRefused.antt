@@ -6,7 +6,7 @@ use Rattle.tt_wishes.specs.Reading.{wishes_of, Fails}
 use Rattle.tt_wishes.specs.declared.fault.WishesFault.{WishesFault}
 use Rattle.tt_wishes.specs.declared.fault.WishesFault.TheVariants as wishes
 use Rattle.tt_call_wishes.specs.Wished.{fault_from_wishes}
-use Rattle.tt_call_clash.specs.Clashing.{IsClashRefusal}
+use Rattle.tt_call_wishes.specs.Clashing.{IsClashRefusal}
 
 -- an error of the wishes is reported
 pub tells_wishes : (i w : List ℕ) (p : Problem) (f : WishesFault) → Spells i p → Fails f (wishes_of p w)

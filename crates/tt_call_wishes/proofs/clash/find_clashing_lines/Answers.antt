@@ -2,8 +2,8 @@ use Rattle.std.proofs.Common.{◌<◌, List, refl, subst}
 use Rattle.std.proofs.lemmas.Result.{err_from_is_err_and}
 use Rattle.tt_wishes.specs.Wishes.{broken_wishes}
 use Rattle.tt_wishes.specs.declared.wish.Wish.{Wish}
-use Rattle.tt_call_clash.proofs.Refused.{tells_wishes}
-use Rattle.tt_call_clash.proofs.clash.find_clashing_lines.Goals as goal
+use Rattle.tt_call_wishes.proofs.ClashRefused.{tells_wishes}
+use Rattle.tt_call_wishes.proofs.clash.find_clashing_lines.Goals as goal
 
 pub returns-in_err-listed-clause-fault : goal.returns-in_err-listed-clause-fault
 returns-in_err-listed-clause-fault c =
