@@ -19,5 +19,5 @@ pub use tt_call_solve_kept::solve_kept;
 pub use tt_call_texts::{
     PageForm, ProvedTexts, WeekTimes, calendar, inspect, page, proved_page, report, table,
 };
-pub use tt_call_wished::{WishedFault, WishedFiles, improve_under_wishes};
+pub use tt_call_wishes::{WishedFault, WishedFiles, improve_under_wishes};
 pub use tt_call_wishes::{ValidateFault, validate_wishes};

@@ -1,3 +1,4 @@
 mod ClashRefused
 pub mod Counted
 pub mod Refused
+mod Starting

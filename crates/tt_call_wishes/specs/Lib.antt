@@ -1,2 +1,3 @@
 pub mod Clashing
+pub mod Improved
 pub mod Wished

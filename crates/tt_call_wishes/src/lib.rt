@@ -4,9 +4,15 @@
 mod calls;
 mod clash;
 mod fault;
+mod improving;
+mod improving_answer;
+mod improving_fault;
 mod lines;
 
 pub use calls::validate_wishes::validate_wishes;
 pub use clash::find_clashing_lines;
 pub use fault::ValidateFault;
+pub use improving::{WishedFiles, improve_under_wishes};
+pub use improving_fault::WishedFault;
 pub use lines::ClashingLines;
+pub use tt_wishes_search::{Search, Stay};

@@ -6,7 +6,7 @@ use std::alloc::Global;
 use std::io::Write;
 use tt_call_answers::Answer;
 use tt_call_searches::{ImproveSearch, improve};
-use tt_call_wished::{Search as WishedSearch, WishedFiles, improve_under_wishes};
+use tt_call_wishes::{Search as WishedSearch, WishedFiles, improve_under_wishes};
 use tt_cli_arguments::{ImproveRequest, Search};
 use tt_cli_files::{Batch, Role};
 use tt_cli_progress::{Ticker, World, ticker_of};

@@ -1,6 +1,6 @@
 use Rattle.std.proofs.lemmas.Result.{err_from_is_err_and}
 use Rattle.tt_call_wishes.proofs.Refused.{tells_instance, tells_solution, tells_wishes}
-use Rattle.tt_call_wished.proofs.improving.improve_under_wishes.Goals as goal
+use Rattle.tt_call_wishes.proofs.improving.improve_under_wishes.Goals as goal
 
 pub returns-in_err-instance-clause-fault : goal.returns-in_err-instance-clause-fault
 returns-in_err-instance-clause-fault g c =

@@ -3,7 +3,7 @@
 ghost use Rattle.std.specs.Prelude.{◌≡◌, IfOk};
 ghost use Rattle.tt_text.specs.Lines.{line_text};
 ghost use Rattle.tt_table.specs.Table.{IsTimetable};
-ghost use Rattle.tt_call_wished.specs.Improved.{IsWishedTable, wished_line};
+ghost use Rattle.tt_call_wishes.specs.Improved.{IsWishedTable, wished_line};
 
 use std::alloc::{AllocError, Global};
 use tt_call_answers::Answer;

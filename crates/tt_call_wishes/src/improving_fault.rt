@@ -2,7 +2,7 @@
 
 use std::alloc::AllocError;
 use thiserror::Error;
-use tt_call_wishes::ValidateFault;
+use crate::fault::ValidateFault;
 use tt_instance_read::InstanceFault;
 use tt_search_complete::CompleteFault;
 use tt_table::SolutionFault;
@@ -19,7 +19,7 @@ pub enum WishedFault {
 
 impl From<ValidateFault> for WishedFault {
     ghost use Rattle.std.specs.Prelude.{◌≡◌};
-    ghost use Rattle.tt_call_wished.specs.declared.fault.WishedFault.TheVariants as fault;
+    ghost use Rattle.tt_call_wishes.specs.declared.improving_fault.WishedFault.TheVariants as fault;
 
     ghost from_gives = { λ f e. e ≡ fault.Files f };
 
@@ -31,7 +31,7 @@ impl From<ValidateFault> for WishedFault {
 impl From<AllocError> for WishedFault {
     ghost use Rattle.std.specs.Prelude.{◌≡◌};
     ghost use Rattle.tt_call_wishes.specs.declared.fault.ValidateFault.TheVariants as files;
-    ghost use Rattle.tt_call_wished.specs.declared.fault.WishedFault.TheVariants as fault;
+    ghost use Rattle.tt_call_wishes.specs.declared.improving_fault.WishedFault.TheVariants as fault;
 
     ghost from_gives = { λ _ e. e ≡ fault.Files files.OutOfMemory };
 
@@ -43,7 +43,7 @@ impl From<AllocError> for WishedFault {
 impl From<InstanceFault> for WishedFault {
     ghost use Rattle.std.specs.Prelude.{◌≡◌};
     ghost use Rattle.tt_call_wishes.specs.Wished.{fault_from_instance};
-    ghost use Rattle.tt_call_wished.specs.declared.fault.WishedFault.TheVariants as fault;
+    ghost use Rattle.tt_call_wishes.specs.declared.improving_fault.WishedFault.TheVariants as fault;
 
     ghost from_gives = { λ f e. e ≡ fault.Files (fault_from_instance f) };
 
@@ -55,7 +55,7 @@ impl From<InstanceFault> for WishedFault {
 impl From<SolutionFault> for WishedFault {
     ghost use Rattle.std.specs.Prelude.{◌≡◌};
     ghost use Rattle.tt_call_wishes.specs.Wished.{fault_from_solution};
-    ghost use Rattle.tt_call_wished.specs.declared.fault.WishedFault.TheVariants as fault;
+    ghost use Rattle.tt_call_wishes.specs.declared.improving_fault.WishedFault.TheVariants as fault;
 
     ghost from_gives = { λ f e. e ≡ fault.Files (fault_from_solution f) };
 
@@ -67,7 +67,7 @@ impl From<SolutionFault> for WishedFault {
 impl From<WishesFault> for WishedFault {
     ghost use Rattle.std.specs.Prelude.{◌≡◌};
     ghost use Rattle.tt_call_wishes.specs.Wished.{fault_from_wishes};
-    ghost use Rattle.tt_call_wished.specs.declared.fault.WishedFault.TheVariants as fault;
+    ghost use Rattle.tt_call_wishes.specs.declared.improving_fault.WishedFault.TheVariants as fault;
 
     ghost from_gives = { λ f e. e ≡ fault.Files (fault_from_wishes f) };
 
@@ -78,7 +78,7 @@ impl From<WishesFault> for WishedFault {
 
 impl From<CompleteFault> for WishedFault {
     ghost use Rattle.std.specs.Prelude.{◌≡◌};
-    ghost use Rattle.tt_call_wished.specs.Improved.{fault_from_complete};
+    ghost use Rattle.tt_call_wishes.specs.Improved.{fault_from_complete};
 
     ghost from_gives = { λ f e. e ≡ fault_from_complete f };
 

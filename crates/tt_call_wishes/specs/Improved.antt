@@ -18,9 +18,9 @@ use Rattle.tt_wishes_search.specs.declared.weight.WishedWeight.{WishedWeight}
 use Rattle.tt_call_answers.specs.declared.answer.Answer.{Answer}
 use Rattle.tt_call_wishes.specs.Wished.{IsWishesRefusal}
 use Rattle.tt_call_wishes.specs.declared.fault.ValidateFault.TheVariants as files
-use Rattle.tt_call_wished.specs.declared.fault.WishedFault.{WishedFault}
-use Rattle.tt_call_wished.specs.declared.fault.WishedFault.TheVariants as fault
-use Rattle.tt_call_wished.specs.declared.improving.WishedFiles.{WishedFiles}
+use Rattle.tt_call_wishes.specs.declared.improving_fault.WishedFault.{WishedFault}
+use Rattle.tt_call_wishes.specs.declared.improving_fault.WishedFault.TheVariants as fault
+use Rattle.tt_call_wishes.specs.declared.improving.WishedFiles.{WishedFiles}
 
 -- The line of a weight: its counts, each after its name.
 abbrev pub wished_line : WishedWeight → List Piece

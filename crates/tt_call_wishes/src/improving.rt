@@ -2,10 +2,10 @@
 
 ghost use Rattle.std.specs.Prelude.{IfErr, IfOk};
 ghost use Rattle.tt_table.specs.Table.{IsTimetable};
-ghost use Rattle.tt_call_wished.specs.Improved.{IsImprovedWished, IsStartFault, IsWishedRefusal, StartsFrom};
+ghost use Rattle.tt_call_wishes.specs.Improved.{IsImprovedWished, IsStartFault, IsWishedRefusal, StartsFrom};
 
-use crate::answer::wished_answer;
-use crate::fault::WishedFault;
+use crate::improving_answer::wished_answer;
+use crate::improving_fault::WishedFault;
 use std::alloc::Global;
 use tt_call_answers::Answer;
 use tt_instance::Instance;

@@ -2,10 +2,10 @@
 use Rattle.tt_search_complete.specs.declared.fault.CompleteFault.{CompleteFault}
 use Rattle.tt_search_complete.specs.declared.fault.CompleteFault.TheVariants as completion
 use Rattle.tt_call_wishes.specs.declared.fault.ValidateFault.TheVariants as files
-use Rattle.tt_call_wished.specs.Improved.{IsStartFault, IsWishedRefusal, fault_from_complete}
-use Rattle.tt_call_wished.specs.declared.fault.WishedFault.{WishedFault}
-use Rattle.tt_call_wished.specs.declared.fault.WishedFault.TheVariants as fault
-use Rattle.tt_call_wished.specs.declared.improving.WishedFiles.{WishedFiles}
+use Rattle.tt_call_wishes.specs.Improved.{IsStartFault, IsWishedRefusal, fault_from_complete}
+use Rattle.tt_call_wishes.specs.declared.improving_fault.WishedFault.{WishedFault}
+use Rattle.tt_call_wishes.specs.declared.improving_fault.WishedFault.TheVariants as fault
+use Rattle.tt_call_wishes.specs.declared.improving.WishedFiles.{WishedFiles}
 
 -- a solution that can't be completed
 pub start_fault : (e : CompleteFault) → IsStartFault (fault_from_complete e)
