@@ -9,7 +9,7 @@ pub use tt_call_checks::{bound, check, check_sum, sum, upgrade, validate};
 pub use tt_call_wishes::{ClashingLines, find_clashing_lines};
 pub use tt_call_json::{inspect_json, validate_json};
 pub use tt_call_kept::{KeptFault, KeptFiles, check_kept, sum_kept};
-pub use tt_call_kept_page::{PageTexts, kept_page};
+pub use tt_call_texts::{PageTexts, kept_page};
 pub use tt_call_answers::{PageNames, UNNAMED};
 pub use tt_call_searches::{
     BestAnswer, BestSearch, Effort, ImproveSearch, PartsAnswer, TreeEffort, WatchBest, best,

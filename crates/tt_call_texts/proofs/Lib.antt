@@ -1,2 +1,3 @@
 pub mod Dating
+pub mod KeptTelling
 pub mod Paging

@@ -1,4 +1,5 @@
 pub mod Exported
 pub mod Inspected
+pub mod KeptPaged
 pub mod Paged
 pub mod Reported

@@ -2,6 +2,7 @@
 #![tactic(auto)]
 
 mod calls;
+mod paging;
 mod proved_texts;
 
 pub use calls::calendar::{WeekTimes, calendar};
@@ -9,4 +10,5 @@ pub use calls::inspect::inspect;
 pub use calls::page::{PageForm, page, proved_page};
 pub use calls::report::report;
 pub use calls::table::table;
+pub use paging::{PageTexts, kept_page};
 pub use proved_texts::ProvedTexts;

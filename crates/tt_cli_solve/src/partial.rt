@@ -3,9 +3,8 @@
 use std::alloc::{AllocError, Global};
 use std::io::Write;
 use tt_call_answers::{Answer, AppFault, UNNAMED};
-use tt_call_kept_page::{PageTexts, kept_page};
+use tt_call_texts::{PageTexts, ProvedTexts, kept_page, proved_page};
 use tt_call_solve_kept::KeptFiles;
-use tt_call_texts::{ProvedTexts, proved_page};
 use tt_cli_files::{Batch, Role};
 use tt_cli_progress::World;
 use tt_cli_proofs::Given;

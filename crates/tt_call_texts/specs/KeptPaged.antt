@@ -13,7 +13,7 @@ use Rattle.tt_call_kept.specs.Kept.{FailsSum, FailsWishes, HoldsOfKept, IsSumKep
 use Rattle.tt_call_kept.specs.declared.fault.KeptFault.{KeptFault}
 use Rattle.tt_call_kept.specs.declared.fault.KeptFault.TheVariants as fault
 use Rattle.tt_call_texts.specs.Paged.{FailsNames, IsPutPartlyWith, IsPutWith, IsTooLargeWith, proved_text}
-use Rattle.tt_call_kept_page.specs.declared.paging.PageTexts.{PageTexts}
+use Rattle.tt_call_texts.specs.declared.paging.PageTexts.{PageTexts}
 
 -- The page was written with the bound that the proofs derive together under the wishes, and it holds of the timetables that keep them.
 pub record IsKeptPaged (a : PageTexts) (gives : List (List ℕ) → Type 0) (before after : Option (List ℕ)) (status : ℕ) : Type 0 where

@@ -39,8 +39,8 @@ use Rattle.tt_call_answers.specs.FaultMaps.{fault_at_file, fault_from_instance, 
 use Rattle.tt_call_kept.specs.Kept.{IsSumKept, fault_from_wishes}
 use Rattle.tt_call_kept.specs.declared.fault.KeptFault.TheVariants as fault
 use Rattle.tt_call_answers.specs.Names.{labels_for}
-use Rattle.tt_call_kept_page.specs.Paged.{IsKeptPageRefusal}
-use Rattle.tt_call_kept_page.specs.declared.paging.PageTexts.{PageTexts}
+use Rattle.tt_call_texts.specs.KeptPaged.{IsKeptPageRefusal}
+use Rattle.tt_call_texts.specs.declared.paging.PageTexts.{PageTexts}
 
 -- an instance that wishes narrow is the one that another reading of the bytes gives
 pub narrowed_there : (i : List ℕ) (p q n : Problem) (ws : List Wish) → Spells i p → Spells i q → n ≡ narrowed q ws → n ≡ narrowed p ws

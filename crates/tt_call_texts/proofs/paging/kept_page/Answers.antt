@@ -13,8 +13,8 @@ use Rattle.tt_page.specs.Proofs.{IsProvedOf}
 use Rattle.tt_page.specs.declared.proved.Proved.{Proved}
 use Rattle.tt_page.proofs.Kept.{proved_of_kept}
 use Rattle.tt_call_kept.proofs.Summed.{made_holds, made_stop, made_sum}
-use Rattle.tt_call_kept_page.proofs.Telling.{narrowed_there, tells_instance, tells_names, tells_output, tells_solution, tells_sum, tells_wishes}
-use Rattle.tt_call_kept_page.proofs.paging.kept_page.Goals as goal
+use Rattle.tt_call_texts.proofs.KeptTelling.{narrowed_there, tells_instance, tells_names, tells_output, tells_solution, tells_sum, tells_wishes}
+use Rattle.tt_call_texts.proofs.paging.kept_page.Goals as goal
 
 pub returns-in_err-instance-clause-fault : goal.returns-in_err-instance-clause-fault
 returns-in_err-instance-clause-fault g c =

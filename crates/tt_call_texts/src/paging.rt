@@ -2,7 +2,7 @@
 
 ghost use Rattle.std.specs.Prelude.{IfOk, IfErr};
 ghost use Rattle.tt_proof_sum.specs.Added.{Give};
-ghost use Rattle.tt_call_kept_page.specs.Paged.{IsKeptPaged, IsKeptPageRefusal};
+ghost use Rattle.tt_call_texts.specs.KeptPaged.{IsKeptPaged, IsKeptPageRefusal};
 
 use std::alloc::Global;
 use tt_call_kept::{KeptFault, KeptFiles};
