@@ -7,7 +7,7 @@ pub use tt_call_changes::{ChangedForm, ChangedPageFault, ChangedTexts, changed_p
 pub use tt_call_changes::{ChangesFault, changes};
 pub use tt_call_checks::{bound, check, check_sum, sum, upgrade, validate};
 pub use tt_call_wishes::{ClashingLines, find_clashing_lines};
-pub use tt_call_json::{inspect_json, validate_json};
+pub use tt_call_texts::{inspect_json, validate_json};
 pub use tt_call_kept::{KeptFault, KeptFiles, check_kept, sum_kept};
 pub use tt_call_texts::{PageTexts, kept_page};
 pub use tt_call_answers::{PageNames, UNNAMED};

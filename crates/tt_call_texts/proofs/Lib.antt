@@ -1,3 +1,5 @@
 pub mod Dating
 pub mod KeptTelling
 pub mod Paging
+mod Refused
+mod Retold

@@ -1,7 +1,6 @@
 //! The files of `inspect`.
 
-use tt_call_json::inspect_json;
-use tt_call_texts::inspect;
+use tt_call_texts::{inspect, inspect_json};
 use tt_cli_arguments::InspectRequest;
 use tt_cli_progress::World;
 use tt_cli_saving::{CommandFault, Input, Inputs, Reply};

@@ -2,7 +2,7 @@
 
 use std::io::Write;
 use tt_call_checks::validate;
-use tt_call_json::validate_json;
+use tt_call_texts::validate_json;
 use tt_call_wishes::validate_wishes;
 use tt_cli_arguments::ValidateRequest;
 use tt_cli_progress::World;

@@ -1,8 +1,8 @@
 use Rattle.std.proofs.Common.{◌≡◌, IfOk, subst}
 use Rattle.serde_json.specs.Data.{Data}
 use Rattle.serde_json.specs.View.{view}
-use Rattle.tt_call_json.specs.Counts.{counts_with}
-use Rattle.tt_call_json.proofs.counts.counts_value.Goals as goal
+use Rattle.tt_call_texts.specs.Counts.{counts_with}
+use Rattle.tt_call_texts.proofs.counts.counts_value.Goals as goal
 
 pub returns : goal.returns
 returns c =

@@ -8,7 +8,7 @@ use crate::lines::line_of;
 use serde_json::{Value, json};
 use std::alloc::{AllocError, Global};
 use tt_call_answers::{Answer, AppFault};
-use tt_call_texts::inspect;
+use crate::calls::inspect::inspect;
 
 /// How a line of each kind begins, and the kind.
 const FRONTS: [(&str, &str); 3] = [

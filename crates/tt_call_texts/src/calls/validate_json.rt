@@ -2,7 +2,7 @@
 
 ghost use Rattle.std.specs.Prelude.{IfOk, IfErr, option_map};
 ghost use Rattle.tt_table.specs.Table.{IsTimetable};
-ghost use Rattle.tt_call_json.specs.Counts.{AreBroken, FailsGiven, IsCounted, IsCountsAnswer, IsCountsRefusal};
+ghost use Rattle.tt_call_texts.specs.Counts.{AreBroken, FailsGiven, IsCounted, IsCountsAnswer, IsCountsRefusal};
 
 use crate::counts::counts_value;
 use crate::lines::line_of;

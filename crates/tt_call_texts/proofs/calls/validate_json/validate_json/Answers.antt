@@ -1,7 +1,7 @@
 use Rattle.std.specs.Prelude.{option_map}
 use Rattle.std.proofs.lemmas.Result.{err_from_is_err_and}
-use Rattle.tt_call_json.proofs.Refused.{tells_solution, tells_wishes}
-use Rattle.tt_call_json.proofs.calls.validate_json.validate_json.Goals as goal
+use Rattle.tt_call_texts.proofs.Refused.{tells_solution, tells_wishes}
+use Rattle.tt_call_texts.proofs.calls.validate_json.validate_json.Goals as goal
 
 pub returns-in_err-table-clause-fault : goal.returns-in_err-table-clause-fault
 returns-in_err-table-clause-fault c =

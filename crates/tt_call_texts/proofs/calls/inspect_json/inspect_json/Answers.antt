@@ -1,6 +1,6 @@
 use Rattle.std.proofs.Common.{refl}
-use Rattle.tt_call_json.proofs.Retold.{retold_given}
-use Rattle.tt_call_json.proofs.calls.inspect_json.inspect_json.Goals as goal
+use Rattle.tt_call_texts.proofs.Retold.{retold_given}
+use Rattle.tt_call_texts.proofs.calls.inspect_json.inspect_json.Goals as goal
 
 pub returns-clause-status : goal.returns-clause-status
 returns-clause-status c =

@@ -10,7 +10,7 @@ use Rattle.tt_table.specs.declared.fault.SolutionFault.TheVariants as solution
 use Rattle.tt_wishes.specs.declared.fault.WishesFault.{WishesFault}
 use Rattle.tt_wishes.specs.declared.fault.WishesFault.TheVariants as wishes
 use Rattle.tt_call_wishes.specs.Wished.{fault_from_solution, fault_from_wishes}
-use Rattle.tt_call_json.specs.Counts.{FailsGiven, IsCountsRefusal}
+use Rattle.tt_call_texts.specs.Counts.{FailsGiven, IsCountsRefusal}
 
 -- an error of the solution is reported
 pub tells_solution : (i s : List ℕ) (w : Option (List ℕ)) (p : Problem) (f : SolutionFault) → Spells i p

@@ -4,7 +4,7 @@ ghost use Rattle.std.specs.Prelude.{◌≤◌, IfOk};
 ghost use Rattle.serde_json.specs.Data.{depth};
 ghost use Rattle.serde_json.specs.Read.{max_depth};
 ghost use Rattle.serde_json.specs.View.{view};
-ghost use Rattle.tt_call_json.specs.Lines.{IsLineOf};
+ghost use Rattle.tt_call_texts.specs.Lines.{IsLineOf};
 
 use serde_json::Value;
 use std::alloc::{AllocError, Global};

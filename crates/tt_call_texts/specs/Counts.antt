@@ -16,7 +16,7 @@ use Rattle.tt_call_answers.specs.declared.answer.Answer.{Answer}
 use Rattle.tt_call_wishes.specs.Wished.{FailsTable, FailsWishes}
 use Rattle.tt_call_wishes.specs.declared.fault.ValidateFault.{ValidateFault}
 use Rattle.tt_call_wishes.specs.declared.fault.ValidateFault.TheVariants as fault
-use Rattle.tt_call_json.specs.Lines.{IsLineOf}
+use Rattle.tt_call_texts.specs.Lines.{IsLineOf}
 
 -- A count.
 abbrev pub count : ℕ → Data

@@ -2,7 +2,7 @@
 
 ghost use Rattle.std.specs.Prelude.{◌≡◌, IfOk};
 ghost use Rattle.serde_json.specs.View.{view};
-ghost use Rattle.tt_call_json.specs.Counts.{counts_object, counts_with, wishes_data};
+ghost use Rattle.tt_call_texts.specs.Counts.{counts_object, counts_with, wishes_data};
 
 use serde_json::{Value, json};
 use std::alloc::{AllocError, Global};

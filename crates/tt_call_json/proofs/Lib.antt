@@ -1,2 +1,0 @@
-mod Refused
-mod Retold

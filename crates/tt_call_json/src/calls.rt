@@ -1,4 +1,0 @@
-//! The calls, one file each.
-
-pub mod inspect_json;
-pub mod validate_json;
