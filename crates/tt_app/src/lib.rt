@@ -15,7 +15,7 @@ pub use tt_call_searches::{
     BestAnswer, BestSearch, Effort, ImproveSearch, PartsAnswer, TreeEffort, WatchBest, best,
     improve, parts, solve,
 };
-pub use tt_call_solve_kept::solve_kept;
+pub use tt_call_best_kept::solve_kept;
 pub use tt_call_texts::{
     PageForm, ProvedTexts, WeekTimes, calendar, inspect, page, proved_page, report, table,
 };

@@ -1,3 +1,4 @@
+pub mod Answering
 pub mod Keeping
 pub mod Narrowings
 pub mod Refused

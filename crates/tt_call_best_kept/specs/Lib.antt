@@ -1,2 +1,3 @@
 pub mod BestKept
 pub mod Inner
+pub mod SolvedKept

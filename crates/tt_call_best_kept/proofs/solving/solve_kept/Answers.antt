@@ -1,8 +1,8 @@
 use Rattle.std.proofs.Common.{refl}
 use Rattle.std.proofs.lemmas.Result.{err_from_is_err_and}
 use Rattle.tt_call_best_kept.proofs.Narrowings.{narrowing}
-use Rattle.tt_call_solve_kept.proofs.Answering.{tells_files}
-use Rattle.tt_call_solve_kept.proofs.calling.solve_kept.Goals as goal
+use Rattle.tt_call_best_kept.proofs.Answering.{tells_files}
+use Rattle.tt_call_best_kept.proofs.solving.solve_kept.Goals as goal
 
 pub returns-in_err-instance-clause-fault : goal.returns-in_err-instance-clause-fault
 returns-in_err-instance-clause-fault g c =

@@ -1,8 +1,8 @@
 use Rattle.std.specs.Prelude.{min}
 use Rattle.tt_wishes_best.specs.declared.limit.TheConstants.{MAX_KEPT}
 use Rattle.tt_call_best_kept.proofs.Keeping.{kept_holds}
-use Rattle.tt_call_solve_kept.proofs.Answering.{outcome_there, over_long, proof_given}
-use Rattle.tt_call_solve_kept.proofs.searching.search_kept.Goals as goal
+use Rattle.tt_call_best_kept.proofs.Answering.{outcome_there, over_long, proof_given}
+use Rattle.tt_call_best_kept.proofs.searching.search_kept.Goals as goal
 
 pub returns-in_default-clause-fault : goal.returns-in_default-clause-fault
 returns-in_default-clause-fault g c =

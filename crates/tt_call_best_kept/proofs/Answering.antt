@@ -19,7 +19,7 @@ use Rattle.tt_call_kept.specs.declared.fault.KeptFault.TheVariants as fault
 use Rattle.tt_call_kept.specs.declared.files.KeptFiles.{KeptFiles}
 use Rattle.tt_wishes_best.specs.Kept.{IsNarrowing}
 use Rattle.tt_wishes_best.specs.declared.wishing.Wishing.{Wishing}
-use Rattle.tt_call_solve_kept.specs.SolvedKept.{IsKeptTable, IsSolveKeptRefusal}
+use Rattle.tt_call_best_kept.specs.SolvedKept.{IsKeptTable, IsSolveKeptRefusal}
 
 -- a timetable that is kept is one of the instance
 pub kept_fits : (p : Problem) (ws : List Wish) (t : List Cell) (kept : Option (List Cell)) → IsTimetable p t → IsKeptTable p ws t kept

@@ -5,7 +5,7 @@ use Rattle.tt_wishes.specs.declared.wish.Wish.{Wish}
 use Rattle.tt_call_answers.specs.declared.fault.AppFault.TheVariants as app
 use Rattle.tt_call_kept.specs.declared.fault.KeptFault.{KeptFault}
 use Rattle.tt_call_kept.specs.declared.fault.KeptFault.TheVariants as fault
-use Rattle.tt_call_solve_kept.specs.SolvedKept.{IsTooLargeOf}
+use Rattle.tt_call_best_kept.specs.SolvedKept.{IsTooLargeOf}
 
 -- Memory ran out, or the proof is too large.
 abbrev pub IsStop : Problem → List Wish → ℕ → Type 0 → KeptFault → Type 0

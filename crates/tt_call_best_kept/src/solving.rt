@@ -3,12 +3,12 @@
 ghost use Rattle.std.specs.Prelude.{◌≤◌, min, IfOk, IfErr};
 ghost use Rattle.tt_branch.specs.declared.limit.TheConstants.{MAX_OPENED};
 ghost use Rattle.tt_wishes_best.specs.declared.limit.TheConstants.{MAX_KEPT};
-ghost use Rattle.tt_call_solve_kept.specs.SolvedKept.{IsSolvedKept, IsSolveKeptRefusal};
+ghost use Rattle.tt_call_best_kept.specs.SolvedKept.{IsSolvedKept, IsSolveKeptRefusal};
 
 use crate::searching::search_kept;
 use std::alloc::Global;
 use tt_call_answers::Answer;
-use tt_call_best_kept::{Read, read_kept};
+use crate::reading::{Read, read_kept};
 use tt_call_kept::{KeptFault, KeptFiles};
 use tt_call_searches::TreeEffort;
 use tt_watch::Watch;

@@ -4,11 +4,11 @@ ghost use Rattle.std.specs.Prelude.{◌≡◌, ◌++◌, length, IfOk, IfSome, S
 ghost use Rattle.tt_table.specs.Table.{IsTimetable};
 ghost use Rattle.tt_call_answers.specs.Lines.{solve_line};
 ghost use Rattle.tt_call_kept.specs.Kept.{kept_line};
-ghost use Rattle.tt_call_solve_kept.specs.SolvedKept.{IsKeptTable, IsShown};
+ghost use Rattle.tt_call_best_kept.specs.SolvedKept.{IsKeptTable, IsShown};
 
 use std::alloc::{AllocError, Global};
 use tt_call_answers::Answer;
-use tt_call_best_kept::{breaks_nothing, put_wishes};
+use crate::answer::{breaks_nothing, put_wishes};
 use tt_call_searches::line_of;
 use tt_leaf::Bound;
 use tt_table::{Timetable, write_solution};

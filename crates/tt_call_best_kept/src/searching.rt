@@ -4,10 +4,10 @@ ghost use Rattle.std.specs.Prelude.{◌≤◌, min, IfOk, IfErr};
 ghost use Rattle.tt_branch.specs.declared.limit.TheConstants.{MAX_OPENED};
 ghost use Rattle.tt_wishes_best.specs.Kept.{IsNarrowing};
 ghost use Rattle.tt_wishes_best.specs.declared.limit.TheConstants.{MAX_KEPT};
-ghost use Rattle.tt_call_solve_kept.specs.Inner.Stops.{IsStop};
-ghost use Rattle.tt_call_solve_kept.specs.SolvedKept.{IsSolvedKeptOf};
+ghost use Rattle.tt_call_best_kept.specs.Inner.Stops.{IsStop};
+ghost use Rattle.tt_call_best_kept.specs.SolvedKept.{IsSolvedKeptOf};
 
-use crate::answer::answer_of;
+use crate::solve_answer::answer_of;
 use std::alloc::Global;
 use tt_call_answers::{Answer, AppFault};
 use tt_call_kept::KeptFault;
