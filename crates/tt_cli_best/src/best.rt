@@ -11,7 +11,7 @@ use tt_call_searches::{BestAnswer, BestSearch, best};
 use tt_cli_arguments::BestRequest;
 use tt_cli_files::Batch;
 use tt_cli_progress::{Ticker, World, ticker_of};
-use tt_cli_proofs::{GROUPS, Given, PRICES, kept_table};
+use tt_cli_searches::{GROUPS, Given, PRICES, kept_table};
 use tt_cli_saving::{
     CommandFault, Folder, Input, InputFile, Inputs, Keeper, Prepared, Reply, WISHES_LINE,
     read_if_given, reply_with,

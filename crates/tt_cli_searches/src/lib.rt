@@ -3,7 +3,17 @@
 
 mod commands;
 mod dropping;
+mod given;
+mod kept_reasons;
 mod near;
+mod proof_files;
+mod reasons;
+mod saving;
+mod tree_files;
 
 pub use commands::improve::answer_improve;
 pub use commands::parts::answer_parts;
+pub use given::Given;
+pub use proof_files::{GROUPS, PRICES, ProofFolder};
+pub use saving::kept_table;
+pub use tree_files::{TreeFile, TreeShelf};

@@ -10,7 +10,7 @@ use tt_call_wishes::{Search as WishedSearch, WishedFiles, improve_under_wishes};
 use tt_cli_arguments::{ImproveRequest, Search};
 use tt_cli_files::{Batch, Role};
 use tt_cli_progress::{Ticker, World, ticker_of};
-use tt_cli_proofs::kept_table;
+use crate::saving::kept_table;
 use tt_cli_saving::{
     CommandFault, Input, Inputs, Keeper, NoShelf, Prepared, Reply, Target, read_if_given,
     reply_with, show_clash,
