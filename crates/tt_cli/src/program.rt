@@ -11,8 +11,7 @@ use tt_cli_checks::{
 use tt_cli_files::{Printed, Rescued, StandardStream, Unwritten, Whereabouts, WriteFault};
 use tt_cli_progress::World;
 use tt_cli_saving::{CommandFault, Reply};
-use tt_cli_searches::{answer_improve, answer_parts};
-use tt_cli_solve::answer_solve;
+use tt_cli_searches::{answer_improve, answer_parts, answer_solve};
 
 /// The exit status of a refusal.
 const REFUSED: u8 = 2;

@@ -9,7 +9,9 @@ use tt_call_best_kept::{KeptFiles, solve_kept};
 use tt_cli_arguments::{MAX_SOLVE_NODES, SolveRequest, TreeSearch};
 use tt_cli_files::{Batch, Ready, Role};
 use tt_cli_progress::{Ticker, World, ticker_of};
-use tt_cli_searches::{Given, TreeFile, TreeShelf, kept_table};
+use crate::given::Given;
+use crate::tree_files::{TreeFile, TreeShelf};
+use crate::saving::kept_table;
 use tt_cli_saving::{
     CommandFault, Input, Inputs, Keeper, Prepared, Reply, Target, read_if_given, reply_with,
 };

@@ -7,7 +7,7 @@ use tt_call_texts::{PageTexts, ProvedTexts, kept_page, proved_page};
 use tt_call_best_kept::KeptFiles;
 use tt_cli_files::{Batch, Role};
 use tt_cli_progress::World;
-use tt_cli_searches::Given;
+use crate::given::Given;
 use tt_cli_saving::{CommandFault, Inputs, Prepared, Target};
 use tt_page::STYLE;
 use tt_text::{Pieces, Writing};
