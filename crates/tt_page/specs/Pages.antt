@@ -8,7 +8,7 @@ use Rattle.tt_page.specs.Changed.{changed_head, changed_counts}
 use Rattle.tt_page.specs.Heading.{head_text, header_text, legend_text}
 use Rattle.tt_page_lists.specs.Lists.{hard_table, cost_table, lists_text}
 use Rattle.tt_page_weeks.specs.Grids.{section_text}
-use Rattle.tt_page_days.specs.Days.{days_text}
+use Rattle.tt_page_weeks.specs.Days.{days_text}
 use Rattle.tt_page.specs.Courses.{courses_text}
 use Rattle.tt_page.specs.Proofs.{courses_of}
 use Rattle.tt_page.specs.Sheets.{sheet_text}

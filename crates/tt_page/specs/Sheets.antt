@@ -6,7 +6,7 @@ use Rattle.tt_page_text.specs.Labelled.{Labelled}
 use Rattle.tt_page_plan.specs.Names.{name_text}
 use Rattle.tt_page_weeks.specs.Grids.{section_text}
 use Rattle.tt_page_weeks.specs.Named.{named_text}
-use Rattle.tt_page_days.specs.Days.{days_text}
+use Rattle.tt_page_weeks.specs.Days.{days_text}
 use Rattle.tt_page.specs.Heading.{head_text, marks_text}
 use Rattle.tt_page.specs.declared.sheet.Sheet.{Sheet}
 use Rattle.tt_page.specs.declared.sheet.Sheet.TheVariants.{Section, Days, Named}

@@ -1,3 +1,4 @@
+pub mod Days
 pub mod Grids
 pub mod Lectures
 pub mod Marks

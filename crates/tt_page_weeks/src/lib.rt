@@ -1,6 +1,7 @@
 //! The weeks of the rooms, teachers and curricula, as grids.
 #![tactic(auto)]
 
+mod days;
 mod grid;
 mod grids;
 mod groups;
@@ -10,6 +11,7 @@ mod marks;
 mod named;
 mod view;
 
+pub use days::put_days;
 pub use grids::{put_lectures, put_paper_name, put_section};
 pub use hues::HUES;
 pub use lectures::put_week;

@@ -1,6 +1,6 @@
-use Rattle.tt_page_days.specs.Days.{days_text}
+use Rattle.tt_page_weeks.specs.Days.{days_text}
 use Rattle.tt_page_text.proofs.Growing.{then_put}
-use Rattle.tt_page_days.proofs.days.put_days.Goals as goal
+use Rattle.tt_page_weeks.proofs.days.put_days.Goals as goal
 
 pub returns : goal.returns
 unfolding days_text

@@ -1,9 +1,9 @@
 use Rattle.std.proofs.Common.{◌≡◌}
 use Rattle.std.specs.Prelude.{codes}
-use Rattle.tt_page_days.specs.Days.{period_head}
+use Rattle.tt_page_weeks.specs.Days.{period_head}
 use Rattle.tt_page_text.proofs.Growing.{then_put}
 use Rattle.tt_page_text.specs.Puts.{put_text}
-use Rattle.tt_page_days.proofs.days.put_period_head.Goals as goal
+use Rattle.tt_page_weeks.proofs.days.put_period_head.Goals as goal
 
 -- the head was written
 head_put : (c : goal.After-put_token-2) → c.put_token.new.out ≡ put_text c.args.out.now (codes "<th scope=\"col\">")

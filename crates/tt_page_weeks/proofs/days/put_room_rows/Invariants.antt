@@ -1,8 +1,8 @@
 use Rattle.std.proofs.Common.{◌≡◌, take}
 use Rattle.std.specs.Prelude.{flat_map}
 use Rattle.tt_page_text.specs.Puts.{put_text}
-use Rattle.tt_page_days.specs.Days.{room_row}
-use Rattle.tt_page_days.proofs.days.put_room_rows.Given as goal
+use Rattle.tt_page_weeks.specs.Days.{room_row}
+use Rattle.tt_page_weeks.proofs.days.put_room_rows.Given as goal
 
 abbrev pub invariant-loop-room : goal.invariant-loop-room
 invariant-loop-room l =

@@ -1,6 +1,6 @@
-use Rattle.tt_page_days.specs.Days.{day_grid}
+use Rattle.tt_page_weeks.specs.Days.{day_grid}
 use Rattle.tt_page_text.proofs.Growing.{then_put}
-use Rattle.tt_page_days.proofs.days.put_day_grid.Goals as goal
+use Rattle.tt_page_weeks.proofs.days.put_day_grid.Goals as goal
 
 pub returns : goal.returns
 unfolding day_grid
