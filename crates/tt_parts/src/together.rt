@@ -11,8 +11,7 @@ use tt_leaf::Bound;
 use tt_path::Fact;
 use tt_proof_sum::{SumStop, sum_proofs_on};
 use tt_stop::Stop;
-use tt_text_memory::Memory;
-use tt_text_peek::Peeked;
+use tt_text_peek::{Memory, Peeked};
 
 /// The number of bytes of a proof that are read at once.
 const PIECE: usize = 4_096;

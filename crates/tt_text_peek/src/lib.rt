@@ -3,10 +3,12 @@
 
 mod front;
 mod kind;
+mod memory;
 mod peek;
 mod peeked;
 
 pub use front::kind_of_front;
 pub use kind::FileKind;
+pub use memory::Memory;
 pub use peek::{PEEKED_BYTES, Peek, PeekFault};
 pub use peeked::Peeked;

@@ -3,7 +3,7 @@ use Rattle.std.specs.Global.{Global}
 use Rattle.std.specs.Io.KnownBytes.{prepend_known}
 use Rattle.std.specs.List.{AllZip}
 use Rattle.std.proofs.lemmas.List.{take_all}
-use Rattle.tt_text_memory.specs.Memories.{Rest}
+use Rattle.tt_text_peek.specs.Memories.{Rest}
 use Rattle.tt_text_peek.specs.declared.peeked.Peeked.{Peeked}
 use Rattle.tt_parts.specs.Found.{texts_of}
 use Rattle.tt_list_laws.proofs.Zipped.{zip_length}

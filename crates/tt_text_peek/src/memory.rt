@@ -2,7 +2,7 @@
 
 ghost use Rattle.std.specs.Prelude.{◌≡◌, ◌<◌, ℕ, List, Bool, false, Some};
 ghost use Rattle.std.specs.declared.option.Option.{Option};
-ghost use Rattle.tt_text_memory.specs.Memories.{Rest};
+ghost use Rattle.tt_text_peek.specs.Memories.{Rest};
 
 use std::marker::Model;
 use tt_text::{ReadFailed, Source};
@@ -16,7 +16,7 @@ pub struct Memory<'a> {
 
 impl<'a> Model for Memory<'a> {
     ghost use Rattle.std.specs.Prelude.{◌<◌};
-    ghost use Rattle.tt_text_memory.specs.Memories.{Rest};
+    ghost use Rattle.tt_text_peek.specs.Memories.{Rest};
 
     ghost Value = { Rest };
 
