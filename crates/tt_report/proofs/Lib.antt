@@ -1,4 +1,5 @@
 pub mod Examples
 pub mod Names
+pub mod Putting
 pub mod Shown
 pub mod Written

@@ -6,9 +6,9 @@ use Rattle.std.specs.Str.Lossy.{utf8_lossy, replacement_bytes}
 use Rattle.std.proofs.lemmas.List.{append-nil}
 use Rattle.std.proofs.lemmas.Grind.{flat_map-append}
 use Rattle.std.proofs.lemmas.Str.{chars-append, chars-nil, utf8_lossy_empty}
-use Rattle.tt_text_output.specs.Puts.{Puts}
-use Rattle.tt_text_output.specs.declared.output.Output.{Output}
-use Rattle.tt_text_output.proofs.Putting.{puts_both, puts_nothing}
+use Rattle.tt_report.specs.Puts.{Puts}
+use Rattle.tt_report.specs.declared.output.Output.{Output}
+use Rattle.tt_report.proofs.Putting.{puts_both, puts_nothing}
 use Rattle.tt_report.specs.Names.{letter_text, shown}
 
 -- the text of all letters of a text

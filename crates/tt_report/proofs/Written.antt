@@ -8,9 +8,9 @@ use Rattle.tt_list_laws.specs.Words.{range_below}
 use Rattle.tt_list_laws.proofs.Below.{range_below_more}
 use Rattle.tt_text.specs.Pieces.{Piece, Text, Number}
 use Rattle.tt_text.specs.Lines.{text_of, line_text, lines_text}
-use Rattle.tt_text_output.specs.Puts.{Puts}
-use Rattle.tt_text_output.specs.declared.output.Output.{Output}
-use Rattle.tt_text_output.proofs.Putting.{puts_both, puts_nothing}
+use Rattle.tt_report.specs.Puts.{Puts}
+use Rattle.tt_report.specs.declared.output.Output.{Output}
+use Rattle.tt_report.proofs.Putting.{puts_both, puts_nothing}
 use Rattle.tt_instance.specs.Problem.{Problem}
 use Rattle.tt_instance.specs.Cells.{slot, all_slots, all_days, all_rooms, all_curricula, is_at}
 use Rattle.tt_instance.specs.Courses.{teachers}

@@ -1,3 +1,4 @@
 pub mod Inner
 pub mod Names
+pub mod Puts
 pub mod Reports

@@ -5,7 +5,7 @@ ghost use Rattle.tt_text.specs.Lines.{line_text};
 ghost use Rattle.tt_text.specs.Pieces.{Text};
 ghost use Rattle.tt_instance.specs.Cells.{InRange};
 ghost use Rattle.tt_instance.specs.Courses.{no_course, no_room, no_curriculum, teachers};
-ghost use Rattle.tt_text_output.specs.Puts.{Puts};
+ghost use Rattle.tt_report.specs.Puts.{Puts};
 ghost use Rattle.tt_report.specs.Names.{shown};
 ghost use Rattle.tt_report.specs.Inner.Blocks.{IsBlock, head_of, shown_in, belongs_to, next_texts};
 
@@ -13,7 +13,7 @@ use crate::showing::put_next_name;
 use tt_instance::Instance;
 use tt_table::Entry;
 use tt_text::Sink;
-use tt_text_output::Output;
+use crate::output::Output;
 
 /// The room, teacher or curriculum whose week a block shows, by number.
 #[derive(Clone, Copy)]

@@ -11,14 +11,14 @@ ghost use Rattle.tt_table.specs.declared.groups.GroupBy.TheVariants as group;
 ghost use Rattle.tt_report.specs.Inner.Blocks.{IsBlock, entries_text, slot_text, day_text, block_text};
 ghost use Rattle.tt_report.specs.Reports.{report_text};
 ghost use Rattle.tt_text.specs.Sinks.{TakesPart};
-ghost use Rattle.tt_text_output.specs.Puts.{Puts};
+ghost use Rattle.tt_report.specs.Puts.{Puts};
 ghost use Rattle.tt_report.specs.declared.blocks.Block.TheVariants as of;
 
 use crate::blocks::Block;
 use tt_instance::Instance;
 use tt_table::{Group, Groups, Kind as By, Timetable};
 use tt_text::{Sink, WriteFailed};
-use tt_text_output::Output;
+use crate::output::Output;
 
 /// Puts the texts of the entries that belong to a block.
 fn put_entries<W: Sink>(
@@ -62,7 +62,7 @@ fn put_slot<W: Sink>(
 }
 
 /// Puts the lines of a day.
-#[tactic(auto, using(crate::proofs::Written::puts_further, tt_text_output::proofs::Putting::puts_nothing))]
+#[tactic(auto, using(crate::proofs::Written::puts_further, crate::proofs::Putting::puts_nothing))]
 fn put_day<W: Sink>(
     out: &mut Output<'_, W>,
     instance: &Instance<'_>,
@@ -82,7 +82,7 @@ fn put_day<W: Sink>(
 }
 
 /// Puts the lines of a block.
-#[tactic(auto, using(crate::proofs::Written::puts_further, tt_text_output::proofs::Putting::puts_nothing))]
+#[tactic(auto, using(crate::proofs::Written::puts_further, crate::proofs::Putting::puts_nothing))]
 fn put_block<W: Sink>(
     out: &mut Output<'_, W>,
     instance: &Instance<'_>,
@@ -103,7 +103,7 @@ fn put_block<W: Sink>(
     }
 }
 
-#[tactic(auto, using(tt_text_output::proofs::Putting::puts_nothing))]
+#[tactic(auto, using(crate::proofs::Putting::puts_nothing))]
 fn put_rooms<W: Sink>(out: &mut Output<'_, W>, instance: &Instance<'_>, by_period: &Groups<'_>)
     requires by { by_period.now.by ≡ group.Period instance.now.periods }
     requires in_range { All (InRange instance.now) by_period.now.entries }
@@ -114,7 +114,7 @@ fn put_rooms<W: Sink>(out: &mut Output<'_, W>, instance: &Instance<'_>, by_perio
     }
 }
 
-#[tactic(auto, using(tt_text_output::proofs::Putting::puts_nothing))]
+#[tactic(auto, using(crate::proofs::Putting::puts_nothing))]
 fn put_teachers<W: Sink>(out: &mut Output<'_, W>, instance: &Instance<'_>, by_period: &Groups<'_>)
     requires by { by_period.now.by ≡ group.Period instance.now.periods }
     requires in_range { All (InRange instance.now) by_period.now.entries }
@@ -125,7 +125,7 @@ fn put_teachers<W: Sink>(out: &mut Output<'_, W>, instance: &Instance<'_>, by_pe
     }
 }
 
-#[tactic(auto, using(tt_text_output::proofs::Putting::puts_nothing))]
+#[tactic(auto, using(crate::proofs::Putting::puts_nothing))]
 fn put_curricula<W: Sink>(out: &mut Output<'_, W>, instance: &Instance<'_>, by_period: &Groups<'_>)
     requires by { by_period.now.by ≡ group.Period instance.now.periods }
     requires in_range { All (InRange instance.now) by_period.now.entries }

@@ -1,11 +1,11 @@
 //! Names in a report.
 
 ghost use Rattle.std.specs.Prelude.{◌∷◌, flat_map, chars, encode_utf8};
-ghost use Rattle.tt_text_output.specs.Puts.{Puts};
+ghost use Rattle.tt_report.specs.Puts.{Puts};
 ghost use Rattle.tt_report.specs.Names.{letter_text, shown};
 
 use tt_text::Sink;
-use tt_text_output::Output;
+use crate::output::Output;
 
 /// The letter that is shown in place of bytes that are no text.
 const REPLACEMENT: char = '\u{FFFD}';

@@ -3,8 +3,8 @@ use Rattle.std.specs.Prelude.{flat_map}
 use Rattle.tt_list_laws.specs.Words.{range_below}
 use Rattle.tt_text.specs.Lines.{line_text}
 use Rattle.tt_report.specs.Inner.Blocks.{head_of, day_text}
-use Rattle.tt_text_output.specs.Puts.{Puts}
-use Rattle.tt_text_output.proofs.Putting.{puts_both}
+use Rattle.tt_report.specs.Puts.{Puts}
+use Rattle.tt_report.proofs.Putting.{puts_both}
 use Rattle.tt_report.proofs.reports.put_block.Goals as goal
 
 pub returns : goal.returns

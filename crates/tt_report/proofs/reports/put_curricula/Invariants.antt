@@ -1,6 +1,6 @@
 use Rattle.std.specs.Prelude.{flat_map}
 use Rattle.tt_list_laws.specs.Words.{range_below}
-use Rattle.tt_text_output.specs.Puts.{Puts}
+use Rattle.tt_report.specs.Puts.{Puts}
 use Rattle.tt_report.specs.Inner.Blocks.{block_text}
 use Rattle.tt_report.specs.declared.blocks.Block.TheVariants as of
 use Rattle.tt_report.proofs.reports.put_curricula.Given as goal

@@ -1,7 +1,7 @@
 use Rattle.std.specs.Prelude.{flat_map}
 use Rattle.tt_list_laws.specs.Words.{range_below}
 use Rattle.tt_instance.specs.Cells.{slot}
-use Rattle.tt_text_output.specs.Puts.{Puts}
+use Rattle.tt_report.specs.Puts.{Puts}
 use Rattle.tt_report.specs.Inner.Blocks.{slot_text}
 use Rattle.tt_report.proofs.reports.put_day.Given as goal
 

@@ -4,7 +4,7 @@ use Rattle.tt_list_laws.specs.Words.{range_below}
 use Rattle.tt_instance.specs.Courses.{teachers}
 use Rattle.tt_instance.specs.declared.cell.Cell.{Cell}
 use Rattle.tt_table.specs.Groups.{Grouped}
-use Rattle.tt_text_output.specs.Puts.{Puts}
+use Rattle.tt_report.specs.Puts.{Puts}
 use Rattle.tt_report.specs.Inner.Blocks.{block_text}
 use Rattle.tt_report.specs.Reports.{report_text}
 use Rattle.tt_report.specs.declared.blocks.Block.TheVariants as of

@@ -1,6 +1,6 @@
 use Rattle.std.proofs.Common.{Result, Ok, Err, OnErr, rules}
 use Rattle.tt_report.specs.Reports.{report_text}
-use Rattle.tt_text_output.proofs.Putting.{part_written}
+use Rattle.tt_report.proofs.Putting.{part_written}
 use Rattle.tt_report.proofs.reports.report.Goals as goal
 
 -- What holds at all holds of an error.

@@ -1,8 +1,8 @@
 use Rattle.std.proofs.Common.{List, ℕ, flat_map, sym, ◌∙◌, map-id, subst}
 use Rattle.std.proofs.lemmas.Iterator.{YieldsList-from_chars}
 use Rattle.std.proofs.lemmas.Iterator.Consumers.{YieldsList-end}
-use Rattle.tt_text_output.specs.Puts.{Puts}
-use Rattle.tt_text_output.proofs.Putting.{puts_nothing}
+use Rattle.tt_report.specs.Puts.{Puts}
+use Rattle.tt_report.proofs.Putting.{puts_nothing}
 use Rattle.tt_report.specs.Names.{letter_text}
 use Rattle.tt_report.proofs.Shown.{letter_put}
 use Rattle.tt_report.proofs.showing.put_letters.Goals as goal

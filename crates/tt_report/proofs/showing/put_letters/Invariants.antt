@@ -1,5 +1,5 @@
 use Rattle.std.specs.Prelude.{flat_map}
-use Rattle.tt_text_output.specs.Puts.{Puts}
+use Rattle.tt_report.specs.Puts.{Puts}
 use Rattle.tt_report.specs.Names.{letter_text}
 use Rattle.tt_report.proofs.showing.put_letters.Given as goal
 

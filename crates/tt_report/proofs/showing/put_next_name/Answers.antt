@@ -1,5 +1,5 @@
 use Rattle.std.proofs.Common.{[], ◌∷◌}
-use Rattle.tt_text_output.proofs.Putting.{puts_both}
+use Rattle.tt_report.proofs.Putting.{puts_both}
 use Rattle.tt_report.specs.Names.{shown}
 use Rattle.tt_report.proofs.showing.put_next_name.Goals as goal
 

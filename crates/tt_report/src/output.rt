@@ -4,7 +4,7 @@ ghost use Rattle.std.specs.Prelude.{◌≡◌, [], ◌∷◌, true, false, if◌
 ghost use Rattle.std.specs.Fmt.{decimal};
 ghost use Rattle.std.specs.Io.KnownBytes.{Appends};
 ghost use Rattle.tt_text.specs.Sinks.{TakesPart};
-ghost use Rattle.tt_text_output.specs.Puts.{Puts};
+ghost use Rattle.tt_report.specs.Puts.{Puts};
 
 use arrayvec::ArrayVec;
 use itoa::Buffer;

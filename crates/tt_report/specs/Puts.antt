@@ -1,7 +1,7 @@
 -- What an output does with a text.
 use Rattle.std.specs.Prelude.{◌≡◌, ℕ, Bool, true, false, if◌then◌else◌, List, ◌++◌, Option}
 use Rattle.std.specs.Io.KnownBytes.{Appends}
-use Rattle.tt_text_output.specs.declared.output.Output.{Output}
+use Rattle.tt_report.specs.declared.output.Output.{Output}
 
 -- The sink took bytes from the front of those in the buffer and the text after them. The rest is in the buffer, unless a write failed.
 -- After a failed write the sink stays as it is.

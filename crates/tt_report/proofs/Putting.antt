@@ -5,8 +5,8 @@ use Rattle.std.specs.Io.KnownBytes.{Appends}
 use Rattle.std.proofs.lemmas.List.{append-nil}
 use Rattle.tt_text.specs.Sinks.{TakesPart}
 use Rattle.tt_text.proofs.TakenParts.{appends_nothing, appends_both}
-use Rattle.tt_text_output.specs.Puts.{Puts}
-use Rattle.tt_text_output.specs.declared.output.Output.{Output}
+use Rattle.tt_report.specs.Puts.{Puts}
+use Rattle.tt_report.specs.declared.output.Output.{Output}
 
 module _ {W : Type 0} (C : W → Option (List ℕ)) (F : W → Bool) where
   -- one text and then another

@@ -1,6 +1,6 @@
 use Rattle.std.proofs.Common.{[], ◌∷◌}
-use Rattle.tt_text_output.proofs.Putting.{puts_both}
-use Rattle.tt_text_output.proofs.output.Output.put_next_token.Goals as goal
+use Rattle.tt_report.proofs.Putting.{puts_both}
+use Rattle.tt_report.proofs.output.Output.put_next_token.Goals as goal
 
 pub returns : goal.returns
 returns g c =
