@@ -3,7 +3,7 @@
 use std::alloc::{AllocError, Global};
 use std::io::Write;
 use tt_cli_saving::show_clash;
-use tt_inspect_reasons::explain_shortages;
+use tt_inspect::explain_shortages;
 use tt_instance::Instance;
 use tt_instance_read::{InstanceFault, read_instance};
 use tt_rules::score;

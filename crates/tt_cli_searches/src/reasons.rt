@@ -2,7 +2,7 @@
 
 use std::alloc::{AllocError, Global};
 use std::io::Write;
-use tt_inspect_reasons::{explain_shortages, explain_tree};
+use tt_inspect::{explain_shortages, explain_tree};
 use tt_instance_read::{InstanceFault, read_instance};
 
 /// The line of a search that found neither a timetable nor a reason why there is none.

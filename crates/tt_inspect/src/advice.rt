@@ -6,7 +6,7 @@ use crate::alike::put_alike;
 use crate::lists::put_concerns;
 use std::alloc::AllocError;
 use std::fmt;
-use tt_inspect_reasons::put_impossible;
+use crate::impossible::put_impossible;
 use tt_inspect_words::{Counted, Counts, Name, Noun, most_seats};
 use tt_instance::{Instance, MISSING_DAY_COST};
 

@@ -3,8 +3,13 @@
 
 mod advice;
 mod alike;
+mod explained;
+mod impossible;
 mod inspected;
 mod lists;
 mod scored;
+mod shortages;
 
+pub use explained::{explain_shortages, explain_tree};
+pub use impossible::put_impossible;
 pub use inspected::{Inspected, inspect_instance, inspect_solution};

@@ -2,7 +2,7 @@
 
 use std::alloc::Global;
 use std::test::Fail;
-use tt_inspect_reasons::{explain_shortages, explain_tree};
+use tt_inspect::{explain_shortages, explain_tree};
 use tt_instance_read::read_instance;
 use tt_testing_samples::{MINI, SAME, TRIO};
 
