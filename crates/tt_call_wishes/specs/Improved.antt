@@ -10,8 +10,8 @@ use Rattle.tt_search_complete.specs.declared.fault.CompleteFault.{CompleteFault}
 use Rattle.tt_search_complete.specs.declared.fault.CompleteFault.TheVariants as completion
 use Rattle.tt_wishes.specs.Spelling.{SpellsWishes}
 use Rattle.tt_wishes.specs.declared.wish.Wish.{Wish}
-use Rattle.tt_stay_search.specs.Rearranged.{IsRearranged}
-use Rattle.tt_stay_search.specs.declared.stay.Stay.{Stay}
+use Rattle.tt_stay.specs.Rearranged.{IsRearranged}
+use Rattle.tt_stay.specs.declared.stay.Stay.{Stay}
 use Rattle.tt_wishes_search.specs.Wished.{IsLower, IsWishedWeight, stays_kept}
 use Rattle.tt_wishes_search.specs.declared.searching.Wished.{Wished}
 use Rattle.tt_wishes_search.specs.declared.weight.WishedWeight.{WishedWeight}

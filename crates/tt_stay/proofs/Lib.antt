@@ -1,1 +1,2 @@
+pub mod Rearranging
 mod Weighing

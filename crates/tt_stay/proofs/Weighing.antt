@@ -5,7 +5,7 @@ use Rattle.tt_instance.specs.Problem.{Problem}
 use Rattle.tt_instance.specs.declared.cell.Cell.{Cell}
 use Rattle.tt_rules.specs.Score.{hard, cost}
 use Rattle.tt_stay.specs.Staying.{IsWeight, IsLower}
-use Rattle.tt_stay_search.specs.declared.stay.Stay.{Stay}
+use Rattle.tt_stay.specs.declared.stay.Stay.{Stay}
 use Rattle.tt_stay.specs.declared.weight.Weight.{Weight}
 
 -- a timetable has one weight

@@ -5,8 +5,8 @@ use Rattle.tt_instance.specs.Problem.{Problem}
 use Rattle.tt_instance.specs.declared.cell.Cell.{Cell}
 use Rattle.tt_rules.specs.Score.{hard, cost}
 use Rattle.tt_changes.specs.Counts.{moved_count, rooms_count}
-use Rattle.tt_stay_search.specs.Rearranged.{IsRearranged}
-use Rattle.tt_stay_search.specs.declared.stay.Stay.{Stay}
+use Rattle.tt_stay.specs.Rearranged.{IsRearranged}
+use Rattle.tt_stay.specs.declared.stay.Stay.{Stay}
 use Rattle.tt_stay.specs.declared.staying.Near.{Near}
 use Rattle.tt_stay.specs.declared.weight.Weight.{Weight}
 

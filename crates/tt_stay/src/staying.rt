@@ -2,13 +2,17 @@
 
 ghost use Rattle.std.specs.Prelude.{IfOk};
 ghost use Rattle.tt_table.specs.Table.{IsTimetable};
-ghost use Rattle.tt_stay_search.specs.Rearranged.{IsRearranged};
+ghost use Rattle.tt_stay.specs.Rearranged.{IsRearranged};
 ghost use Rattle.tt_stay.specs.Staying.{IsNear};
 
 use crate::weight::{Weight, weigh};
 use std::alloc::{AllocError, Global};
 use tt_instance::Instance;
-use tt_stay_search::{Guide, Homes, Prices, Search, search_near};
+use crate::drawing::Guide;
+use crate::homes::Homes;
+use crate::prices::Prices;
+use crate::stay::Search;
+use crate::searching::search_near;
 use tt_table::Timetable;
 use tt_watch::Watch;
 

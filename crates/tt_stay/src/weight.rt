@@ -8,7 +8,7 @@ use std::alloc::{AllocError, Global};
 use tt_changes::find_changes;
 use tt_instance::Instance;
 use tt_rules::score;
-use tt_stay_search::Stay;
+use crate::stay::Stay;
 use tt_table::Timetable;
 
 /// The hard count and the cost of a timetable, and the lectures that left their places in an older one.

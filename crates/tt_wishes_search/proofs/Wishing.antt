@@ -6,8 +6,8 @@ use Rattle.tt_instance.specs.declared.cell.Cell.{Cell}
 use Rattle.tt_table.specs.Table.{IsTimetable}
 use Rattle.tt_wishes.specs.Wishes.{is_kept}
 use Rattle.tt_wishes.specs.declared.wish.Wish.{Wish}
-use Rattle.tt_stay_search.specs.declared.stay.Stay.{Stay}
-use Rattle.tt_stay_search.proofs.Rearranging.{rearranged_self}
+use Rattle.tt_stay.specs.declared.stay.Stay.{Stay}
+use Rattle.tt_stay.proofs.Rearranging.{rearranged_self}
 use Rattle.tt_wishes_search.specs.Wished.{IsLower, IsWished, IsWishedWeight, stays_kept, total_of}
 use Rattle.tt_wishes_search.specs.declared.weight.Basis.{Basis}
 use Rattle.tt_wishes_search.specs.declared.weight.WishedWeight.{WishedWeight}

@@ -8,8 +8,8 @@ use Rattle.tt_instance.specs.declared.cell.Cell.{Cell}
 use Rattle.tt_wishes.specs.Wishes.{broken_wishes, is_held, is_kept, is_there}
 use Rattle.tt_wishes.specs.declared.wish.Wish.{Wish}
 use Rattle.tt_wishes.specs.declared.wish.Wish.TheVariants.{Hold, Rooms, Closed}
-use Rattle.tt_stay_search.specs.Rearranged.{IsRearranged}
-use Rattle.tt_stay_search.specs.declared.stay.Stay.{Stay}
+use Rattle.tt_stay.specs.Rearranged.{IsRearranged}
+use Rattle.tt_stay.specs.declared.stay.Stay.{Stay}
 use Rattle.tt_stay.specs.Staying.{IsWeight, total}
 use Rattle.tt_wishes_search.specs.declared.searching.Wished.{Wished}
 use Rattle.tt_wishes_search.specs.declared.weight.Basis.{Basis}

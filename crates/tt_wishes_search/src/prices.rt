@@ -5,7 +5,7 @@ use crate::places::PlacePrices;
 use std::alloc::{AllocError, Global};
 use tt_instance::Instance;
 use tt_plans_odds::Dice;
-use tt_stay_search::{Homes, Prices, Shift};
+use tt_stay::{Homes, Prices, Shift};
 use tt_table::{Entry, Timetable};
 use tt_wishes::{Wish, keeps};
 

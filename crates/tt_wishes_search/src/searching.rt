@@ -2,7 +2,7 @@
 
 ghost use Rattle.std.specs.Prelude.{IfOk};
 ghost use Rattle.tt_table.specs.Table.{IsTimetable};
-ghost use Rattle.tt_stay_search.specs.Rearranged.{IsRearranged};
+ghost use Rattle.tt_stay.specs.Rearranged.{IsRearranged};
 ghost use Rattle.tt_wishes_search.specs.Wished.{IsWished};
 
 use crate::kept::keeps_all_kept;
@@ -10,8 +10,7 @@ use crate::prices::WishPrices;
 use crate::weight::{Basis, WishedWeight, weigh_wished};
 use std::alloc::{AllocError, Global};
 use tt_instance::Instance;
-use tt_stay::{Search, search_in_runs};
-use tt_stay_search::{Guide, Homes};
+use tt_stay::{Guide, Homes, Search, search_in_runs};
 use tt_table::Timetable;
 use tt_watch::Watch;
 

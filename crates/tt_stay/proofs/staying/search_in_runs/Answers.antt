@@ -1,5 +1,5 @@
 use Rattle.std.proofs.Common.{refl}
-use Rattle.tt_stay_search.proofs.Rearranging.{rearranged_self, rearranged_then}
+use Rattle.tt_stay.proofs.Rearranging.{rearranged_self, rearranged_then}
 use Rattle.tt_stay.proofs.staying.search_in_runs.Goals as goal
 
 pub loop-run-init : goal.loop-run-init

@@ -1,4 +1,4 @@
-use Rattle.tt_stay_search.specs.Rearranged.{IsRearranged}
+use Rattle.tt_stay.specs.Rearranged.{IsRearranged}
 use Rattle.tt_stay.proofs.staying.search_in_runs.Given as goal
 
 abbrev pub invariant-loop-run : goal.invariant-loop-run

@@ -1,5 +1,5 @@
 use Rattle.tt_moves_descend.proofs.Descents.{courses-stepped}
-use Rattle.tt_stay_search.proofs.drawing.try_draw.Goals as goal
+use Rattle.tt_stay.proofs.drawing.try_draw.Goals as goal
 
 pub returns-clause-courses : goal.returns-clause-courses
 returns-clause-courses g c = rw c.apply.ensures.stepped (courses-stepped c.args.occupied.now.entries c.in-Some.field-0.step)

@@ -3,7 +3,7 @@ use Rattle.std.proofs.Common.{◌≡◌, List, map, refl, sym, subst, ◌∙◌}
 use Rattle.tt_instance.specs.Problem.{Problem}
 use Rattle.tt_instance.specs.declared.cell.Cell.{Cell}
 use Rattle.tt_table.specs.Table.{IsTimetable}
-use Rattle.tt_stay_search.specs.Rearranged.{IsRearranged}
+use Rattle.tt_stay.specs.Rearranged.{IsRearranged}
 
 -- a timetable's entries are its own
 pub rearranged_self : (p : Problem) (t u : List Cell) → u ≡ t → IsTimetable p t → IsRearranged p t u

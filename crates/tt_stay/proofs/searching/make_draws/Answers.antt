@@ -1,6 +1,6 @@
 use Rattle.std.proofs.Common.{sym, ◌∙◌}
-use Rattle.tt_stay_search.proofs.Rearranging.{rearranged_on}
-use Rattle.tt_stay_search.proofs.searching.make_draws.Goals as goal
+use Rattle.tt_stay.proofs.Rearranging.{rearranged_on}
+use Rattle.tt_stay.proofs.searching.make_draws.Goals as goal
 
 pub keep-requires : goal.keep-requires
 keep-requires g c =

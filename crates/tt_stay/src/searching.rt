@@ -2,7 +2,7 @@
 
 ghost use Rattle.std.specs.Prelude.{◌≡◌, IfOk, OnOk, map};
 ghost use Rattle.tt_table.specs.Table.{IsTimetable};
-ghost use Rattle.tt_stay_search.specs.Rearranged.{IsRearranged};
+ghost use Rattle.tt_stay.specs.Rearranged.{IsRearranged};
 
 use crate::drawing::{Guide, try_draw};
 use crate::nearest::Nearest;

@@ -1,8 +1,8 @@
 use Rattle.std.proofs.Common.{sym, refl, ◌∙◌, subst}
 use Rattle.tt_occupancy.specs.Filled.{Filled}
-use Rattle.tt_stay_search.specs.Rearranged.{IsRearranged}
-use Rattle.tt_stay_search.proofs.Rearranging.{rearranged_self, rearranged_on}
-use Rattle.tt_stay_search.proofs.searching.search_near.Goals as goal
+use Rattle.tt_stay.specs.Rearranged.{IsRearranged}
+use Rattle.tt_stay.proofs.Rearranging.{rearranged_self, rearranged_on}
+use Rattle.tt_stay.proofs.searching.search_near.Goals as goal
 
 pub loop-made-init : goal.loop-made-init
 loop-made-init g c = record {

@@ -1,7 +1,7 @@
 //! The best timetable of a search near an older one.
 
 ghost use Rattle.std.specs.Prelude.{OnOk};
-ghost use Rattle.tt_stay_search.specs.Rearranged.{IsRearranged};
+ghost use Rattle.tt_stay.specs.Rearranged.{IsRearranged};
 
 use std::alloc::AllocError;
 use tt_occupancy::Occupied;
