@@ -1,5 +1,8 @@
+mod Costs
+mod Days
 pub mod Descents
 pub mod Examples
-pub mod Still
+pub mod Gains
 pub mod Scans
 pub mod Settling
+pub mod Still

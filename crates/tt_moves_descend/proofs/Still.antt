@@ -4,7 +4,7 @@ use Rattle.std.specs.Prelude.{List}
 use Rattle.tt_instance.specs.declared.cell.Cell.{Cell}
 use Rattle.tt_occupancy.specs.Filled.{Filled}
 use Rattle.tt_moves.specs.Changes.{IsBelow}
-use Rattle.tt_moves_idle.proofs.Gains.{no_gain_by_move, no_gain_by_swap}
+use Rattle.tt_moves_descend.proofs.Gains.{no_gain_by_move, no_gain_by_swap}
 use Rattle.tt_moves_descend.specs.Inner.Scan.{IsAtRest, NoMoveOf, NoSwapBy, NoSwap}
 use Rattle.tt_moves_descend.proofs.Settling.{swap_turned}
 

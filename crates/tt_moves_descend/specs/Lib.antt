@@ -1,2 +1,3 @@
 pub mod Descent
+pub mod Idle
 pub mod Inner

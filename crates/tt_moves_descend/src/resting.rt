@@ -3,7 +3,7 @@
 ghost use Rattle.std.specs.Prelude.{◌<◌, length, IsTrue};
 ghost use Rattle.tt_moves_descend.specs.Inner.Scan.{IsAtRest};
 
-use tt_moves_idle::is_idle;
+use crate::idle::is_idle;
 use tt_occupancy::Occupied;
 
 /// Checks whether no hard rule is broken and an entry costs nothing where it is.

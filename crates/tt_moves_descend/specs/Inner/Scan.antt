@@ -7,7 +7,7 @@ use Rattle.tt_moves.specs.Changes.{IsBelow}
 use Rattle.tt_moves.specs.Steps.{CanStep, entry_at, stepped}
 use Rattle.tt_moves.specs.declared.step.Step.{Step}
 use Rattle.tt_moves.specs.declared.step.Step.TheVariants.{Move, Swap}
-use Rattle.tt_moves_idle.specs.Idle.{IsIdle}
+use Rattle.tt_moves_descend.specs.Idle.{IsIdle}
 use Rattle.tt_moves_descend.specs.Descent.{Descends}
 
 -- whether the step leads to a lower pair

@@ -18,7 +18,7 @@ use Rattle.tt_tallies.proofs.Chosen.{any_counted}
 use Rattle.tt_tallies.proofs.Neighbours.{isolated_by_periods}
 use Rattle.tt_occupancy.proofs.TakenPeriods.{none_taken}
 use Rattle.tt_moves.proofs.Rounds.{isolated_stand}
-use Rattle.tt_moves_idle.specs.Inner.Days.{IsCompactOn}
+use Rattle.tt_moves_descend.specs.Inner.Days.{IsCompactOn}
 
 pub is_false : (b : Bool) → not b ≡ true → b ≡ false
 is_false true h = absurd (cc)

@@ -1,7 +1,7 @@
 use Rattle.std.proofs.Common.{ap, below_more, arith}
-use Rattle.tt_moves_idle.specs.Inner.Days.{IsCompactOn}
-use Rattle.tt_moves_idle.proofs.Days.{compact_week}
-use Rattle.tt_moves_idle.proofs.compact.is_compact.Goals as goal
+use Rattle.tt_moves_descend.specs.Inner.Days.{IsCompactOn}
+use Rattle.tt_moves_descend.proofs.Days.{compact_week}
+use Rattle.tt_moves_descend.proofs.compact.is_compact.Goals as goal
 
 pub loop-day-preserved : goal.loop-day-preserved
 loop-day-preserved c =

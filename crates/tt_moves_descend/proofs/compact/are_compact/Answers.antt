@@ -2,7 +2,7 @@ use Rattle.std.proofs.Common.{◌≡◌, below_more, subst, arith}
 use Rattle.std.specs.Prelude.{All, slice_index_or}
 use Rattle.std.proofs.lemmas.List.{get_or_default}
 use Rattle.tt_rules.specs.Soft.{compactness_cost}
-use Rattle.tt_moves_idle.proofs.compact.are_compact.Goals as goal
+use Rattle.tt_moves_descend.proofs.compact.are_compact.Goals as goal
 
 pub loop-curriculum-preserved : goal.loop-curriculum-preserved
 loop-curriculum-preserved c =

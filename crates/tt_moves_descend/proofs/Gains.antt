@@ -18,8 +18,8 @@ use Rattle.tt_moves.specs.Changes.{IsBelow}
 use Rattle.tt_moves.specs.Steps.{CanStep, no_entry, entry_at, in_place_of, stepped}
 use Rattle.tt_moves.specs.declared.step.Step.TheVariants.{Move, Swap}
 use Rattle.tt_moves.proofs.Stepping.{swapped_same}
-use Rattle.tt_moves_idle.specs.Idle.{IsIdle}
-use Rattle.tt_moves_idle.proofs.Costs.{capacity_replaced, days_replaced, stability_replaced, days_kept, stability_kept, compactness_kept}
+use Rattle.tt_moves_descend.specs.Idle.{IsIdle}
+use Rattle.tt_moves_descend.proofs.Costs.{capacity_replaced, days_replaced, stability_replaced, days_kept, stability_kept, compactness_kept}
 
 -- ---- curricula of a course
 

@@ -2,8 +2,8 @@ use Rattle.std.proofs.Common.{◌≡◌, ◌-◌, ◌*◌, ap, subst, arith}
 use Rattle.tt_instance.specs.Courses.{students, capacity, min_days}
 use Rattle.tt_instance.specs.declared.cell.Cell.{Cell}
 use Rattle.tt_rules.specs.Soft.{days_of}
-use Rattle.tt_moves_idle.specs.Idle.{IsIdle}
-use Rattle.tt_moves_idle.proofs.idle.is_idle.Goals as goal
+use Rattle.tt_moves_descend.specs.Idle.{IsIdle}
+use Rattle.tt_moves_descend.proofs.idle.is_idle.Goals as goal
 
 pub returns-clause-idle : goal.returns-clause-idle
 returns-clause-idle c = λ compact.

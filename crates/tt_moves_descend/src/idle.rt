@@ -3,7 +3,7 @@
 ghost use Rattle.std.specs.Prelude.{◌<◌, length, IsTrue};
 ghost use Rattle.tt_table.specs.Table.{IsTimetable};
 ghost use Rattle.tt_moves.specs.Steps.{entry_at};
-ghost use Rattle.tt_moves_idle.specs.Idle.{IsIdle};
+ghost use Rattle.tt_moves_descend.specs.Idle.{IsIdle};
 
 use crate::compact::are_compact;
 use tt_occupancy::Occupied;

@@ -5,7 +5,7 @@ ghost use Rattle.tt_instance.specs.Cells.{all_curricula};
 ghost use Rattle.tt_instance.specs.Courses.{in_curriculum};
 ghost use Rattle.tt_rules.specs.Soft.{compactness_cost};
 ghost use Rattle.tt_table.specs.Table.{IsTimetable};
-ghost use Rattle.tt_moves_idle.specs.Inner.Days.{IsCompactOn};
+ghost use Rattle.tt_moves_descend.specs.Inner.Days.{IsCompactOn};
 
 use tt_bits::{either, is_empty, next, previous, without};
 use tt_instance::MAX_PERIODS;

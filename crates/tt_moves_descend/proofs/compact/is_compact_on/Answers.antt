@@ -2,8 +2,8 @@ use Rattle.std.proofs.Common.{◌-◌, ◌≤◌, not, ◌&&◌, ◌||◌, sym, 
 use Rattle.std.specs.Prelude.{nat_lt}
 use Rattle.std.specs.List.{list_any}
 use Rattle.tt_bits.specs.Inner.Bits.{has_bit, bits}
-use Rattle.tt_moves_idle.proofs.Days.{is_false, compact_day}
-use Rattle.tt_moves_idle.proofs.compact.is_compact_on.Goals as goal
+use Rattle.tt_moves_descend.proofs.Days.{is_false, compact_day}
+use Rattle.tt_moves_descend.proofs.compact.is_compact_on.Goals as goal
 
 pub returns : goal.returns
 returns c = λ empty.

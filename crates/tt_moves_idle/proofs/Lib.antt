@@ -1,3 +1,0 @@
-mod Costs
-pub mod Gains
-mod Days
