@@ -17,7 +17,7 @@ use Rattle.tt_rules.proofs.Periods.{slots_of_entries}
 use Rattle.tt_wishes.specs.Wishes.{broken_wishes}
 use Rattle.tt_wishes.specs.declared.wish.Wish.{Wish}
 use Rattle.tt_wishes.specs.declared.wish.Wish.TheVariants.{Hold, Rooms, Closed}
-use Rattle.tt_wishes_clash.proofs.Apart.{held_entry, is_kept_in}
+use Rattle.tt_wishes_narrow.proofs.Apart.{held_entry, is_kept_in}
 use Rattle.tt_wishes_narrow.specs.Narrowed.{is_exactly, stays_at, is_held_at, are_all_held}
 use Rattle.tt_wishes_narrow.proofs.Numbers.{exactly_agrees}
 

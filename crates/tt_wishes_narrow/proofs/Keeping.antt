@@ -24,7 +24,7 @@ use Rattle.tt_wishes.specs.Wishes.{is_there, is_held, is_only_in, is_empty, is_k
 use Rattle.tt_wishes.specs.declared.wish.Place.{Place}
 use Rattle.tt_wishes.specs.declared.wish.Wish.{Wish}
 use Rattle.tt_wishes.specs.declared.wish.Wish.TheVariants.{Hold, Rooms, Closed}
-use Rattle.tt_wishes_clash.proofs.Apart.{held_entry, is_kept_in}
+use Rattle.tt_wishes_narrow.proofs.Apart.{held_entry, is_kept_in}
 use Rattle.tt_wishes_narrow.specs.Narrowed.{is_exactly, is_held_at, are_all_held, rules_out, is_ruled_out, is_left_out, is_new, courses_on, left_out, room_left, narrowed}
 use Rattle.tt_wishes_narrow.proofs.Elsewhere.{not_elsewhere}
 use Rattle.tt_wishes_narrow.proofs.Numbers.{exactly_agrees}

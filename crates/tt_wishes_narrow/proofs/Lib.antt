@@ -1,8 +1,11 @@
+pub mod Apart
+pub mod Counted
 mod Elsewhere
-mod Numbers
-mod Taking
 pub mod Examples
 pub mod Keeping
+mod Numbers
 pub mod Once
+pub mod Reasons
 pub mod RowLists
 pub mod Splitting
+mod Taking

@@ -1,2 +1,3 @@
 -- Definitions on which no part of the trusted statement rests.
+pub mod Adding
 pub mod Parts

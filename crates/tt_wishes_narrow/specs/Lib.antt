@@ -1,2 +1,5 @@
+pub mod Clashes
 pub mod Inner
 pub mod Narrowed
+pub mod Periods
+pub mod Reasons

@@ -1,6 +1,6 @@
 use Rattle.std.proofs.Common.{sym}
-use Rattle.tt_wishes_clash.proofs.Apart.{one_more, partners}
-use Rattle.tt_wishes_clash.proofs.pairs.find_pair.Goals as goal
+use Rattle.tt_wishes_narrow.proofs.Apart.{one_more, partners}
+use Rattle.tt_wishes_narrow.proofs.pairs.find_pair.Goals as goal
 
 pub returns-in-Some-clause-clashing : goal.returns-in-Some-clause-clashing
 returns-in-Some-clause-clashing c = partners c.args.instance.now c.args.wishes.now c.loop-first.first c.in-Some.second

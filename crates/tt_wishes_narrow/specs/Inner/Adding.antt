@@ -6,7 +6,7 @@ use Rattle.tt_instance.specs.Cells.{slot}
 use Rattle.tt_instance.specs.declared.cell.Slot.{Slot}
 use Rattle.tt_wishes.specs.declared.wish.Wish.{Wish}
 use Rattle.tt_wishes.specs.declared.wish.Wish.TheVariants.{Hold, Rooms, Closed}
-use Rattle.tt_wishes_clash.specs.Periods.{wants}
+use Rattle.tt_wishes_narrow.specs.Periods.{wants}
 
 -- the period is one of the week, and none of the wishes wants a lecture of the course in it
 abbrev pub is_new_at : Problem → List Wish → ℕ → Slot → Bool

@@ -2,7 +2,7 @@
 
 ghost use Rattle.std.specs.Prelude.{◌≡◌, false, IfSome, IsNone, position};
 ghost use Rattle.std.specs.List.{list_any};
-ghost use Rattle.tt_wishes_clash.specs.Clashes.{clashes, clashes_with_any, AreClashing};
+ghost use Rattle.tt_wishes_narrow.specs.Clashes.{clashes, clashes_with_any, AreClashing};
 
 use crate::clashes::clashes;
 use tt_instance::Instance;

@@ -1,8 +1,8 @@
 use Rattle.std.proofs.Common.{refl, sym}
-use Rattle.tt_wishes_clash.specs.declared.clash.Clash.TheVariants.{TooMany, Unavailable}
-use Rattle.tt_wishes_clash.proofs.Apart.{clash_breaks}
-use Rattle.tt_wishes_clash.proofs.Reasons.{barred_found, none_barred, reason_breaks}
-use Rattle.tt_wishes_clash.proofs.finding.find_clash.Goals as goal
+use Rattle.tt_wishes_narrow.specs.declared.clash.Clash.TheVariants.{TooMany, Unavailable}
+use Rattle.tt_wishes_narrow.proofs.Apart.{clash_breaks}
+use Rattle.tt_wishes_narrow.proofs.Reasons.{barred_found, none_barred, reason_breaks}
+use Rattle.tt_wishes_narrow.proofs.finding.find_clash.Goals as goal
 
 pub returns-in-Some-clause-clashing : goal.returns-in-Some-clause-clashing
 returns-in-Some-clause-clashing c = barred_found c.args.instance.now c.args.wishes.now c.in-Some.wish (sym c.in-Some.ensures)

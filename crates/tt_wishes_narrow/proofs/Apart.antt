@@ -24,7 +24,7 @@ use Rattle.tt_wishes.specs.Wishes.{is_there, is_held, is_only_in, is_empty, is_k
 use Rattle.tt_wishes.specs.declared.wish.Place.{Place}
 use Rattle.tt_wishes.specs.declared.wish.Wish.{Wish}
 use Rattle.tt_wishes.specs.declared.wish.Wish.TheVariants.{Hold, Rooms, Closed}
-use Rattle.tt_wishes_clash.specs.Clashes.{both_give, covers, place_covers, is_other_room, holds_clash, has_no_room, clashes, clashes_with_any, AreClashing}
+use Rattle.tt_wishes_narrow.specs.Clashes.{both_give, covers, place_covers, is_other_room, holds_clash, has_no_room, clashes, clashes_with_any, AreClashing}
 
 -- ---- parts of places
 

@@ -22,10 +22,10 @@ use Rattle.tt_wishes.specs.Wishes.{is_kept, broken_wishes}
 use Rattle.tt_wishes.specs.declared.wish.Place.{Place}
 use Rattle.tt_wishes.specs.declared.wish.Wish.{Wish}
 use Rattle.tt_wishes.specs.declared.wish.Wish.TheVariants.{Hold, Rooms, Closed}
-use Rattle.tt_wishes_clash.specs.Clashes.{both_give}
-use Rattle.tt_wishes_clash.specs.Inner.Adding.{is_new_at, is_new, adds_period}
-use Rattle.tt_wishes_clash.specs.Periods.{is_given, wants, wanted_periods, IsOneTooMany}
-use Rattle.tt_wishes_clash.proofs.Apart.{both_same, held_entry, is_kept_in}
+use Rattle.tt_wishes_narrow.specs.Clashes.{both_give}
+use Rattle.tt_wishes_narrow.specs.Inner.Adding.{is_new_at, is_new, adds_period}
+use Rattle.tt_wishes_narrow.specs.Periods.{is_given, wants, wanted_periods, IsOneTooMany}
+use Rattle.tt_wishes_narrow.proofs.Apart.{both_same, held_entry, is_kept_in}
 
 -- ---- a timetable that keeps the wishes
 

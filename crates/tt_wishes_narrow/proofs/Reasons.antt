@@ -14,12 +14,12 @@ use Rattle.tt_path.specs.Facts.{agrees}
 use Rattle.tt_wishes.specs.Wishes.{is_kept, broken_wishes}
 use Rattle.tt_wishes.specs.declared.wish.Wish.{Wish}
 use Rattle.tt_wishes.specs.declared.wish.Wish.TheVariants.{Hold, Rooms, Closed}
-use Rattle.tt_wishes_clash.specs.Periods.{is_barred, wants_barred}
-use Rattle.tt_wishes_clash.specs.Reasons.{IsBarred, IsClash}
-use Rattle.tt_wishes_clash.specs.declared.clash.Clash.{Clash}
-use Rattle.tt_wishes_clash.specs.declared.clash.Clash.TheVariants.{Pair, Unavailable, TooMany}
-use Rattle.tt_wishes_clash.proofs.Apart.{clash_breaks, held_entry, is_kept_in, none_found}
-use Rattle.tt_wishes_clash.proofs.Counted.{too_many_breaks}
+use Rattle.tt_wishes_narrow.specs.Periods.{is_barred, wants_barred}
+use Rattle.tt_wishes_narrow.specs.Reasons.{IsBarred, IsClash}
+use Rattle.tt_wishes_narrow.specs.declared.clash.Clash.{Clash}
+use Rattle.tt_wishes_narrow.specs.declared.clash.Clash.TheVariants.{Pair, Unavailable, TooMany}
+use Rattle.tt_wishes_narrow.proofs.Apart.{clash_breaks, held_entry, is_kept_in, none_found}
+use Rattle.tt_wishes_narrow.proofs.Counted.{too_many_breaks}
 
 module _ (p : Problem) (t : List Cell) (ok : IsFeasible p t) where
   -- no entry is in an unavailable period

@@ -4,10 +4,10 @@ use Rattle.std.specs.List.{list_any}
 use Rattle.tt_instance.specs.Problem.{Problem}
 use Rattle.tt_instance.specs.Courses.{lectures}
 use Rattle.tt_wishes.specs.declared.wish.Wish.{Wish}
-use Rattle.tt_wishes_clash.specs.Clashes.{clashes_with_any, AreClashing}
-use Rattle.tt_wishes_clash.specs.Periods.{wanted_periods, wants_barred, IsOneTooMany}
-use Rattle.tt_wishes_clash.specs.declared.clash.Clash.{Clash}
-use Rattle.tt_wishes_clash.specs.declared.clash.Clash.TheVariants.{Pair, Unavailable, TooMany}
+use Rattle.tt_wishes_narrow.specs.Clashes.{clashes_with_any, AreClashing}
+use Rattle.tt_wishes_narrow.specs.Periods.{wanted_periods, wants_barred, IsOneTooMany}
+use Rattle.tt_wishes_narrow.specs.declared.clash.Clash.{Clash}
+use Rattle.tt_wishes_narrow.specs.declared.clash.Clash.TheVariants.{Pair, Unavailable, TooMany}
 
 -- One of the wishes, by its number from 0 on, wants a lecture in a period that is unavailable for its course.
 pub record IsBarred (p : Problem) (ws : List Wish) (i : ℕ) : Type 0 where

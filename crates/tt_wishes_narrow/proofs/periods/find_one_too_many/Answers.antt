@@ -1,7 +1,7 @@
 use Rattle.std.proofs.Common.{sym, ◌∙◌, arith}
-use Rattle.tt_wishes_clash.proofs.Counted.{none_wanted, one_more_wanted, no_more_wanted, one_too_many, all_wanted}
-use Rattle.tt_wishes_clash.proofs.periods.find_one_too_many.Goals as goal
-use Rattle.tt_wishes_clash.proofs.periods.find_one_too_many.Goals.{then-adds_period+else-count-lectures, else-adds_period}
+use Rattle.tt_wishes_narrow.proofs.Counted.{none_wanted, one_more_wanted, no_more_wanted, one_too_many, all_wanted}
+use Rattle.tt_wishes_narrow.proofs.periods.find_one_too_many.Goals as goal
+use Rattle.tt_wishes_narrow.proofs.periods.find_one_too_many.Goals.{then-adds_period+else-count-lectures, else-adds_period}
 
 pub loop-i-init : goal.loop-i-init
 loop-i-init c = (sym (none_wanted c.args.instance.now c.args.course), omega arith)

@@ -4,7 +4,7 @@ ghost use Rattle.std.specs.Prelude.{◌≡◌, nat_lt};
 ghost use Rattle.std.specs.List.{list_any};
 ghost use Rattle.tt_list_laws.specs.Words.{has_number};
 ghost use Rattle.tt_instance.specs.Courses.{lectures};
-ghost use Rattle.tt_wishes_clash.specs.Clashes.{both_give, covers, place_covers, is_other_room, holds_clash, has_no_room, clashes};
+ghost use Rattle.tt_wishes_narrow.specs.Clashes.{both_give, covers, place_covers, is_other_room, holds_clash, has_no_room, clashes};
 ghost use Rattle.tt_wishes.specs.declared.wish.Wish.TheVariants.{Hold, Rooms};
 
 use tt_instance::Instance;

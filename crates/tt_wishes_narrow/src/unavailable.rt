@@ -1,7 +1,7 @@
 //! Lectures that are to stay in periods that are unavailable for their courses.
 
 ghost use Rattle.std.specs.Prelude.{◌≡◌, position};
-ghost use Rattle.tt_wishes_clash.specs.Periods.{is_barred, wants_barred};
+ghost use Rattle.tt_wishes_narrow.specs.Periods.{is_barred, wants_barred};
 
 use tt_instance::Instance;
 use tt_wishes::Wish;

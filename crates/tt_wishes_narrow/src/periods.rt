@@ -3,8 +3,8 @@
 ghost use Rattle.std.specs.Prelude.{◌≡◌, ℕ, ◌<◌, ◌≤◌, length, IfSome, IsNone};
 ghost use Rattle.std.specs.List.{list_any};
 ghost use Rattle.tt_instance.specs.Courses.{lectures};
-ghost use Rattle.tt_wishes_clash.specs.Inner.Adding.{is_new_at, is_new, adds_period};
-ghost use Rattle.tt_wishes_clash.specs.Periods.{is_given, wants, wanted_periods, IsOneTooMany};
+ghost use Rattle.tt_wishes_narrow.specs.Inner.Adding.{is_new_at, is_new, adds_period};
+ghost use Rattle.tt_wishes_narrow.specs.Periods.{is_given, wants, wanted_periods, IsOneTooMany};
 
 use crate::clashes::both_give;
 use tt_instance::{Instance, Slot};

@@ -5,8 +5,8 @@ ghost use Rattle.std.specs.List.{list_any};
 ghost use Rattle.tt_instance.specs.declared.cell.Cell.{Cell};
 ghost use Rattle.tt_rules.specs.Score.{IsFeasible};
 ghost use Rattle.tt_wishes.specs.Wishes.{broken_wishes};
-ghost use Rattle.tt_wishes_clash.specs.Clashes.{clashes_with_any};
-ghost use Rattle.tt_wishes_clash.specs.Reasons.{HasNoClash, IsClash};
+ghost use Rattle.tt_wishes_narrow.specs.Clashes.{clashes_with_any};
+ghost use Rattle.tt_wishes_narrow.specs.Reasons.{HasNoClash, IsClash};
 
 use crate::clash::Clash;
 use crate::pairs::find_pair;

@@ -8,7 +8,7 @@ use Rattle.tt_instance.specs.declared.cell.Slot.{Slot}
 use Rattle.tt_wishes.specs.declared.wish.Place.{Place}
 use Rattle.tt_wishes.specs.declared.wish.Wish.{Wish}
 use Rattle.tt_wishes.specs.declared.wish.Wish.TheVariants.{Hold, Rooms, Closed}
-use Rattle.tt_wishes_clash.specs.Clashes.{both_give}
+use Rattle.tt_wishes_narrow.specs.Clashes.{both_give}
 
 -- The place has this day and this period.
 abbrev pub is_given : Place → Slot → Bool

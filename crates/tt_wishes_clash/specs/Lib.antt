@@ -1,4 +1,0 @@
-pub mod Clashes
-pub mod Inner
-pub mod Periods
-pub mod Reasons
