@@ -6,7 +6,7 @@ use rand_core::{Rng, SeedableRng};
 use rand_pcg::Pcg32;
 use std::alloc::AllocError;
 use tt_parts_least::Allowance;
-use tt_parts_payers::{Aim, Group, ONE, points, share, square};
+use tt_parts_drafts::{Aim, Group, ONE, points, share, square};
 use tt_parts_priced::{Offer, Placing};
 use tt_watch::{Progress, Unit, Watch};
 

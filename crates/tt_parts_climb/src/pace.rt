@@ -1,6 +1,6 @@
 //! How long the steps of a climb are.
 
-use tt_parts_payers::{Aim, MOMENTUM, ONE, PARTS, SCALE, share};
+use tt_parts_drafts::{Aim, MOMENTUM, ONE, PARTS, SCALE, share};
 
 /// The share of the way that a first step goes.
 const FIRST: i64 = ONE;

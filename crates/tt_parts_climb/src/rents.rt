@@ -1,7 +1,7 @@
 //! The rents of the rooms in a climb.
 
 use std::alloc::{AllocError, Global};
-use tt_parts_payers::{ONE, drifted, product, rounded, square, whole};
+use tt_parts_drafts::{ONE, drifted, product, rounded, square, whole};
 
 /// The maximum rent.
 const MAX_RENT: i64 = 1_000_000;

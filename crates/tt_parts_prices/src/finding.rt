@@ -7,7 +7,7 @@ use std::alloc::{AllocError, Global};
 use tt_instance::Instance;
 use tt_parts_climb::{Climb, End};
 use tt_parts_least::Allowance;
-use tt_parts_payers::{Aim, ONE, SCALE};
+use tt_parts_drafts::{Aim, ONE, SCALE};
 use tt_parts_priced::Terms;
 use tt_parts_rents::rents_of;
 use tt_watch::Watch;

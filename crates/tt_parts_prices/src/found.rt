@@ -5,7 +5,7 @@ ghost use Rattle.tt_prices.specs.Limits.{IsPrice};
 
 use std::alloc::{AllocError, Global};
 use tt_parts_climb::Climb;
-use tt_parts_payers::{Aim, Group, SCALE, points};
+use tt_parts_drafts::{Aim, Group, SCALE, points};
 use tt_prices::{MAX_PRICE, PriceRow, PricedGroup};
 use tt_prices_read::Rent;
 

@@ -4,7 +4,7 @@ use std::alloc::AllocError;
 use std::mem;
 use tt_parts_climb::Climb;
 use tt_parts_least::Allowance;
-use tt_parts_payers::{Aim, Group, SCALE};
+use tt_parts_drafts::{Aim, Group, SCALE};
 use tt_parts_trials::{Room, Size, Trial, list_candidates, try_change};
 use tt_watch::Watch;
 

@@ -2,9 +2,8 @@
 
 use std::alloc::AllocError;
 use tt_parts_climb::{Climb, End};
-use tt_parts_drafts::{Draft, count_lectures, give_days, join_curricula, widen};
+use tt_parts_drafts::{Aim, Draft, Group, count_lectures, give_days, join_curricula, widen};
 use tt_parts_least::Allowance;
-use tt_parts_payers::{Aim, Group};
 use tt_parts_priced::Program;
 use tt_parts_trials::{Size, is_too_much, limits_of};
 use tt_watch::Watch;

@@ -1,7 +1,7 @@
 //! Changes of groups that may gain something.
 
 use std::alloc::AllocError;
-use tt_parts_payers::{Aim, Group, ONE};
+use tt_parts_drafts::{Aim, Group, ONE};
 
 /// The least distance from its lectures, on average, at which a course may be counted.
 const OFF: i64 = ONE / 50;

@@ -4,9 +4,8 @@ use crate::candidates::{Candidate, Change};
 use crate::limit::limits_of;
 use crate::size::is_too_much;
 use std::alloc::AllocError;
-use tt_parts_drafts::Draft;
+use tt_parts_drafts::{Aim, Draft, Group, SCALE, rounded, within};
 use tt_parts_least::{Allowance, courses_of};
-use tt_parts_payers::{Aim, Group, SCALE, rounded, within};
 use tt_parts_priced::Program;
 use tt_watch::Watch;
 

@@ -5,7 +5,7 @@ use crate::fixed::{ONE, product, rounded, whole};
 use crate::habits::{Habits, is_in};
 use rand_pcg::Pcg32;
 use std::alloc::AllocError;
-use tt_parts_drafts::Draft;
+use crate::draft::Draft;
 use tt_parts_least::lectures_of;
 use tt_parts_priced::{Program, Tables};
 use tt_prices::MAX_PRICE;
