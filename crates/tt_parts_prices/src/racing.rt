@@ -1,11 +1,10 @@
 //! The ways to make groups, and the race between them.
 
 use std::alloc::AllocError;
-use tt_parts_climb::{Climb, End};
+use tt_parts_climb::{Climb, End, Size, is_too_much, limits_of};
 use tt_parts_drafts::{Aim, Draft, Group, count_lectures, give_days, join_curricula, widen};
 use tt_parts_least::Allowance;
 use tt_parts_priced::Program;
-use tt_parts_trials::{Size, is_too_much, limits_of};
 use tt_watch::Watch;
 
 /// A way to make groups: their courses have at most so many sets, or there are at most so many courses.
