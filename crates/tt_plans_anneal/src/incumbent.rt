@@ -5,7 +5,7 @@ use std::alloc::{AllocError, Global};
 use tt_instance::Instance;
 use tt_moves::Step;
 use tt_plans::{Facts, Plan};
-use tt_plans_rooms::Seating;
+use crate::seating::Seating;
 use tt_plans_tables::put;
 
 /// A placeholder for no step.

@@ -6,8 +6,11 @@ mod annealing;
 mod cooling;
 mod draft;
 mod incumbent;
+mod matching;
 mod scale;
 mod schedule;
+mod seating;
 mod stepping;
 
 pub use annealing::{Annealing, can_anneal};
+pub use seating::Seating;
