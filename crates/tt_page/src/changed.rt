@@ -15,8 +15,7 @@ use tt_instance::Instance;
 use tt_page_changes::{put_changes, put_marks};
 use tt_page_lists::{put_cost_table, put_hard_table, put_lists};
 use tt_page_plan::{Plan, put_name};
-use tt_page_strings::Names;
-use tt_page_text::{Labels, PageText, put_token};
+use tt_page_text::{Labels, Names, PageText, put_token};
 use tt_rules::Score;
 
 /// What changed since an older timetable.

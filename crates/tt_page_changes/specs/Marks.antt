@@ -7,8 +7,8 @@ use Rattle.tt_changes.specs.declared.change.Change.{Change}
 use Rattle.tt_changes.specs.declared.change.Changes.{Changes}
 use Rattle.tt_page_text.specs.Labelled.{Labelled}
 use Rattle.tt_page_text.specs.Markup.{markup}
-use Rattle.tt_page_strings.specs.Quoted.{quoted}
-use Rattle.tt_page_strings.specs.Names.{quoted_when}
+use Rattle.tt_page_text.specs.Quoted.{quoted}
+use Rattle.tt_page_text.specs.Names.{quoted_when}
 use Rattle.tt_table.specs.Kinds.{name_of}
 use Rattle.tt_table.specs.declared.kind.Kind.TheVariants.{Room}
 

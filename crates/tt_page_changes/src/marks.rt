@@ -7,8 +7,7 @@ ghost use Rattle.tt_page_changes.specs.Marks.{fixed_rules, selector, mark_rule, 
 
 use tt_changes::{Change, Changes};
 use tt_instance::Instance;
-use tt_page_strings::{Names, put_quoted, put_quoted_when};
-use tt_page_text::{PageText, Part, put, put_token};
+use tt_page_text::{Names, PageText, Part, put, put_quoted, put_quoted_when, put_token};
 use tt_table::{Entry, Kind};
 
 /// The rules that don't depend on the changes.

@@ -1,7 +1,9 @@
 pub mod Labelled
 pub mod Labels
 pub mod Markup
+pub mod Names
 pub mod Naming
 pub mod Puts
+pub mod Quoted
 pub mod Shown
 pub mod Windowed

@@ -13,7 +13,7 @@ use tt_call_answers::{PageNames, labels_for};
 use tt_changes::find_changes;
 use tt_instance_read::read_instance;
 use tt_page::{Look, Moves, Shown};
-use tt_page_strings::Names;
+use tt_page_text::Names;
 use tt_table::read_solution;
 use tt_text::Sink;
 use tt_text_peek::Peek;

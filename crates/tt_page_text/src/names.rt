@@ -6,12 +6,13 @@ ghost use Rattle.tt_page_text.specs.Labelled.{Labelled};
 ghost use Rattle.tt_page_text.specs.Labels.{names_from, names_in, labels_of};
 ghost use Rattle.tt_page_text.specs.Naming.{names_seen};
 ghost use Rattle.tt_page_text.specs.Puts.{put_text};
-ghost use Rattle.tt_page_strings.specs.Names.{listed, names_given, quoted_day, quoted_period, quoted_when};
+ghost use Rattle.tt_page_text.specs.Names.{listed, names_given, quoted_day, quoted_period, quoted_when};
 
 use crate::quoted::put_quoted;
 use std::alloc::{AllocError, Global};
 use std::marker::Model;
-use tt_page_text::{PageText, Part, put, put_token};
+use crate::page_text::{PageText, put_token};
+use crate::part::{Part, put};
 
 /// The names of the days and of the periods of a day, or none.
 #[derive(Drop)]
@@ -101,7 +102,7 @@ fn put_quoted_period(out: &mut PageText, names: &Names, period: u32)
 }
 
 /// Appends a day and a period of it.
-#[tactic(auto, using(tt_page_text::proofs::Growing::puts), unfolding(crate::specs::Names::quoted_when))]
+#[tactic(auto, using(crate::proofs::Growing::puts), unfolding(crate::specs::Names::quoted_when))]
 pub fn put_quoted_when(out: &mut PageText, names: &Names, day: u32, period: u32)
     ensures { out.new ≡ put_text out.old (quoted_when names.now day period) }
 {

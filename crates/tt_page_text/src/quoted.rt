@@ -2,9 +2,9 @@
 
 ghost use Rattle.std.specs.Prelude.{◌≡◌, flat_map, chars, encode_utf8};
 ghost use Rattle.tt_page_text.specs.Puts.{put_text};
-ghost use Rattle.tt_page_strings.specs.Quoted.{quoted_letter, quoted, IsQuoted};
+ghost use Rattle.tt_page_text.specs.Quoted.{quoted_letter, quoted, IsQuoted};
 
-use tt_page_text::{PageText, put_token};
+use crate::page_text::{PageText, put_token};
 
 /// The letter that replaces bytes that are no text, and control characters.
 const REPLACEMENT: char = '\u{FFFD}';
@@ -35,7 +35,7 @@ fn put_quoted_letter(out: &mut PageText, letter: char)
 }
 
 /// Appends the letters of a text.
-#[tactic(auto, using(tt_page_text::proofs::Growing::puts))]
+#[tactic(auto, using(crate::proofs::Growing::puts))]
 fn put_quoted_letters(out: &mut PageText, text: &str)
     ensures { out.new ≡ put_text out.old (flat_map quoted_letter (chars text.now)) }
 {

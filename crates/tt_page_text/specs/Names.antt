@@ -4,7 +4,7 @@ use Rattle.tt_text.specs.Pieces.{Text, Number}
 use Rattle.tt_page_text.specs.Labelled.{Labelled}
 use Rattle.tt_page_text.specs.Labels.{names_in}
 use Rattle.tt_page_text.specs.Markup.{markup}
-use Rattle.tt_page_strings.specs.Quoted.{quoted}
+use Rattle.tt_page_text.specs.Quoted.{quoted}
 
 -- The names in a text; no text gives no names.
 abbrev pub listed : Option (List ℕ) → List (List ℕ)

@@ -1,7 +1,7 @@
 use Rattle.std.proofs.Common.{◌∙◌}
 use Rattle.std.specs.Option.{option_copied}
-use Rattle.tt_page_strings.proofs.Given.{as_labels}
-use Rattle.tt_page_strings.proofs.names.Names.read.Goals as goal
+use Rattle.tt_page_text.proofs.Given.{as_labels}
+use Rattle.tt_page_text.proofs.names.Names.read.Goals as goal
 
 pub returns-clause-labels : goal.returns-clause-labels
 returns-clause-labels c =

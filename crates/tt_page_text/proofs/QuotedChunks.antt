@@ -8,7 +8,7 @@ use Rattle.std.proofs.lemmas.Str.{chars-append, chars-nil, utf8_lossy_empty}
 use Rattle.tt_page_text.proofs.Growing.{put_nothing, put_twice, then_put}
 use Rattle.tt_page_text.specs.Puts.{put_text}
 use Rattle.tt_page_text.specs.Shown.{unshown}
-use Rattle.tt_page_strings.specs.Quoted.{quoted_letter, quoted}
+use Rattle.tt_page_text.specs.Quoted.{quoted_letter, quoted}
 use Rattle.tt_page_text.specs.Windowed.{PageState}
 
 -- the text of all letters of a text

@@ -6,7 +6,7 @@ use Rattle.std.specs.Str.{chars}
 use Rattle.std.specs.Str.Lossy.{utf8_lossy}
 use Rattle.std.proofs.lemmas.List.Folds.{flat_map-map}
 use Rattle.tt_page_text.specs.Shown.{unshown}
-use Rattle.tt_page_strings.specs.Quoted.{is_special, quoted_letter, quoted, IsQuotedPiece, AreQuoted, IsQuoted}
+use Rattle.tt_page_text.specs.Quoted.{is_special, quoted_letter, quoted, IsQuotedPiece, AreQuoted, IsQuoted}
 
 ordinary : (d : ℕ) → is_special d ≡ false → is_control d ≡ false → IsQuotedPiece (encode_utf8 d)
 ordinary d special control = inl (record { letter = d; no_special = special; no_control = control; spelled = refl })

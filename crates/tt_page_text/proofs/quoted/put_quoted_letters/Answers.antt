@@ -2,8 +2,8 @@ use Rattle.std.proofs.Common.{List, ℕ, flat_map, sym, ap, ◌∙◌, map-id}
 use Rattle.std.proofs.lemmas.Iterator.{YieldsList-from_chars}
 use Rattle.std.proofs.lemmas.Iterator.Consumers.{YieldsList-end}
 use Rattle.tt_page_text.specs.Puts.{put_text}
-use Rattle.tt_page_strings.specs.Quoted.{quoted_letter}
-use Rattle.tt_page_strings.proofs.quoted.put_quoted_letters.Goals as goal
+use Rattle.tt_page_text.specs.Quoted.{quoted_letter}
+use Rattle.tt_page_text.proofs.quoted.put_quoted_letters.Goals as goal
 
 pub returns : goal.returns
 returns c =

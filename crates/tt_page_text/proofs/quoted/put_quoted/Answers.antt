@@ -3,9 +3,9 @@ use Rattle.std.specs.Str.{IsUtf8}
 use Rattle.std.specs.Str.Chunks.{utf8_chunks_rest}
 use Rattle.std.proofs.lemmas.Str.{utf8_lossy_chunk, utf8_lossy_last_chunk}
 use Rattle.tt_page_text.specs.Puts.{put_text}
-use Rattle.tt_page_strings.proofs.Chunks.{chunk_put, last_chunk_put, chunks_put, quoted_all}
-use Rattle.tt_page_strings.proofs.Inert.{quoted_inert}
-use Rattle.tt_page_strings.proofs.quoted.put_quoted.Goals as goal
+use Rattle.tt_page_text.proofs.QuotedChunks.{chunk_put, last_chunk_put, chunks_put, quoted_all}
+use Rattle.tt_page_text.proofs.Inert.{quoted_inert}
+use Rattle.tt_page_text.proofs.quoted.put_quoted.Goals as goal
 
 pub loop-chunk-preserved-then-not-is_empty : goal.loop-chunk-preserved-then-not-is_empty
 loop-chunk-preserved-then-not-is_empty c =

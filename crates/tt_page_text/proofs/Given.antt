@@ -6,7 +6,7 @@ use Rattle.tt_page_text.specs.Labelled.{Labelled}
 use Rattle.tt_page_text.specs.Labels.{labels_of, names_in, names_of}
 use Rattle.tt_page_text.specs.declared.fault.LabelsFault.{LabelsFault}
 use Rattle.tt_page_text.specs.declared.fault.LabelsFault.TheVariants as fault
-use Rattle.tt_page_strings.specs.Names.{listed, names_given}
+use Rattle.tt_page_text.specs.Names.{listed, names_given}
 
 -- a choice that is right is the first of the two
 chosen : (b : Bool) (f : LabelsFault) (given names : List (List ℕ)) → cond b (Ok given) (Err f) ≡ Ok names → given ≡ names

@@ -1,3 +1,0 @@
-pub mod Chunks
-pub mod Given
-pub mod Inert
