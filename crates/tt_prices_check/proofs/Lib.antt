@@ -1,2 +1,13 @@
+pub mod Beginning
+pub mod Leading
+pub mod Listing
+pub mod Lowest
 pub mod Narrow
+pub mod Reaching
+pub mod Relaxing
+pub mod Searching
+pub mod Spent
+pub mod Stepping
+pub mod Suiting
+pub mod Timetables
 pub mod Total

@@ -25,7 +25,7 @@ use Rattle.tt_prices.proofs.Recounted.{concerns_same}
 use Rattle.tt_prices_check.specs.Groups.{IsGroupOf, is_too_wide}
 use Rattle.tt_prices_day.specs.Shapes.{IsNarrow}
 use Rattle.tt_prices_day.proofs.Growing.{length-filter_le}
-use Rattle.tt_prices_week.specs.Week.{week_sizes}
+use Rattle.tt_prices_check.specs.Week.{week_sizes}
 
 -- ---- tests
 

@@ -8,8 +8,8 @@ use Rattle.tt_prices.specs.Prices.{PricedGroup}
 use Rattle.tt_prices_check.specs.Groups.{IsLeast}
 use Rattle.tt_prices_check.specs.Inner.Days.{HasDays}
 use Rattle.tt_prices_day.proofs.Within.{within-more, within-plus, sum-of}
-use Rattle.tt_prices_week.specs.Week.{Suits, week_sizes, base_paid, IsLeastTimetable}
-use Rattle.tt_prices_week.specs.declared.moves.PricedMove.{PricedMove}
+use Rattle.tt_prices_check.specs.Week.{Suits, week_sizes, base_paid, IsLeastTimetable}
+use Rattle.tt_prices_check.specs.declared.moves.PricedMove.{PricedMove}
 
 -- The digits and the days are those of the group.
 pub suits_of : (p : Problem) (scale : ℕ) (g : PricedGroup) {sizes : List ℕ} {courses : ℕ} {week lists : List (Vec PricedMove Global)}

@@ -11,7 +11,7 @@ use Rattle.tt_groups_day.specs.declared.sets.TheConstants.{MAX_SETS}
 use Rattle.tt_groups_week.specs.declared.digits.TheConstants.{MAX_PLACES}
 use Rattle.tt_prices.specs.Days.{courses_of}
 use Rattle.tt_prices.specs.Prices.{PricedGroup, IsRelaxedTimetable, IsGroupBound, paid}
-use Rattle.tt_prices_week.specs.Week.{week_sizes}
+use Rattle.tt_prices_check.specs.Week.{week_sizes}
 use Rattle.tt_prices_check.specs.declared.fault.PricedFault.{PricedFault}
 use Rattle.tt_prices_check.specs.declared.fault.PricedFault.TheVariants.{TooWide, TooManyStates, TooManySets, TooMuchWork}
 use Rattle.tt_prices_check.specs.declared.width.TheConstants.{MAX_GROUP_CURRICULA, MAX_GROUP_COURSES}

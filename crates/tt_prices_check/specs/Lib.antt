@@ -1,2 +1,4 @@
 pub mod Groups
 pub mod Inner
+pub mod Moves
+pub mod Week

@@ -9,7 +9,7 @@ ghost use Rattle.tt_prices.specs.Days.{courses_of, counted_of};
 ghost use Rattle.tt_prices.specs.Prices.{concerns};
 ghost use Rattle.tt_prices.specs.Rows.{group_of};
 ghost use Rattle.tt_prices_check.specs.Groups.{IsGroupOf};
-ghost use Rattle.tt_prices_week.specs.Week.{week_sizes};
+ghost use Rattle.tt_prices_check.specs.Week.{week_sizes};
 
 use std::alloc::{AllocError, Global};
 use tt_instance::Instance;

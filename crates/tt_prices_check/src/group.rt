@@ -8,7 +8,7 @@ ghost use Rattle.tt_prices.specs.declared.price.TheConstants.{MAX_SCALE};
 ghost use Rattle.tt_prices_check.specs.Groups.{IsGroupOf, IsLeast, IsRefusal, IsWithinLimits};
 ghost use Rattle.tt_prices_check.specs.declared.fault.PricedFault.TheVariants as fault;
 ghost use Rattle.tt_prices_check.specs.declared.work.TheConstants.{MAX_GROUP_STEPS};
-ghost use Rattle.tt_prices_week.specs.Week.{base_paid};
+ghost use Rattle.tt_prices_check.specs.Week.{base_paid};
 
 use crate::courses::{WeekSizes, courses_of, sizes_of};
 use crate::fault::{PricedFault, stop_from_sets, stop_from_week};
@@ -20,7 +20,7 @@ use tt_groups_week::Digits;
 use tt_instance::{Instance, MISSING_DAY_COST};
 use tt_prices::PricedGroup;
 use tt_prices_day::Shape;
-use tt_prices_week::least_week;
+use crate::whole_week::least_week;
 use tt_stop::Stop;
 
 /// Returns what every week pays: the days that a course lacks even if it has one lecture a day.

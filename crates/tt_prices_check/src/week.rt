@@ -5,7 +5,7 @@ ghost use Rattle.tt_prices.specs.Rows.{group_of};
 ghost use Rattle.tt_prices_check.specs.Inner.Days.{HasDays};
 ghost use Rattle.tt_prices_check.specs.declared.fault.PricedFault.TheVariants as fault;
 ghost use Rattle.tt_prices_day.specs.Shapes.{IsShape};
-ghost use Rattle.tt_prices_week.specs.Moves.{AreReady};
+ghost use Rattle.tt_prices_check.specs.Moves.{AreReady};
 
 use crate::fault::{PricedFault, stop_from_days};
 use crate::work::MAX_GROUP_STEPS;
@@ -14,7 +14,7 @@ use tt_groups_week::Digits;
 use tt_instance::Instance;
 use tt_prices::PricedGroup;
 use tt_prices_day::{Shape, list_days};
-use tt_prices_week::{PricedMove, priced_moves_of};
+use crate::moves::{PricedMove, priced_moves_of};
 use tt_stop::Stop;
 
 /// Adds the moves of a day at the end.

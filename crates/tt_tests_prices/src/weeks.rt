@@ -1,7 +1,7 @@
 //! The least week by random entries, compared with brute force.
 
 ghost use Rattle.std.specs.Prelude.{◌≡◌, ◌≤◌, length, All, IfOk, IsSome};
-ghost use Rattle.tt_prices_week.specs.Moves.{IsSmall, AreReady};
+ghost use Rattle.tt_prices_check.specs.Moves.{IsSmall, AreReady};
 
 use crate::drawn::{Drawn, Entry, draw, least_paid};
 use std::alloc::{AllocError, Global};
@@ -9,7 +9,7 @@ use std::test::Fail;
 use tt_groups::DIGITS;
 use tt_groups_week::{Digits, WeekFault};
 use tt_prices::PricedDay;
-use tt_prices_week::{PricedMove, least_week, priced_moves_of};
+use tt_prices_check::{PricedMove, least_week, priced_moves_of};
 
 /// The number of random weeks.
 const WEEKS: u64 = 400;

@@ -5,8 +5,8 @@ use Rattle.tt_instance.specs.Problem.{Problem}
 use Rattle.tt_prices.specs.Days.{IsDayList}
 use Rattle.tt_prices.specs.Prices.{PricedGroup}
 use Rattle.tt_prices.specs.declared.day.PricedDay.{PricedDay}
-use Rattle.tt_prices_week.specs.Moves.{AreMovesOf}
-use Rattle.tt_prices_week.specs.declared.moves.PricedMove.{PricedMove}
+use Rattle.tt_prices_check.specs.Moves.{AreMovesOf}
+use Rattle.tt_prices_check.specs.declared.moves.PricedMove.{PricedMove}
 
 -- Whether each day has the moves of its list.
 abbrev pub HasDays : Problem → ℕ → PricedGroup → List (Vec PricedMove Global) → Type 0

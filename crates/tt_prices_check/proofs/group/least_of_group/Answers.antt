@@ -3,8 +3,8 @@ use Rattle.std.specs.Prelude.{slice_index, IfSome}
 use Rattle.tt_prices.specs.Limits.{IsWithin}
 use Rattle.tt_prices.specs.Rows.{group_of}
 use Rattle.tt_prices_check.specs.Inner.Days.{HasDays}
-use Rattle.tt_prices_week.specs.Week.{IsLeastPlan}
-use Rattle.tt_prices_week.proofs.Timetables.{least_timetable}
+use Rattle.tt_prices_check.specs.Week.{IsLeastPlan}
+use Rattle.tt_prices_check.proofs.Timetables.{least_timetable}
 use Rattle.tt_prices_check.proofs.Narrow.{concerned-below, is_narrow, few_counted, few_sizes, counted_within, size_range}
 use Rattle.tt_prices_check.proofs.Total.{suits_of, least_total, small_total}
 use Rattle.tt_prices_check.proofs.group.least_of_group.Goals as goal

@@ -2,7 +2,7 @@ use Rattle.std.proofs.Common.{◌≡◌, ◌≤◌, length}
 use Rattle.std.specs.Prelude.{All}
 use Rattle.tt_prices.specs.Rows.{group_of}
 use Rattle.tt_prices_check.specs.Inner.Days.{HasDays}
-use Rattle.tt_prices_week.specs.Moves.{AreReady}
+use Rattle.tt_prices_check.specs.Moves.{AreReady}
 use Rattle.tt_prices_check.proofs.week.week_of.Given as goal
 
 abbrev pub invariant-loop-day : goal.invariant-loop-day

@@ -1,6 +1,6 @@
 use Rattle.std.proofs.Common.{◌≡◌, length}
 use Rattle.std.specs.Prelude.{All}
-use Rattle.tt_prices_week.specs.Moves.{AreReady}
+use Rattle.tt_prices_check.specs.Moves.{AreReady}
 use Rattle.tt_tests_prices.proofs.weeks.week_moves.Given as goal
 
 abbrev pub invariant-loop-entries : goal.invariant-loop-entries

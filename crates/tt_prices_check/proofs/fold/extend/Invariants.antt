@@ -1,0 +1,18 @@
+use Rattle.std.proofs.Common.{◌≡◌, ℕ, ◌+◌, ◌*◌, ◌<◌, ◌≤◌, length}
+use Rattle.std.specs.Prelude.{◌⊎◌, All, slice_index}
+use Rattle.tt_groups_week.specs.Steps.{Falls}
+use Rattle.tt_prices_check.specs.Inner.Fold.{IsMadeFrom}
+use Rattle.tt_prices_check.specs.declared.fold.TheConstants.{NOT_REACHED}
+use Rattle.tt_prices_check.proofs.Relaxing.{Relaxed}
+use Rattle.tt_prices_check.proofs.fold.extend.Given as goal
+
+abbrev pub invariant-loop-place : goal.invariant-loop-place
+invariant-loop-place l = record {
+  falls : Falls l.initial.next l.next;
+  extended : (s : ℕ) → s < l.place → slice_index l.table s < NOT_REACHED
+      → All (Relaxed l.digits.sizes.items l.digits.weights.items l.digits.courses l.scale s (slice_index l.table s) l.next) l.moves;
+  made : (k : ℕ) → (slice_index l.next k ≡ slice_index l.initial.next k)
+      ⊎ IsMadeFrom l.digits.sizes.items l.digits.weights.items l.digits.courses l.scale l.moves l.table k (slice_index l.next k);
+  fewer : l.relaxations ≤ l.initial.relaxations;
+  taken : l.initial.relaxations ≤ l.relaxations + l.place * length l.moves;
+}
