@@ -7,7 +7,7 @@ use tt_instance::Instance;
 use tt_leaf::{Bound, Claim, ClaimList, Leaf};
 use tt_leaf_find::{best_claims, priced_claims};
 use tt_leaf_rules::claim_value;
-use tt_parts_rents::find_rents;
+use tt_parts_prices::find_rents;
 use tt_path::{Fact, Path, PathFault};
 use tt_proof_check::start_path;
 use tt_proof_read::Node;

@@ -9,7 +9,7 @@ use tt_parts_climb::{Climb, End};
 use tt_parts_least::Allowance;
 use tt_parts_drafts::{Aim, ONE, SCALE};
 use tt_parts_priced::Terms;
-use tt_parts_rents::rents_of;
+use crate::rents::rents_of;
 use tt_watch::Watch;
 
 /// The maximum number of stretches.
