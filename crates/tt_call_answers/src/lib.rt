@@ -1,4 +1,4 @@
-//! The answers and the refusals of the calls of the program tt.
+//! What calls answer, their faults, and the names of days and periods that they are given for a page.
 #![tactic(auto)]
 
 mod answer;

@@ -1,4 +1,4 @@
-//! The call that searches for the best timetable that keeps wishes.
+//! The calls that search for the best timetable that keeps wishes, and for proofs about all that do.
 #![tactic(auto)]
 
 mod answer;
@@ -9,9 +9,7 @@ mod searching;
 mod solve_answer;
 mod solving;
 
-pub use answer::{breaks_nothing, put_wishes};
 pub use calling::best_kept;
-pub use reading::{Read, read_kept};
 pub use solving::solve_kept;
 pub use tt_call_kept::{KeptFault, KeptFiles};
 pub use tt_call_searches::TreeEffort;

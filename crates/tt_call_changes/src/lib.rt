@@ -1,4 +1,4 @@
-//! The call that says which lectures moved.
+//! The calls that say which lectures moved since an older solution: as lines, and as a page.
 #![tactic(auto)]
 
 mod calls;

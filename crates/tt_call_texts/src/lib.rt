@@ -1,4 +1,4 @@
-//! The calls that describe a timetable: reports, tables, calendars, pages and advice.
+//! The calls that describe a timetable: reports, tables, calendars, pages, also under wishes, advice, and counts as JSON.
 #![tactic(auto)]
 
 mod calls;

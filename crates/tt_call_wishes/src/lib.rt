@@ -1,4 +1,4 @@
-//! The call that checks a solution and wishes.
+//! The calls that count broken wishes, that find wishes of which no timetable keeps all, and that improve a timetable under wishes.
 #![tactic(auto)]
 
 mod calls;

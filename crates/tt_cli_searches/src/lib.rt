@@ -1,4 +1,4 @@
-//! The files of `improve` and `parts`.
+//! The commands `improve`, `parts` and `solve`, and the files of proofs that commands write.
 #![tactic(auto)]
 
 mod commands;
@@ -19,4 +19,3 @@ pub use given::Given;
 pub use proof_files::{GROUPS, PRICES, ProofFolder};
 pub use saving::kept_table;
 pub use solve::answer_solve;
-pub use tree_files::{TreeFile, TreeShelf};

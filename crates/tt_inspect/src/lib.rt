@@ -1,4 +1,4 @@
-//! Descriptions of an instance or a solution, and what should be checked, in words for people.
+//! Descriptions of an instance or a solution, what should be checked, and why there is no timetable, in words for people.
 #![tactic(auto)]
 
 mod advice;

@@ -10,4 +10,3 @@ mod swapping;
 mod trying;
 
 pub use descending::{Descent, descend, descend_in};
-pub use idle::is_idle;

@@ -1,4 +1,4 @@
-//! The texts of a page: names, pieces in turn, and the names of days and periods.
+//! The texts of a page: names, also in quoted strings, pieces in turn, and the names of days and periods.
 #![tactic(auto)]
 
 mod fault;
@@ -12,7 +12,7 @@ mod shown;
 pub use fault::{LabelsFault, TextFault};
 pub use labels::{Labels, put_day, put_period, put_when};
 pub use names::{Names, put_quoted_when};
-pub use page_text::{MAX_PAGE_BYTES, PAGE_PIECE_BYTES, PageText, put_number, put_token};
+pub use page_text::{MAX_PAGE_BYTES, PAGE_PIECE_BYTES, PageText, put_token};
 pub use part::{Part, put, put_counted};
 pub use quoted::put_quoted;
 pub use shown::put_shown;

@@ -1,4 +1,4 @@
-//! The weeks of the rooms, teachers and curricula, as grids.
+//! The weeks of the rooms, teachers and curricula as grids, and those of days with a column for each room.
 #![tactic(auto)]
 
 mod days;
@@ -12,8 +12,6 @@ mod named;
 mod view;
 
 pub use days::put_days;
-pub use grids::{put_lectures, put_paper_name, put_section};
-pub use hues::HUES;
-pub use lectures::put_week;
+pub use grids::put_section;
 pub use named::{has_week, put_named};
 pub use view::View;

@@ -1,4 +1,4 @@
-//! Prices of groups and rents of rooms that get better step by step.
+//! Prices of groups and rents of rooms that get better step by step, and changes of groups that are tried at these prices.
 #![tactic(auto)]
 
 mod candidates;

@@ -1,4 +1,5 @@
-//! Groups made from nothing: which curricula are together, which working days each group has, and which lectures it counts.
+//! Groups made from nothing: which curricula are together, which working days each group has, which lectures it counts, and what each is
+//! paid.
 #![tactic(auto)]
 
 mod aim;

@@ -1,5 +1,5 @@
-//! A search for plans of low cost: one plan is heated and cooled slowly, in cycles. Nothing is proved about what it finds; what it hands out
-//! is a list of moves.
+//! A search for plans of low cost: one plan is heated and cooled slowly, in cycles, and given rooms by matchings. Nothing is proved about
+//! what it finds; what it hands out is a list of moves.
 #![tactic(auto)]
 
 mod annealing;
@@ -13,4 +13,3 @@ mod seating;
 mod stepping;
 
 pub use annealing::{Annealing, can_anneal};
-pub use seating::Seating;

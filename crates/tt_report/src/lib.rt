@@ -1,4 +1,4 @@
-//! Weekly reports by room, teacher and curriculum.
+//! Weekly reports by room, teacher and curriculum, written through a buffer.
 #![tactic(auto)]
 
 mod blocks;

@@ -1,4 +1,4 @@
-//! Sources that can report what kind of file they give before it is read.
+//! Sources that can report what kind of file they give before it is read, and texts in memory as sources.
 #![tactic(auto)]
 
 mod front;

@@ -1,4 +1,4 @@
-//! Instances that wishes narrow.
+//! Instances that wishes narrow, and wishes of which no timetable keeps all.
 #![tactic(auto)]
 
 mod clash;
