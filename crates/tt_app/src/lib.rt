@@ -2,7 +2,7 @@
 #![tactic(auto)]
 
 pub use tt_call_answers::{Answer, AppFault};
-pub use tt_call_best_kept::best_kept;
+pub use tt_call_kept_searches::best_kept;
 pub use tt_call_changes::{ChangedForm, ChangedPageFault, ChangedTexts, changed_page};
 pub use tt_call_changes::{ChangesFault, changes};
 pub use tt_call_checks::{bound, check, check_sum, sum, upgrade, validate};
@@ -15,7 +15,7 @@ pub use tt_call_searches::{
     BestAnswer, BestSearch, Effort, ImproveSearch, PartsAnswer, TreeEffort, WatchBest, best,
     improve, parts, solve,
 };
-pub use tt_call_best_kept::solve_kept;
+pub use tt_call_kept_searches::solve_kept;
 pub use tt_call_texts::{
     PageForm, ProvedTexts, WeekTimes, calendar, inspect, page, proved_page, report, table,
 };

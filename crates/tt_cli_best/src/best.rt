@@ -5,7 +5,7 @@ use crate::best_keeper::BestKeeper;
 use std::alloc::{AllocError, Global};
 use std::cell::Cell;
 use std::io::Write;
-use tt_call_best_kept::{KeptFiles, best_kept};
+use tt_call_kept_searches::{KeptFiles, best_kept};
 use tt_call_answers::PageNames;
 use tt_call_searches::{BestAnswer, BestSearch, best};
 use tt_cli_arguments::BestRequest;

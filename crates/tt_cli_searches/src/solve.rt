@@ -5,7 +5,7 @@ use std::alloc::AllocError;
 use std::io::Write;
 use tt_call_answers::Answer;
 use tt_call_searches::{TreeEffort, solve};
-use tt_call_best_kept::{KeptFiles, solve_kept};
+use tt_call_kept_searches::{KeptFiles, solve_kept};
 use tt_cli_arguments::{MAX_SOLVE_NODES, SolveRequest, TreeSearch};
 use tt_cli_files::{Batch, Ready, Role};
 use tt_cli_progress::{Ticker, World, ticker_of};
