@@ -1,23 +1,22 @@
 //! The calls of the program tt, from bytes to bytes.
 #![tactic(auto)]
 
-pub use tt_call_answers::{Answer, AppFault};
-pub use tt_call_kept_searches::best_kept;
-pub use tt_call_changes::{ChangedForm, ChangedPageFault, ChangedTexts, changed_page};
-pub use tt_call_changes::{ChangesFault, changes};
+pub use tt_call_answers::{Answer, AppFault, PageNames, UNNAMED};
+pub use tt_call_changes::{
+    ChangedForm, ChangedPageFault, ChangedTexts, ChangesFault, changed_page, changes,
+};
 pub use tt_call_checks::{bound, check, check_sum, sum, upgrade, validate};
-pub use tt_call_wishes::{ClashingLines, find_clashing_lines};
-pub use tt_call_texts::{inspect_json, validate_json};
 pub use tt_call_kept::{KeptFault, KeptFiles, check_kept, sum_kept};
-pub use tt_call_texts::{PageTexts, kept_page};
-pub use tt_call_answers::{PageNames, UNNAMED};
+pub use tt_call_kept_searches::{best_kept, solve_kept};
 pub use tt_call_searches::{
     BestAnswer, BestSearch, Effort, ImproveSearch, PartsAnswer, TreeEffort, WatchBest, best,
     improve, parts, solve,
 };
-pub use tt_call_kept_searches::solve_kept;
 pub use tt_call_texts::{
-    PageForm, ProvedTexts, WeekTimes, calendar, inspect, page, proved_page, report, table,
+    PageForm, PageTexts, ProvedTexts, WeekTimes, calendar, inspect, inspect_json, kept_page, page,
+    proved_page, report, table, validate_json,
 };
-pub use tt_call_wishes::{WishedFault, WishedFiles, improve_under_wishes};
-pub use tt_call_wishes::{ValidateFault, validate_wishes};
+pub use tt_call_wishes::{
+    ClashingLines, ValidateFault, WishedFault, WishedFiles, find_clashing_lines,
+    improve_under_wishes, validate_wishes,
+};

@@ -6,9 +6,9 @@ ghost use Rattle.tt_call_answers.specs.Lines.{solve_line};
 ghost use Rattle.tt_call_kept.specs.Kept.{kept_line};
 ghost use Rattle.tt_call_kept_searches.specs.SolvedKept.{IsKeptTable, IsShown};
 
+use crate::answer::{breaks_nothing, put_wishes};
 use std::alloc::{AllocError, Global};
 use tt_call_answers::Answer;
-use crate::answer::{breaks_nothing, put_wishes};
 use tt_call_searches::line_of;
 use tt_leaf::Bound;
 use tt_table::{Timetable, write_solution};

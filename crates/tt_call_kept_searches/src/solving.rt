@@ -5,10 +5,10 @@ ghost use Rattle.tt_branch.specs.declared.limit.TheConstants.{MAX_OPENED};
 ghost use Rattle.tt_wishes_best.specs.declared.limit.TheConstants.{MAX_KEPT};
 ghost use Rattle.tt_call_kept_searches.specs.SolvedKept.{IsSolvedKept, IsSolveKeptRefusal};
 
+use crate::reading::{Read, read_kept};
 use crate::searching::search_kept;
 use std::alloc::Global;
 use tt_call_answers::Answer;
-use crate::reading::{Read, read_kept};
 use tt_call_kept::{KeptFault, KeptFiles};
 use tt_call_searches::TreeEffort;
 use tt_watch::Watch;

@@ -3,9 +3,9 @@
 ghost use Rattle.std.specs.Prelude.{IfErr, IfOk, IsSome, IsNone};
 ghost use Rattle.tt_call_wishes.specs.Clashing.{AreUnkept, HasNoReason, IsClashRefusal};
 
+use crate::fault::ValidateFault;
 use crate::lines::{ClashingLines, lines_of};
 use std::alloc::Global;
-use crate::fault::ValidateFault;
 use tt_instance_read::read_instance;
 use tt_wishes::read_wishes;
 use tt_wishes_narrow::find_clash;

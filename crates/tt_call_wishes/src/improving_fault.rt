@@ -1,8 +1,8 @@
 //! The reasons why a solution isn't improved under wishes.
 
+use crate::fault::ValidateFault;
 use std::alloc::AllocError;
 use thiserror::Error;
-use crate::fault::ValidateFault;
 use tt_instance_read::InstanceFault;
 use tt_search_complete::CompleteFault;
 use tt_table::SolutionFault;

@@ -5,17 +5,17 @@ use crate::best_keeper::BestKeeper;
 use std::alloc::{AllocError, Global};
 use std::cell::Cell;
 use std::io::Write;
-use tt_call_kept_searches::{KeptFiles, best_kept};
 use tt_call_answers::PageNames;
+use tt_call_kept_searches::{KeptFiles, best_kept};
 use tt_call_searches::{BestAnswer, BestSearch, best};
 use tt_cli_arguments::BestRequest;
 use tt_cli_files::Batch;
 use tt_cli_progress::{Ticker, World, ticker_of};
-use tt_cli_searches::{GROUPS, Given, PRICES, kept_table};
 use tt_cli_saving::{
     CommandFault, Folder, Input, InputFile, Inputs, Keeper, Prepared, Reply, WISHES_LINE,
     read_if_given, reply_with,
 };
+use tt_cli_searches::{GROUPS, Given, PRICES, kept_table};
 use tt_page::STYLE;
 use tt_text_peek::{FileKind, kind_of_front};
 

@@ -1,17 +1,17 @@
 //! The files of `solve`.
 
+use crate::given::Given;
 use crate::partial::PartialFiles;
+use crate::saving::kept_table;
+use crate::tree_files::{TreeFile, TreeShelf};
 use std::alloc::AllocError;
 use std::io::Write;
 use tt_call_answers::Answer;
-use tt_call_searches::{TreeEffort, solve};
 use tt_call_kept_searches::{KeptFiles, solve_kept};
+use tt_call_searches::{TreeEffort, solve};
 use tt_cli_arguments::{MAX_SOLVE_NODES, SolveRequest, TreeSearch};
 use tt_cli_files::{Batch, Ready, Role};
 use tt_cli_progress::{Ticker, World, ticker_of};
-use crate::given::Given;
-use crate::tree_files::{TreeFile, TreeShelf};
-use crate::saving::kept_table;
 use tt_cli_saving::{
     CommandFault, Input, Inputs, Keeper, Prepared, Reply, Target, read_if_given, reply_with,
 };

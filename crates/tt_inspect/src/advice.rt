@@ -3,10 +3,10 @@
 ghost use Rattle.std.specs.Prelude.{◌<◌, length};
 
 use crate::alike::put_alike;
+use crate::impossible::put_impossible;
 use crate::lists::put_concerns;
 use std::alloc::AllocError;
 use std::fmt;
-use crate::impossible::put_impossible;
 use tt_inspect_words::{Counted, Counts, Name, Noun, most_seats};
 use tt_instance::{Instance, MISSING_DAY_COST};
 

@@ -9,9 +9,9 @@ use crate::heading::{put_head, put_marks};
 use crate::look::Look;
 use crate::proved::Proved;
 use tt_instance::Instance;
-use tt_page_weeks::{View, put_days, put_named, put_section};
 use tt_page_plan::{Plan, put_name};
 use tt_page_text::{Labels, PageText, put_token};
+use tt_page_weeks::{View, put_days, put_named, put_section};
 use tt_table::Kind;
 
 /// The weeks of a sheet.

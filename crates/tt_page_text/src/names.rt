@@ -8,11 +8,11 @@ ghost use Rattle.tt_page_text.specs.Naming.{names_seen};
 ghost use Rattle.tt_page_text.specs.Puts.{put_text};
 ghost use Rattle.tt_page_text.specs.Names.{listed, names_given, quoted_day, quoted_period, quoted_when};
 
+use crate::page_text::{PageText, put_token};
+use crate::part::{Part, put};
 use crate::quoted::put_quoted;
 use std::alloc::{AllocError, Global};
 use std::marker::Model;
-use crate::page_text::{PageText, put_token};
-use crate::part::{Part, put};
 
 /// The names of the days and of the periods of a day, or none.
 #[derive(Drop)]

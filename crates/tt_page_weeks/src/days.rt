@@ -5,12 +5,12 @@ ghost use Rattle.tt_list_laws.specs.Words.{range_below};
 ghost use Rattle.tt_page_text.specs.Puts.{put_text};
 ghost use Rattle.tt_page_weeks.specs.Days.{room_cell, room_row_head, room_row, day_grid_head, day_table_head, day_title, period_head, day_grid, day_link_head, day_index_item, days_head, days_text};
 
+use crate::grids::{put_lectures, put_paper_name};
+use crate::lectures::put_week;
+use crate::view::View;
 use tt_instance::Instance;
 use tt_page_plan::Plan;
 use tt_page_text::{Labels, PageText, Part, put, put_day, put_period, put_token};
-use crate::view::View;
-use crate::grids::{put_lectures, put_paper_name};
-use crate::lectures::put_week;
 use tt_table::Kind;
 
 /// Appends the lectures in a room in a period of a day.

@@ -5,8 +5,8 @@ use crate::rents::Rents;
 use rand_core::{Rng, SeedableRng};
 use rand_pcg::Pcg32;
 use std::alloc::AllocError;
-use tt_parts_least::Allowance;
 use tt_parts_drafts::{Aim, Group, ONE, points, share, square};
+use tt_parts_least::Allowance;
 use tt_parts_priced::{Offer, Placing};
 use tt_watch::{Progress, Unit, Watch};
 

@@ -1,11 +1,11 @@
 //! A group in a climb: its program, its prices, and the timetable that it chose.
 
 use crate::aim::{Aim, SCALE};
+use crate::draft::Draft;
 use crate::fixed::{ONE, product, rounded, whole};
 use crate::habits::{Habits, is_in};
 use rand_pcg::Pcg32;
 use std::alloc::AllocError;
-use crate::draft::Draft;
 use tt_parts_least::lectures_of;
 use tt_parts_priced::{Program, Tables};
 use tt_prices::MAX_PRICE;

@@ -3,13 +3,13 @@
 use crate::found::{PricesFound, found_by};
 use crate::growing::grow_groups;
 use crate::racing::{climbs_of, race};
+use crate::rents::rents_of;
 use std::alloc::{AllocError, Global};
 use tt_instance::Instance;
 use tt_parts_climb::{Climb, End};
-use tt_parts_least::Allowance;
 use tt_parts_drafts::{Aim, ONE, SCALE};
+use tt_parts_least::Allowance;
 use tt_parts_priced::Terms;
-use crate::rents::rents_of;
 use tt_watch::Watch;
 
 /// The maximum number of stretches.

@@ -3,8 +3,8 @@
 use std::alloc::AllocError;
 use std::mem;
 use tt_parts_climb::{Climb, Room, Size, Trial, list_candidates, try_change};
-use tt_parts_least::Allowance;
 use tt_parts_drafts::{Aim, Group, SCALE};
+use tt_parts_least::Allowance;
 use tt_watch::Watch;
 
 /// A gain that counts, as a part of a point.

@@ -1,11 +1,11 @@
 //! The best plan so far, with rooms.
 
 use crate::draft::Draft;
+use crate::seating::Seating;
 use std::alloc::{AllocError, Global};
 use tt_instance::Instance;
 use tt_moves::Step;
 use tt_plans::{Facts, Plan};
-use crate::seating::Seating;
 use tt_plans_tables::put;
 
 /// A placeholder for no step.

@@ -13,6 +13,7 @@ ghost use Rattle.tt_prices_check.specs.Week.{base_paid};
 use crate::courses::{WeekSizes, courses_of, sizes_of};
 use crate::fault::{PricedFault, stop_from_sets, stop_from_week};
 use crate::week::week_within;
+use crate::whole_week::least_week;
 use crate::width::{MAX_GROUP_COURSES, is_too_wide};
 use crate::work::PricedWork;
 use std::alloc::Global;
@@ -20,7 +21,6 @@ use tt_groups_week::Digits;
 use tt_instance::{Instance, MISSING_DAY_COST};
 use tt_prices::PricedGroup;
 use tt_prices_day::Shape;
-use crate::whole_week::least_week;
 use tt_stop::Stop;
 
 /// Returns what every week pays: the days that a course lacks even if it has one lecture a day.

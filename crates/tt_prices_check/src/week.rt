@@ -8,13 +8,13 @@ ghost use Rattle.tt_prices_day.specs.Shapes.{IsShape};
 ghost use Rattle.tt_prices_check.specs.Moves.{AreReady};
 
 use crate::fault::{PricedFault, stop_from_days};
+use crate::moves::{PricedMove, priced_moves_of};
 use crate::work::MAX_GROUP_STEPS;
 use std::alloc::{AllocError, Global};
 use tt_groups_week::Digits;
 use tt_instance::Instance;
 use tt_prices::PricedGroup;
 use tt_prices_day::{Shape, list_days};
-use crate::moves::{PricedMove, priced_moves_of};
 use tt_stop::Stop;
 
 /// Adds the moves of a day at the end.

@@ -9,11 +9,11 @@ ghost use Rattle.tt_report.specs.Puts.{Puts};
 ghost use Rattle.tt_report.specs.Names.{shown};
 ghost use Rattle.tt_report.specs.Inner.Blocks.{IsBlock, head_of, shown_in, belongs_to, next_texts};
 
+use crate::output::Output;
 use crate::showing::put_next_name;
 use tt_instance::Instance;
 use tt_table::Entry;
 use tt_text::Sink;
-use crate::output::Output;
 
 /// The room, teacher or curriculum whose week a block shows, by number.
 #[derive(Clone, Copy)]

@@ -15,10 +15,10 @@ ghost use Rattle.tt_report.specs.Puts.{Puts};
 ghost use Rattle.tt_report.specs.declared.blocks.Block.TheVariants as of;
 
 use crate::blocks::Block;
+use crate::output::Output;
 use tt_instance::Instance;
 use tt_table::{Group, Groups, Kind as By, Timetable};
 use tt_text::{Sink, WriteFailed};
-use crate::output::Output;
 
 /// Puts the texts of the entries that belong to a block.
 fn put_entries<W: Sink>(

@@ -4,8 +4,8 @@ ghost use Rattle.std.specs.Prelude.{◌∷◌, flat_map, chars, encode_utf8};
 ghost use Rattle.tt_report.specs.Puts.{Puts};
 ghost use Rattle.tt_report.specs.Names.{letter_text, shown};
 
-use tt_text::Sink;
 use crate::output::Output;
+use tt_text::Sink;
 
 /// The letter that is shown in place of bytes that are no text.
 const REPLACEMENT: char = '\u{FFFD}';

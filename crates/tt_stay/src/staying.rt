@@ -5,14 +5,14 @@ ghost use Rattle.tt_table.specs.Table.{IsTimetable};
 ghost use Rattle.tt_stay.specs.Rearranged.{IsRearranged};
 ghost use Rattle.tt_stay.specs.Staying.{IsNear};
 
-use crate::weight::{Weight, weigh};
-use std::alloc::{AllocError, Global};
-use tt_instance::Instance;
 use crate::drawing::Guide;
 use crate::homes::Homes;
 use crate::prices::Prices;
-use crate::stay::Search;
 use crate::searching::search_near;
+use crate::stay::Search;
+use crate::weight::{Weight, weigh};
+use std::alloc::{AllocError, Global};
+use tt_instance::Instance;
 use tt_table::Timetable;
 use tt_watch::Watch;
 

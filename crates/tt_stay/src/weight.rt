@@ -4,11 +4,11 @@ ghost use Rattle.std.specs.Prelude.{◌≡◌, ◌<◌, ◌+◌, ◌*◌, ◌^�
 ghost use Rattle.tt_table.specs.Table.{IsTimetable};
 ghost use Rattle.tt_stay.specs.Staying.{IsLower, IsWeight, total};
 
+use crate::stay::Stay;
 use std::alloc::{AllocError, Global};
 use tt_changes::find_changes;
 use tt_instance::Instance;
 use tt_rules::score;
-use crate::stay::Stay;
 use tt_table::Timetable;
 
 /// The hard count and the cost of a timetable, and the lectures that left their places in an older one.

@@ -5,10 +5,10 @@ use crate::writers::StoppingOnce;
 use std::alloc::{AllocError, Global};
 use std::test::Fail;
 use tt_app::AppFault;
+use tt_report::Output;
 use tt_text::{
     Sink, Writing, put_line_end, put_next_number, put_next_token, put_number, put_token,
 };
-use tt_report::Output;
 
 /// How many bytes a writer takes at most in one write.
 const MOST_IN_A_WRITE: usize = 5_000;

@@ -6,8 +6,8 @@ ghost use Rattle.tt_proof_sum.specs.Added.{Give};
 ghost use Rattle.tt_call_changes.specs.ChangedPaged.{IsChangedPaged, IsChangedPageRefusal, IsBeforeProofs, IsUnwritten, is_failed_write, is_failed_read_at};
 
 use crate::calls::said::said_of;
-use crate::page_texts::ChangedTexts;
 use crate::page_fault::ChangedPageFault;
+use crate::page_texts::ChangedTexts;
 use std::alloc::Global;
 use tt_call_answers::{PageNames, labels_for};
 use tt_changes::find_changes;

@@ -4,11 +4,11 @@ ghost use Rattle.std.specs.Prelude.{◌≡◌, IfOk, IfErr, MatchOption, None, S
 ghost use Rattle.tt_call_texts.specs.Inspected.{IsInspected};
 ghost use Rattle.tt_call_answers.specs.declared.fault.AppFault.TheVariants as fault;
 
+use crate::calls::inspect::inspect;
 use crate::lines::line_of;
 use serde_json::{Value, json};
 use std::alloc::{AllocError, Global};
 use tt_call_answers::{Answer, AppFault};
-use crate::calls::inspect::inspect;
 
 /// How a line of each kind begins, and the kind.
 const FRONTS: [(&str, &str); 3] = [

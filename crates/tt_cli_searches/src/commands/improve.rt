@@ -2,6 +2,7 @@
 
 use crate::dropping::drop_and_list;
 use crate::near::{improve_priced, prices};
+use crate::saving::kept_table;
 use std::alloc::Global;
 use std::io::Write;
 use tt_call_answers::Answer;
@@ -10,7 +11,6 @@ use tt_call_wishes::{Search as WishedSearch, WishedFiles, improve_under_wishes};
 use tt_cli_arguments::{ImproveRequest, Search};
 use tt_cli_files::{Batch, Role};
 use tt_cli_progress::{Ticker, World, ticker_of};
-use crate::saving::kept_table;
 use tt_cli_saving::{
     CommandFault, Input, Inputs, Keeper, NoShelf, Prepared, Reply, Target, read_if_given,
     reply_with, show_clash,

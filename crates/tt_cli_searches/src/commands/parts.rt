@@ -1,12 +1,12 @@
 //! The files of `parts`.
 
+use crate::proof_files::{GROUPS, PRICES, ProofFolder};
 use std::alloc::AllocError;
 use std::io::Write;
 use tt_call_searches::{PartsAnswer, parts};
 use tt_cli_arguments::{PartSearch, PartsRequest};
 use tt_cli_files::{Batch, Role};
 use tt_cli_progress::{Ticker, World, ticker_of};
-use crate::proof_files::{GROUPS, PRICES, ProofFolder};
 use tt_cli_saving::{
     CommandFault, Folder, FolderFile, Input, InputFile, Inputs, Keeper, Reply, Shelf, reply_with,
 };
