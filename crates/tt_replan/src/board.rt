@@ -4,7 +4,13 @@ use rand_pcg::Pcg32;
 use std::alloc::{AllocError, Global};
 use tt_instance::Instance;
 use tt_occupancy::Occupied;
-use tt_replan_tables::{Group, Links, Prices, Rooms, Seating, Sizes, Week};
+use crate::group::Group;
+use crate::links::Links;
+use crate::prices::Prices;
+use crate::rooms::Rooms;
+use crate::seating::Seating;
+use crate::reading::Sizes;
+use crate::week::Week;
 
 /// The rooms, the week without the lectures of a group, the links of all courses to it, and its prices.
 #[derive(Drop)]

@@ -1,7 +1,9 @@
 //! Sets of members that can be taught in one period.
 
 use crate::board::Board;
-use tt_replan_tables::{Group, Links, MOST_MEMBERS, Slot};
+use crate::group::{Group, MOST_MEMBERS};
+use crate::links::Links;
+use crate::week::Slot;
 
 /// The maximum number of sets of members.
 pub const MOST_LETTERS: usize = 1 << MOST_MEMBERS;

@@ -3,7 +3,7 @@
 use crate::board::Board;
 use crate::folding::crowding_cost;
 use crate::spelling::isolation;
-use tt_replan_tables::{Group, Member};
+use crate::group::{Group, Member};
 
 /// Returns the group's curricula that are taught in a period, as a set.
 fn taught(board: &Board, group: &Group, slot: usize) -> u128 {

@@ -7,7 +7,9 @@ use std::alloc::{AllocError, Global};
 use tt_instance::Instance;
 use tt_moves::Step;
 use tt_occupancy::Occupied;
-use tt_replan_tables::{Group, MOST_MEMBERS, MOST_ROOMS, course_count, sizes_of};
+use crate::group::{Group, MOST_MEMBERS};
+use crate::rooms::MOST_ROOMS;
+use crate::reading::{course_count, sizes_of};
 
 /// The maximum number of periods of a day.
 const MOST_PERIODS: u32 = 15;

@@ -8,7 +8,8 @@ use crate::present::present_cost;
 use crate::spelling::Speller;
 use std::alloc::{AllocError, Global};
 use tt_occupancy::Occupied;
-use tt_replan_tables::{Group, Sizes};
+use crate::group::Group;
+use crate::reading::Sizes;
 
 /// The search for the cheapest week of a group, and the plan that it found.
 #[derive(Drop)]

@@ -4,7 +4,9 @@ use crate::board::Board;
 use crate::letters::{Alphabet, Letter, MOST_LETTERS, priced};
 use std::alloc::{AllocError, Global};
 use tt_instance::ISOLATED_COST;
-use tt_replan_tables::{Group, MOST_STATES, POINT, put, put_next};
+use crate::group::{Group, MOST_STATES};
+use crate::rooms::POINT;
+use crate::places::{put, put_next};
 
 /// The maximum number of sequences of sets of a day.
 const MOST_SEQUENCES: usize = 50_000;
