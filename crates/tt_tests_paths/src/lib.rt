@@ -1,4 +1,4 @@
-//! Tests that the path with tables gives the same answers as the plain path.
+//! Tests that the path with tables gives the same answers as the plain path, and of leaves over both paths, also of those that are found.
 #![tactic(auto)]
 
 #[cfg(test)]
@@ -6,9 +6,17 @@ mod agreement;
 #[cfg(test)]
 mod answers;
 #[cfg(test)]
+mod checked;
+#[cfg(test)]
 mod deadness;
 #[cfg(test)]
 mod dice;
+#[cfg(test)]
+mod drawn;
+#[cfg(test)]
+mod each_leaf;
+#[cfg(test)]
+mod finding;
 #[cfg(test)]
 mod instances;
 #[cfg(test)]

@@ -1,4 +1,4 @@
-//! Tests of the calls that search: their watches, and what they start from.
+//! Tests of the searches for trees and timetables: their watches, what they start from, and proofs below a root.
 #![tactic(auto)]
 
 #[cfg(test)]
@@ -10,6 +10,10 @@ mod counting;
 #[cfg(test)]
 mod ended;
 #[cfg(test)]
+mod rooted;
+#[cfg(test)]
 mod solve_kept;
+#[cfg(test)]
+mod watched;
 #[cfg(test)]
 mod weeks;

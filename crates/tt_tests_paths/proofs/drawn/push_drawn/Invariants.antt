@@ -1,6 +1,6 @@
 use Rattle.std.proofs.Common.{◌≡◌}
 use Rattle.tt_leaf_find.specs.Found.{ArePatterns}
-use Rattle.tt_tests_leaves.proofs.drawn.push_drawn.Given as goal
+use Rattle.tt_tests_paths.proofs.drawn.push_drawn.Given as goal
 
 abbrev pub invariant-loop-number : goal.invariant-loop-number
 invariant-loop-number g l = record {
