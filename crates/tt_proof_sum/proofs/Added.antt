@@ -133,7 +133,8 @@ added_over p root remaining s t e added parts of = subst (λ (q : Problem). Adds
 pub explained_over : (p : Problem) (root : List Fact) (remaining : Option (List ℕ)) (s : Sum) (x : Stop FileFault) → problem_of s ≡ p
     → OnFault x (λ f. (parts : List Part) (bytes : List ℕ) → IsSumOf s parts → remaining ≡ Some bytes
     → ExplainsAddedOn (problem_of s) root parts bytes f)
-    → OnFault x (λ f. (parts : List Part) (bytes : List ℕ) → IsSumOf s parts → remaining ≡ Some bytes → ExplainsAddedOn p root parts bytes f)
+    → OnFault x (λ f. (parts : List Part) (bytes : List ℕ) → IsSumOf s parts → remaining ≡ Some bytes
+    → ExplainsAddedOn p root parts bytes f)
 explained_over p root remaining s x e tells = OnFault-weaker x _ _ (λ f explains parts bytes of known.
     subst (λ (q : Problem). ExplainsAddedOn q root parts bytes f) e (explains parts bytes of known)) tells
 

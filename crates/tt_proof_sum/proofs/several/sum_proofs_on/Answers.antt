@@ -44,7 +44,8 @@ returns-in-Err-clause-fault g c =
     c.due-file.result c.in-Err.stop c.loop-source-test.true
     (ap (get_or c.loop-source.source-items c.loop-source.source-index) c.source-item.is) c.loop-source.invariant.sofar
     c.due-file.ensures
-    (explained_over c.args.instance.now c.args.root.now (g.R.Source.remaining (get_or c.loop-source.source-items c.loop-source.source-index c.source-item.result))
+    (explained_over c.args.instance.now c.args.root.now
+    (g.R.Source.remaining (get_or c.loop-source.source-items c.loop-source.source-index c.source-item.result))
     c.loop-source.sum c.in-Err.stop c.loop-source.invariant.problem c.in-Err.ensures.fault)
 
 pub returns-in-Err-clause-only : goal.returns-in-Err-clause-only
@@ -56,7 +57,8 @@ returns-in-Err-clause-only g c =
     c.due-file.result c.in-Err.stop c.loop-source-test.true
     (ap (get_or c.loop-source.source-items c.loop-source.source-index) c.source-item.is) c.loop-source.invariant.sofar
     c.due-file.ensures
-    (explained_over c.args.instance.now c.args.root.now (g.R.Source.remaining (get_or c.loop-source.source-items c.loop-source.source-index c.source-item.result))
+    (explained_over c.args.instance.now c.args.root.now
+    (g.R.Source.remaining (get_or c.loop-source.source-items c.loop-source.source-index c.source-item.result))
     c.loop-source.sum c.in-Err.stop c.loop-source.invariant.problem c.in-Err.ensures.fault) proofs given in
     sum_unfinished c.args.instance.now c.args.root.now c.days.ensures.instance proofs s h within c.due-file.result c.in-Err.stop reported
 
@@ -125,7 +127,8 @@ loop-source-preserved g c = record {
       (get_or c.loop-source.source-items c.loop-source.source-index c.source-item.result) c.add.new.source
       c.loop-source-test.true c.loop-source.invariant.long
       (ap (get_or c.loop-source.source-items c.loop-source.source-index) c.source-item.is) c.loop-source.invariant.sofar
-      (added_over c.args.instance.now c.args.root.now (g.R.Source.remaining (get_or c.loop-source.source-items c.loop-source.source-index c.source-item.result))
+      (added_over c.args.instance.now c.args.root.now
+      (g.R.Source.remaining (get_or c.loop-source.source-items c.loop-source.source-index c.source-item.result))
       c.loop-source.sum c.in-Ok.sum c.loop-source.invariant.problem c.in-Ok.ensures.added) c.in-Ok.ensures.failed;
   problem = c.in-Ok.ensures.unchanged ∙ c.loop-source.invariant.problem;
   long = simp length-set c.loop-source.invariant.long;
