@@ -1,4 +1,4 @@
-pub mod Answering
+pub mod AnswersTold
 pub mod Keeping
 pub mod Narrowings
 pub mod Refused

@@ -49,7 +49,7 @@ fn text_of(
 }
 
 /// Returns the answer with the timetable of a search and the text of its proof.
-#[tactic(auto, using(crate::proofs::Answering::kept_fits))]
+#[tactic(auto, using(crate::proofs::AnswersTold::kept_fits))]
 pub fn answer_of(
     alloc: Global,
     wishing: Wishing<'_, '_>,

@@ -1,5 +1,5 @@
 pub mod Dating
 pub mod KeptTelling
-pub mod Paging
+pub mod PageTelling
 mod Refused
 mod Retold

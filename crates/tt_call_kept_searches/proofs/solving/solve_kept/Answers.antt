@@ -1,7 +1,7 @@
 use Rattle.std.proofs.Common.{refl}
 use Rattle.std.proofs.lemmas.Result.{err_from_is_err_and}
 use Rattle.tt_call_kept_searches.proofs.Narrowings.{narrowing}
-use Rattle.tt_call_kept_searches.proofs.Answering.{tells_files}
+use Rattle.tt_call_kept_searches.proofs.AnswersTold.{tells_files}
 use Rattle.tt_call_kept_searches.proofs.solving.solve_kept.Goals as goal
 
 pub returns-in_err-instance-clause-fault : goal.returns-in_err-instance-clause-fault

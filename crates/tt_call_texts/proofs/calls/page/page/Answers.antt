@@ -8,7 +8,7 @@ use Rattle.tt_call_answers.specs.Refusals.{is_failed_write}
 use Rattle.tt_call_answers.proofs.FailedReads.{passed, calm, instance_write, solution_write, labels_write, page_write}
 use Rattle.tt_call_answers.proofs.Files.{tells_instance, tells_solution, only_memory}
 use Rattle.tt_call_answers.proofs.Fitting.{names_memory}
-use Rattle.tt_call_texts.proofs.Paging.{names_tell, plain_page_tells, page_same, output_tells, memory_not_put, weeks_there}
+use Rattle.tt_call_texts.proofs.PageTelling.{names_tell, plain_page_tells, page_same, output_tells, memory_not_put, weeks_there}
 use Rattle.tt_call_texts.proofs.calls.page.page.Goals as goal
 
 pub returns-in_err-instance-clause-only : goal.returns-in_err-instance-clause-only

@@ -15,7 +15,7 @@ use Rattle.tt_call_answers.proofs.FailedReads.{read_summed, passed, calm, unread
 use Rattle.tt_call_answers.proofs.Sums.{sum_here, silent_refusal}
 use Rattle.tt_call_answers.proofs.Files.{tells_instance, tells_solution, only_memory}
 use Rattle.tt_call_answers.proofs.Fitting.{names_memory}
-use Rattle.tt_call_texts.proofs.Paging.{names_tell_proved, sum_tells_page, page_tells, page_same, proved_same, output_tells, page_after, page_unwritten}
+use Rattle.tt_call_texts.proofs.PageTelling.{names_tell_proved, sum_tells_page, page_tells, page_same, proved_same, output_tells, page_after, page_unwritten}
 use Rattle.tt_call_texts.proofs.calls.page.proved_page.Goals as goal
 
 pub returns-in_err-instance-clause-only : goal.returns-in_err-instance-clause-only
