@@ -4,4 +4,5 @@ pub mod Reading
 pub mod FirstTable
 pub mod Losing
 pub mod Barred
+pub mod Wide
 pub mod Linked

@@ -18,10 +18,10 @@ loop-index-preserved c =
 pub returns : goal.returns
 returns c =
     let p = c.args.instance.now in
-    let end : c.loop-index.index ≡ c.courses.result * c.days.result * c.periods.result * c.width-width.result = omega arith in
-    let whole : c.courses.result * c.days.result * c.periods.result * c.width-width.result ≡ size p =
-    ap (λ n. n * c.days.result * c.periods.result * c.width-width.result) c.courses.ensures.value
-    ∙ ap (λ n. length p.courses * n * c.periods.result * c.width-width.result) c.days.ensures.value
-    ∙ ap (λ n. length p.courses * p.days * n * c.width-width.result) c.periods.ensures.value
-    ∙ ap (λ n. length p.courses * p.days * p.periods * n) c.width-width.ensures.value in
+    let end : c.loop-index.index ≡ c.courses.result * (c.days.result + 1) * (c.periods.result + 1) * c.width-width.result = omega arith in
+    let whole : c.courses.result * (c.days.result + 1) * (c.periods.result + 1) * c.width-width.result ≡ size p =
+    ap (λ n. n * (c.days.result + 1) * (c.periods.result + 1) * c.width-width.result) c.courses.ensures.value
+    ∙ ap (λ n. length p.courses * (n + 1) * (c.periods.result + 1) * c.width-width.result) c.days.ensures.value
+    ∙ ap (λ n. length p.courses * (p.days + 1) * (n + 1) * c.width-width.result) c.periods.ensures.value
+    ∙ ap (λ n. length p.courses * (p.days + 1) * (p.periods + 1) * n) c.width-width.ensures.value in
     subst (AreFull p c.loop-index.words.items) (end ∙ whole) c.loop-index.invariant
