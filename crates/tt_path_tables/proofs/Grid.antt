@@ -1,9 +1,11 @@
 -- The place of words: each bit of a table has a word.
 use Rattle.std.proofs.Common.{◌≡◌, ℕ, zero, suc, ◌+◌, ◌*◌, ◌/◌, ◌%◌, ◌<◌, ◌≤◌, length, arith, sym, ap, ◌∙◌}
+use Rattle.std.proofs.Math.Nat.{mul-le-mul}
 use Rattle.std.proofs.lemmas.Nat.{mod-mul-add, div-mul-add}
 use Rattle.tt_instance.specs.Problem.{Problem}
 use Rattle.tt_instance.specs.Cells.{InRange}
 use Rattle.tt_instance.specs.declared.cell.Cell.{Cell}
+use Rattle.tt_instance.specs.declared.limit.TheConstants.{MAX_COURSES, MAX_DAYS, MAX_PERIODS}
 use Rattle.tt_path_tables.specs.Inner.Words.{Bit, IsBit, width, place, size, bit_of, bit_on}
 use Rattle.tt_list_laws.proofs.Grid.{within_row}
 
@@ -13,6 +15,16 @@ row_within a (suc w) h ha = let l = within_row a (suc w) w h ha (omega arith) in
 
 pub within_slots : (c d s n days periods : ℕ) → c < n → d < days → s < periods → (c * days + d) * periods + s < n * days * periods
 within_slots c d s n days periods hc hd hs = within_row (c * days + d) periods s (n * days) (within_row c days d n hc hd) hs
+
+-- the most words of cells that a table has
+abbrev pub most_words : ℕ
+most_words = MAX_COURSES * (MAX_DAYS + 1) * (MAX_PERIODS + 1) * 8
+
+pub words_bounded : (c d s w : ℕ) → c ≤ MAX_COURSES → d ≤ MAX_DAYS → s ≤ MAX_PERIODS → w ≤ 8 → c * (d + 1) * (s + 1) * w ≤ most_words
+words_bounded c d s w hc hd hs hw =
+    let days : d + 1 ≤ MAX_DAYS + 1 = omega (arith, hd) in
+    let periods : s + 1 ≤ MAX_PERIODS + 1 = omega (arith, hs) in
+    mul-le-mul (mul-le-mul (mul-le-mul hc days) periods) hw
 
 module _ (p : Problem) where
   pub place_within : (c d s : ℕ) → c < length p.courses → d < (p.days + 1) → s < (p.periods + 1) → place p c d s + width p ≤ size p

@@ -107,11 +107,14 @@ pub fn cells_word(
     ensures { (k : ℕ) → k < 64 → has_bit result k
         ≡ has_cell instance.now table.now.words (cell course (block * 64 + k) slot) }
 {
-    match table.word(table.len() - 1) {
-        PLAIN => table.word(place(instance, course, slot, block)),
-        CLEARED => 0,
-        _ => kept_word(instance, table, course, slot, block),
+    let state = table.word(table.len() - 1);
+    if state == PLAIN {
+        return table.word(place(instance, course, slot, block));
     }
+    if state == CLEARED {
+        return 0;
+    }
+    kept_word(instance, table, course, slot, block)
 }
 
 /// Returns a word of the rooms of a spot in which the table has a cell.
