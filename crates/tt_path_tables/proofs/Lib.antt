@@ -5,4 +5,5 @@ pub mod FirstTable
 pub mod Losing
 pub mod Barred
 pub mod Wide
+pub mod Firsts
 pub mod Linked

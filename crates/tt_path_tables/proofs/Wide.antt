@@ -240,3 +240,25 @@ module _ (p : Problem) (old mid new : List ℕ) (c d s : ℕ) (w : Widens p old 
   wide_removed g ed es which hd hs a =
       let l = from_parts g.room g.day g.period ed es which hd hs a in
       record { table = l.table; cells = λ x k. l.cells x k ∙ ap (λ v. v && not ((x.course == c) && has_place_of g x)) (w.cells x k) }
+
+-- ---- courses whose cells went at once
+
+none_last : (b c : Bool) → (b && (c && false)) ≡ false
+none_last true true = refl
+none_last true false = refl
+none_last false c = refl
+
+none_at_all : (a : Bool) → (a && (false || false)) ≡ false
+none_at_all true = refl
+none_at_all false = refl
+
+pub gone_cell : (p : Problem) (words : List ℕ) → is_plain p words ≡ false → (x : Cell)
+    → is_set p words (bit_on p.days p.periods x) ≡ false → has_cell p words x ≡ false
+unfolding has_cell
+gone_cell p words wide x e =
+    ap (λ v. in_force p words && is_set p words (bit_of x) && (is_plain p words || (is_set p words (bit_on x.day p.periods x)
+    && (is_set p words (bit_on p.days x.period x) && v)))) e
+    ∙ ap (λ v. in_force p words && is_set p words (bit_of x) && (is_plain p words || v))
+    (none_last (is_set p words (bit_on x.day p.periods x)) (is_set p words (bit_on p.days x.period x)))
+    ∙ ap (λ v. in_force p words && is_set p words (bit_of x) && (v || false)) wide
+    ∙ none_at_all (in_force p words && is_set p words (bit_of x))
