@@ -46,7 +46,7 @@ module _ (p : Problem) (scale : ℕ) (groups : List PricedGroup) (rent : ℕ →
     range_of e m = All-contains (InRange p) t e placing.cells m
 
     -- the periods of a placing are a choice
-    chosen : IsChoice p c (map slot_of t)
+    pub chosen : IsChoice p c (map slot_of t)
     chosen = record {
       lectures = length-map t slot_of ∙ placing.lectures;
       week = All-map (λ s. (s.day < p.days) × (s.period < p.periods)) slot_of t (λ k d h.
@@ -113,15 +113,18 @@ more_than_one x y [] m apart = elim (member_cases x [] y m) [
 ]
 more_than_one x y (z ∷ xs) m apart = omega arith
 
-pub course_bounded : (p : Problem) (scale : ℕ) (groups : List PricedGroup) (rent : ℕ → Slot → ℕ) (c : ℕ) (b : ℤ) (lowest : Slot → ℤ)
-    → (lectures p c ≡ 0 → b ≤ℤ pos 0)
-    → ((r : ℕ) → r < length p.rooms → (ss : List Slot) → IsChoice p c ss
-    → b ≤ℤ signed_sum (λ s. cell_cost p scale groups rent (cell c r s)) ss)
+-- What bounds the lectures of a placing, if they are all in one room or if two are in different ones, bounds what the placing pays.
+pub placing_bounded : (p : Problem) (scale : ℕ) (groups : List PricedGroup) (rent : ℕ → Slot → ℕ) (c : ℕ) (b : ℤ) (lowest : Slot → ℤ)
     → ((r : ℕ) → r < length p.rooms → (s : Slot) → lowest s ≤ℤ cell_cost p scale groups rent (cell c r s))
-    → (2 ≤ lectures p c → (ss : List Slot) → IsChoice p c ss → b ≤ℤ (pos scale +ℤ signed_sum lowest ss))
-    → (t : List Cell) → IsPlacing p c t → b ≤ℤ (pos (scale * stability_cost p t c) +ℤ signed_sum (cell_cost p scale groups rent) t)
-course_bounded p scale groups rent c b lowest none one low more [] placing = let e = none (sym placing.lectures) in omega (arith, ints, e)
-course_bounded p scale groups rent c b lowest none one low more (x ∷ xs) placing =
+    → (t : List Cell) → IsPlacing p c t
+    → (lectures p c ≡ 0 → b ≤ℤ pos 0)
+    → ((r : ℕ) → r < length p.rooms → 1 ≤ lectures p c → ((e : Cell) → Contains t e → e.room ≡ r)
+    → b ≤ℤ signed_sum (λ s. cell_cost p scale groups rent (cell c r s)) (map slot_of t))
+    → (2 ≤ lectures p c → (x y : Cell) → Contains t x → Contains t y → (x.room ≡ y.room → ⊥)
+    → b ≤ℤ (pos scale +ℤ signed_sum lowest (map slot_of t)))
+    → b ≤ℤ (pos (scale * stability_cost p t c) +ℤ signed_sum (cell_cost p scale groups rent) t)
+placing_bounded p scale groups rent c b lowest low [] placing none one more = let e = none (sym placing.lectures) in omega (arith, ints, e)
+placing_bounded p scale groups rent c b lowest low (x ∷ xs) placing none one more =
     let t : List Cell = x ∷ xs in
     let first : Contains t x = (0, omega arith, refl) in
     let other : Cell → Bool = λ e. not (is_in x.room e) in
@@ -133,15 +136,15 @@ course_bounded p scale groups rent c b lowest none one low more (x ∷ xs) placi
           in
           let rooms = several scale (stability_cost p t c) (two_rooms p scale groups rent c t placing x y first w.1 apart) in
           let two : 2 ≤ lectures p c = omega (arith, placing.lectures, more_than_one x y xs w.1 apart) in
-          let bound = more two (map slot_of t) (chosen p scale groups rent c t placing) in
+          let bound = more two x y first w.1 apart in
           let least = at_lowest p scale groups rent c t placing lowest low in
           omega (arith, ints, rooms, bound, least)
       | inr none_other ↦
           let all : (e : Cell) → Contains t e → e.room ≡ x.room = λ e m.
           eqb-true e.room x.room (not_false (is_in x.room e)
           (at_member (λ z. other z ≡ false) t e (each_from_list_any other t none_other) m)) in
-          let bound = one x.room (range_of p scale groups rent c t placing x first).room (map slot_of t)
-          (chosen p scale groups rent c t placing) in
+          let some : 1 ≤ lectures p c = omega (arith, placing.lectures) in
+          let bound = one x.room (range_of p scale groups rent c t placing x first).room some all in
           let same = in_one_room p scale groups rent c t placing x.room all in
           omega (arith, ints, bound, same)
     ]
@@ -149,3 +152,16 @@ course_bounded p scale groups rent c b lowest none one low more (x ∷ xs) placi
     not_false : (v : Bool) → not v ≡ false → v ≡ true
     not_false true e = refl
     not_false false e = sym e
+
+pub course_bounded : (p : Problem) (scale : ℕ) (groups : List PricedGroup) (rent : ℕ → Slot → ℕ) (c : ℕ) (b : ℤ) (lowest : Slot → ℤ)
+    → (lectures p c ≡ 0 → b ≤ℤ pos 0)
+    → ((r : ℕ) → r < length p.rooms → (ss : List Slot) → IsChoice p c ss
+    → b ≤ℤ signed_sum (λ s. cell_cost p scale groups rent (cell c r s)) ss)
+    → ((r : ℕ) → r < length p.rooms → (s : Slot) → lowest s ≤ℤ cell_cost p scale groups rent (cell c r s))
+    → (2 ≤ lectures p c → (ss : List Slot) → IsChoice p c ss → b ≤ℤ (pos scale +ℤ signed_sum lowest ss))
+    → (t : List Cell) → IsPlacing p c t → b ≤ℤ (pos (scale * stability_cost p t c) +ℤ signed_sum (cell_cost p scale groups rent) t)
+course_bounded p scale groups rent c b lowest none one low more t placing =
+    let choice = chosen p scale groups rent c t placing in
+    placing_bounded p scale groups rent c b lowest low t placing none
+    (λ r lt some all. one r lt (map slot_of t) choice)
+    (λ two x y first second apart. more two (map slot_of t) choice)

@@ -3,7 +3,7 @@ use Rattle.std.proofs.Common.{◌≡◌, ℕ, ◌+◌, ◌*◌, ◌<◌, cond, L
 use Rattle.std.specs.Prelude.{◌⊎◌, ◌≤◌, Contains, ◌==◌, nat_lt, ℤ, pos, ◌+ℤ◌, ◌-ℤ◌, ◌≤ℤ◌, All, filter, sum_by}
 use Rattle.std.proofs.lemmas.Bool.{cases_eq, cases_lt, eq-eqb, ne_eqb, lt-ltb, le-ltb}
 use Rattle.std.proofs.lemmas.Int.{ints}
-use Rattle.std.proofs.lemmas.List.Elements.{recursion_from_All, Contains-append_right}
+use Rattle.std.proofs.lemmas.List.Elements.{All-weaker, recursion_from_All, Contains-append_right}
 use Rattle.std.proofs.Math.Nat.{mul_comm, mul-add}
 use Rattle.tt_list_laws.specs.Words.{range_below}
 use Rattle.tt_list_laws.proofs.Below.{range_below_more, each_below}
@@ -16,7 +16,7 @@ use Rattle.tt_instance.specs.declared.cell.Slot.{Slot}
 use Rattle.tt_rules.specs.Score.{IsFeasible}
 use Rattle.tt_rules.specs.Soft.{capacity_count, stability_cost, stability_count}
 use Rattle.tt_rules.proofs.Feasible.{in_range}
-use Rattle.tt_prices.specs.Prices.{PricedGroup, concerns, entries_for, points, prices_of, cell_cost, IsGroupBound, IsCourseBound}
+use Rattle.tt_prices.specs.Prices.{PricedGroup, concerns, entries_for, points, paid, prices_of, cell_cost, IsGroupBound, IsCourseBound}
 use Rattle.tt_prices.specs.Signed.{signed_sum}
 use Rattle.tt_prices.proofs.Courses.{placed, stability_own}
 use Rattle.tt_prices.proofs.Groups.{feasible_relaxed}
@@ -66,9 +66,10 @@ sum_times : {X : Type 0} (k : ℕ) (f : X → ℕ) (xs : List X) → sum_by (λ 
 sum_times k f xs = sum_by-same (λ x. k * f x) (λ x. f x * k) xs (λ x. mul_comm k (f x)) ∙ sum_by-times f k xs ∙ mul_comm (sum_by f xs) k
 
 module _ (p : Problem) (scale rooms : ℕ) (groups : List (PricedGroup × ℤ)) (rent : ℕ → Slot → ℕ) (least : ℕ → ℤ)
-    (group_bounds : All (λ g. IsGroupBound p scale g.0 g.1) groups)
-    (course_bounds : (c : ℕ) → c < length p.courses → IsCourseBound p rooms (map (λ g. g.0) groups) rent c (least c))
-    (t : List Cell) (ok : IsFeasible p t) where
+    (t : List Cell) (ok : IsFeasible p t)
+    (each_group : All (λ g. g.1 ≤ℤ paid p scale g.0 t) groups)
+    (each_course : (c : ℕ) → c < length p.courses
+    → least c ≤ℤ (pos (rooms * stability_cost p t c) +ℤ signed_sum (cell_cost p rooms (map (λ g. g.0) groups) rent) (filter (is_of c) t))) where
   abbrev all_groups : List PricedGroup
   all_groups = map (λ g. g.0) groups
 
@@ -80,17 +81,12 @@ module _ (p : Problem) (scale rooms : ℕ) (groups : List (PricedGroup × ℤ)) 
 
   -- ---- courses
 
-  course_pays : (c : ℕ) → c < length p.courses → least c ≤ℤ (pos (rooms * stability_cost p t c) +ℤ signed_sum cost_of (filter (is_of c) t))
-  course_pays c lt =
-      let b = course_bounds c lt (filter (is_of c) t) (placed p t ok c) in
-      subst (λ n. least c ≤ℤ (pos (rooms * n) +ℤ signed_sum cost_of (filter (is_of c) t))) (stability_own p t c) b
-
   courses_pay : signed_sum least (all_courses p) ≤ℤ (pos (rooms * stability_count p t) +ℤ signed_sum cost_of t)
   courses_pay =
       let each_pays = signed_sum-le least (λ c. pos (rooms * stability_cost p t c) +ℤ signed_sum cost_of (filter (is_of c) t))
       (all_courses p)
       (each_weaker (λ c. c < length p.courses)
-      (λ c. least c ≤ℤ (pos (rooms * stability_cost p t c) +ℤ signed_sum cost_of (filter (is_of c) t))) course_pays (all_courses p)
+      (λ c. least c ≤ℤ (pos (rooms * stability_cost p t c) +ℤ signed_sum cost_of (filter (is_of c) t))) each_course (all_courses p)
       (recursion_from_All (λ c. c < length p.courses) (all_courses p) (each_below (length p.courses)))) in
       let apart = signed_sum-plus (λ c. pos (rooms * stability_cost p t c)) (λ c. signed_sum cost_of (filter (is_of c) t)) (all_courses p)
       in
@@ -128,17 +124,31 @@ module _ (p : Problem) (scale rooms : ℕ) (groups : List (PricedGroup × ℤ)) 
   groups_pay =
       let pay : PricedGroup × ℤ → ℤ = λ g. signed_sum (λ e. g.0.price e.course (slot_of e)) (entries_for p g.0 t) in
       let each_pays = signed_sum-le (λ g. g.1) (λ g. pos (scale * points p g.0 t) +ℤ pay g) groups
-      (each_weaker (λ g. IsGroupBound p scale g.0 g.1) (λ g. g.1 ≤ℤ (pos (scale * points p g.0 t) +ℤ pay g))
-      (λ g bound. bound t (feasible_relaxed p t ok g.0)) groups
-      (recursion_from_All (λ g. IsGroupBound p scale g.0 g.1) groups group_bounds)) in
+      (recursion_from_All (λ g. g.1 ≤ℤ paid p scale g.0 t) groups each_group) in
       let apart = signed_sum-plus (λ g. pos (scale * points p g.0 t)) pay groups in
       let all_points = signed_sum-pos (λ g. scale * points p g.0 t) groups ∙ ap pos (sum_times scale (λ g. points p g.0 t) groups) in
       omega (arith, ints, each_pays, apart, all_points, prices_meet)
 
-  pub all_pay : (signed_sum (λ g. g.1) groups +ℤ signed_sum least (all_courses p)) ≤ℤ
+  -- what the groups and the courses pay in the timetable, or less, adds up to no more than its cost
+  pub payments_added : (signed_sum (λ g. g.1) groups +ℤ signed_sum least (all_courses p)) ≤ℤ
       pos (scale * sum_by (λ g. points p g.0 t) groups + rooms * (capacity_count p t + stability_count p t)
       + sum_by (λ r. sum_by (rent r) (all_slots p)) (all_rooms p))
-  all_pay =
+  payments_added =
       let both : rooms * (capacity_count p t + stability_count p t) ≡ rooms * capacity_count p t + rooms * stability_count p t =
       mul-add rooms (capacity_count p t) (stability_count p t) in
       omega (arith, ints, groups_pay, courses_pay, entries_pay, rents_paid p t ok rent, both)
+
+-- bounds of the groups and of the courses are at most what these pay in the timetable
+pub all_pay : (p : Problem) (scale rooms : ℕ) (groups : List (PricedGroup × ℤ)) (rent : ℕ → Slot → ℕ) (least : ℕ → ℤ)
+    → All (λ g. IsGroupBound p scale g.0 g.1) groups
+    → ((c : ℕ) → c < length p.courses → IsCourseBound p rooms (map (λ g. g.0) groups) rent c (least c))
+    → (t : List Cell) → IsFeasible p t
+    → (signed_sum (λ g. g.1) groups +ℤ signed_sum least (all_courses p)) ≤ℤ
+    pos (scale * sum_by (λ g. points p g.0 t) groups + rooms * (capacity_count p t + stability_count p t)
+    + sum_by (λ r. sum_by (rent r) (all_slots p)) (all_rooms p))
+all_pay p scale rooms groups rent least group_bounds course_bounds t ok =
+    payments_added p scale rooms groups rent least t ok
+    (All-weaker (λ (g : PricedGroup × ℤ). IsGroupBound p scale g.0 g.1) (λ (g : PricedGroup × ℤ). g.1 ≤ℤ paid p scale g.0 t)
+    (λ g bound. bound t (feasible_relaxed p t ok g.0)) groups group_bounds)
+    (λ c lt. subst (λ n. least c ≤ℤ (pos (rooms * n) +ℤ signed_sum (cell_cost p rooms (map (λ g. g.0) groups) rent) (filter (is_of c) t)))
+    (stability_own p t c) (course_bounds c lt (filter (is_of c) t) (placed p t ok c)))

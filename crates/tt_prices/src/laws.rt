@@ -1,7 +1,7 @@
 //! The meaning of prices.
 
-ghost use Rattle.std.specs.Prelude.{◌≡◌, true, ℕ, ◌+◌, ◌*◌, ◌<◌, ◌≤◌, ℤ, pos, ◌+ℤ◌, ◌<ℤ◌, ◌≤ℤ◌, List, All, length, map, sum_by};
-ghost use Rattle.tt_instance.specs.Cells.{all_courses, all_rooms, all_slots, cell};
+ghost use Rattle.std.specs.Prelude.{◌≡◌, true, ℕ, ◌+◌, ◌*◌, ◌<◌, ◌≤◌, ℤ, pos, ◌+ℤ◌, ◌<ℤ◌, ◌≤ℤ◌, List, All, length, filter, map, sum_by};
+ghost use Rattle.tt_instance.specs.Cells.{all_courses, all_rooms, all_slots, cell, is_of};
 ghost use Rattle.tt_instance.specs.Courses.{lectures};
 ghost use Rattle.tt_instance.specs.Problem.{Problem};
 ghost use Rattle.tt_instance.specs.declared.cell.Cell.{Cell};
@@ -11,7 +11,7 @@ ghost use Rattle.tt_prices.specs.Days.{IsPricedPlan, plan_paid};
 ghost use Rattle.tt_prices.specs.Prices.{PricedGroup, concerns, paid, points, working_days_cost, cell_cost, IsGroupBound, IsCourseBound, IsRelaxedTimetable, IsChoice, AreApart};
 ghost use Rattle.tt_prices.specs.Signed.{signed_sum};
 ghost use Rattle.tt_rules.specs.Score.{IsFeasible, cost};
-ghost use Rattle.tt_rules.specs.Soft.{capacity_count, days_cost, stability_count};
+ghost use Rattle.tt_rules.specs.Soft.{capacity_count, days_cost, stability_cost, stability_count};
 
 /// A feasible timetable is a relaxed timetable of each group, and the working days of a course cost in it what the competition says.
 pub fn feasible_timetables_pay()
@@ -30,6 +30,19 @@ pub fn prices_hold()
         (signed_sum (λ g. g.1) groups +ℤ signed_sum least (all_courses p)) ≤ℤ
         pos (scale * sum_by (λ g. points p g.0 t) groups + rooms * (capacity_count p t + stability_count p t)
         + sum_by (λ r. sum_by (rent r) (all_slots p)) (all_rooms p)) }
+{}
+
+/// Numbers that are at most what each group and each course pay in one feasible timetable, added up, are at most what that timetable costs: the
+/// sum is that of `prices_hold`.
+pub fn payments_add_up()
+    ensures { (p : Problem) (scale rooms : ℕ) (groups : List (PricedGroup × ℤ)) (rent : ℕ → Slot → ℕ) (least : ℕ → ℤ) (t : List Cell) →
+        IsFeasible p t →
+        All (λ g. g.1 ≤ℤ paid p scale g.0 t) groups →
+        ((c : ℕ) → c < length p.courses → least c ≤ℤ (pos (rooms * stability_cost p t c)
+        +ℤ signed_sum (cell_cost p rooms (map (λ g. g.0) groups) rent) (filter (is_of c) t))) →
+        (signed_sum (λ g. g.1) groups +ℤ signed_sum least (all_courses p)) ≤ℤ
+        pos (scale * sum_by (λ g. points p g.0 t) groups + rooms * (capacity_count p t + stability_count p t) +
+        sum_by (λ r. sum_by (rent r) (all_slots p)) (all_rooms p)) }
 {}
 
 /// A number bounds a course if it is at most what any choice of periods pays in one room, and at most one further room and what any choice

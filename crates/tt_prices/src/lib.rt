@@ -9,7 +9,8 @@ mod price;
 pub use day::PricedDay;
 pub use group::{PriceRow, PricedGroup};
 pub use laws::{
-    courses_are_bounded, feasible_timetables_pay, priced_plans_are_relaxed_timetables,
-    prices_bound_the_cost, prices_hold, relaxed_timetables_are_priced_plans,
+    courses_are_bounded, feasible_timetables_pay, payments_add_up,
+    priced_plans_are_relaxed_timetables, prices_bound_the_cost, prices_hold,
+    relaxed_timetables_are_priced_plans,
 };
 pub use price::{MAX_PRICE, MAX_SCALE};

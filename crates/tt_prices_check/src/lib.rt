@@ -8,7 +8,7 @@ mod week;
 mod width;
 mod work;
 
-pub use courses::is_concerned;
+pub use courses::{courses_of, is_concerned};
 pub use fault::PricedFault;
 pub use group::least_of_group;
 pub use width::{MAX_GROUP_COURSES, MAX_GROUP_CURRICULA};

@@ -24,55 +24,16 @@ use Rattle.tt_prices_read.specs.Reading.{Part}
 use Rattle.tt_prices_read.specs.declared.header.Header.{Header}
 use Rattle.tt_prices_rooms.specs.Terms.{IsLowest, IsTerm}
 use Rattle.tt_prices_rooms.proofs.Bounds.{term_bounds}
-use Rattle.tt_prices_rooms.proofs.Sums.{lower, upper}
-use Rattle.tt_prices_file.specs.Files.{groups_of, curricula_in, courses_in, rent_of, all_rents, room_scale, HasTotal, IsRight}
+use Rattle.tt_prices_rooms.proofs.Tables.{lowest_exists}
+use Rattle.tt_prices_file.specs.Files.{groups_of, curricula_in, courses_in, rent_of, all_rents, room_scale, HasTotal, IsRight, Reaches}
 use Rattle.tt_prices_file.proofs.Parts.{curricula_of, courses_of}
 
 -- ---- the term of a course bounds it
 
--- one of the first numbers that is least
-cheapest : (f : ℕ → ℤ) (n : ℕ) → (r : ℕ) × (r < n + 1) × ((k : ℕ) → k < n + 1 → f r ≤ℤ f k)
-cheapest f zero = (0, omega arith, λ k l. let e : k ≡ 0 = omega (arith, l) in subst (λ m. f 0 ≤ℤ f m) (sym e) (omega (arith, ints)))
-cheapest f (suc n) =
-    let before = cheapest f n in
-    elim (cases_Bool (int_lt (f (suc n)) (f before.0))) [
-      | inl is ↦ (suc n, omega arith, λ k l. last before.0 (lower (f (suc n)) (f before.0) is) before.2 k (omega (arith, l)))
-      | inr is ↦ (before.0, omega (arith, before.1), λ k l. kept before.0 (upper (f (suc n)) (f before.0) is) before.2 k (omega (arith, l)))
-    ]
-  where
-    last : (r : ℕ) → f (suc n) ≤ℤ f r → ((k : ℕ) → k < n + 1 → f r ≤ℤ f k) → (k : ℕ) → k ≤ n + 1 → f (suc n) ≤ℤ f k
-    last r less below k l = elim (cases_lt k (n + 1)) [
-      | inl h ↦ let e = below k h in omega (arith, ints, less, e)
-      | inr h ↦ let e : k ≡ suc n = omega (arith, l, h) in subst (λ m. f (suc n) ≤ℤ f m) (sym e) (omega (arith, ints))
-    ]
-
-    kept : (r : ℕ) → f r ≤ℤ f (suc n) → ((k : ℕ) → k < n + 1 → f r ≤ℤ f k) → (k : ℕ) → k ≤ n + 1 → f r ≤ℤ f k
-    kept r less below k l = elim (cases_lt k (n + 1)) [
-      | inl h ↦ below k h
-      | inr h ↦ let e : k ≡ suc n = omega (arith, l, h) in subst (λ m. f r ≤ℤ f m) (sym e) less
-    ]
-
 module _ (p : Problem) (scale : ℕ) (groups : List PricedGroup) (rent : ℕ → Slot → ℕ) (c : ℕ) where
-  abbrev Lowest : (Slot → ℤ) → Type 0
-  Lowest lowest = IsLowest p scale groups rent c lowest
-
-  -- what a lecture pays in each room of a period
-  abbrev cost : Slot → ℕ → ℤ
-  cost s r = cell_cost p scale groups rent (cell c r s)
-
-  -- if there is a room, there is a cheapest one in each period
-  lowest_with : (n : ℕ) → length p.rooms ≡ n + 1 → (lowest : Slot → ℤ) × Lowest lowest
-  lowest_with n rooms = (
-    λ s. cost s (cheapest (cost s) n).0,
-    record {
-      least = λ r l s. (cheapest (cost s) n).2 r (omega (arith, l, rooms));
-      paid = λ s. let w = cheapest (cost s) n in (w.0, omega (arith, w.1, rooms), refl);
-    },
-  )
-
-  lowest_of : (b : ℤ) → IsTerm p scale groups rent c b → (lowest : Slot → ℤ) × Lowest lowest
+  lowest_of : (b : ℤ) → IsTerm p scale groups rent c b → (lowest : Slot → ℤ) × IsLowest p scale groups rent c lowest
   lowest_of b term = elim term.paid [
-    | inl one ↦ lowest_with (length p.rooms - 1) (let inside = one.1 in omega (arith, inside))
+    | inl one ↦ lowest_exists p scale groups rent c (let inside = one.1 in omega (arith, inside))
     | inr more ↦ (more.1, more.2)
   ]
 
@@ -101,7 +62,7 @@ least_same p scale g a b first second =
     omega (arith, ints, one, two, first.1.2, second.1.2)
 
 -- two lists of what the same groups pay at least add up to the same
-leasts_same : (p : Problem) (scale : ℕ) (xs ys : List (PricedGroup × ℤ)) → map (λ g. g.0) xs ≡ map (λ g. g.0) ys
+pub leasts_same : (p : Problem) (scale : ℕ) (xs ys : List (PricedGroup × ℤ)) → map (λ g. g.0) xs ≡ map (λ g. g.0) ys
     → AllByRecursion (λ g. IsLeast p scale g.0 (Some g.1)) xs → AllByRecursion (λ g. IsLeast p scale g.0 (Some g.1)) ys
     → signed_sum (λ g. g.1) xs ≡ signed_sum (λ g. g.1) ys
 leasts_same p scale [] [] same one two = refl
@@ -128,32 +89,57 @@ one_total p h parts m n first second =
 
 -- ---- what a feasible timetable pays
 
+-- what the groups pay for their curricula and courses
+abbrev pub own_cost : Problem → List Part → List Cell → ℕ
+own_cost p parts t = sum_by (compactness_cost p t) (curricula_in parts) + sum_by (days_cost p t) (courses_in parts)
+
+abbrev pub rooms_cost : Problem → List Cell → ℕ
+rooms_cost p t = capacity_count p t + stability_count p t
+
+-- the points of the groups of a file are what their curricula and courses cost
+pub points_added : (p : Problem) (parts : List Part) (t : List Cell) → IsFeasible p t
+    → sum_by (λ g. points p g t) (groups_of p parts) ≡ own_cost p parts t
+points_added p parts t ok =
+    let groups = groups_of p parts in
+    let both = sum_by-plus (λ (g : PricedGroup). sum_by (compactness_cost p t) g.curricula)
+    (λ g. sum_by (working_days_cost p t) g.courses) groups in
+    let curricula = sum_by-of_flat_map (compactness_cost p t) (λ (g : PricedGroup). g.curricula) groups in
+    let courses = sum_by-of_flat_map (working_days_cost p t) (λ (g : PricedGroup). g.courses) groups in
+    let days = sum_by-same (working_days_cost p t) (days_cost p t) (flat_map (λ (g : PricedGroup). g.courses) groups) (days_paid p t ok)
+    in
+    let first = ap (sum_by (compactness_cost p t)) (curricula_of p parts) in
+    let second = ap (sum_by (days_cost p t)) (courses_of p parts) in
+    omega (arith, both, curricula, courses, days, first, second)
+
+-- if a total that a timetable pays, with the rents, reaches the bound, the timetable costs at least the bound
+pub bound_reached : (h : Header) (own rooms rents : ℕ) (total sum : ℤ) → (total +ℤ pos rents) ≡ sum
+    → sum ≤ℤ pos (h.scale * own + room_scale h * rooms + rents) → Reaches h total → h.bound ≤ own + cond h.has_rooms rooms 0
+bound_reached h own rooms rents total sum adds_up pays enough = by h.has_rooms refl
+  where
+    times : (b : Bool) → h.has_rooms ≡ b → h.scale * cond b rooms 0 ≡ room_scale h * rooms
+    times true e = sym (ap (λ z. cond z h.scale 0 * rooms) e)
+    times false e = let none : h.scale * 0 ≡ 0 * rooms = omega arith in none ∙ sym (ap (λ z. cond z h.scale 0 * rooms) e)
+
+    by : (b : Bool) → h.has_rooms ≡ b → h.bound ≤ own + cond b rooms 0
+    by b e = elim (cases_lt (own + cond b rooms 0) h.bound) [
+      | inl less ↦
+          let next : (own + cond b rooms 0) + 1 ≤ h.bound = omega (arith, less) in
+          let more = mul-le-mul_left h.scale next in
+          let one = mul-add h.scale (own + cond b rooms 0) 1 in
+          let two = mul-add h.scale own (cond b rooms 0) in
+          let scaled = times b e in
+          absurd (omega (arith, ints, pays, adds_up, enough, more, one, two, scaled))
+      | inr enough_cost ↦ enough_cost
+    ]
+
 module _ (p : Problem) (h : Header) (parts : List Part) (right : IsRight p h parts) (t : List Cell) (ok : IsFeasible p t) where
-  -- what the groups pay for their curricula and courses
-  abbrev own : ℕ
-  own = sum_by (compactness_cost p t) (curricula_in parts) + sum_by (days_cost p t) (courses_in parts)
-
-  points_are : sum_by (λ (g : PricedGroup × ℤ). points p g.0 t) right.is.least ≡ own
+  points_are : sum_by (λ (g : PricedGroup × ℤ). points p g.0 t) right.is.least ≡ own_cost p parts t
   points_are =
-      let groups = groups_of p parts in
-      let shared : sum_by (λ (g : PricedGroup × ℤ). points p g.0 t) right.is.least ≡ sum_by (λ g. points p g t) groups =
       sym (sum_by-of_map (λ g. points p g t) (λ (g : PricedGroup × ℤ). g.0) right.is.least)
-      ∙ ap (sum_by (λ g. points p g t)) right.is.groups in
-      let both = sum_by-plus (λ (g : PricedGroup). sum_by (compactness_cost p t) g.curricula)
-      (λ g. sum_by (working_days_cost p t) g.courses) groups in
-      let curricula = sum_by-of_flat_map (compactness_cost p t) (λ (g : PricedGroup). g.curricula) groups in
-      let courses = sum_by-of_flat_map (working_days_cost p t) (λ (g : PricedGroup). g.courses) groups in
-      let days = sum_by-same (working_days_cost p t) (days_cost p t) (flat_map (λ (g : PricedGroup). g.courses) groups) (days_paid p t ok)
-      in
-      let first = ap (sum_by (compactness_cost p t)) (curricula_of p parts) in
-      let second = ap (sum_by (days_cost p t)) (courses_of p parts) in
-      omega (arith, shared, both, curricula, courses, days, first, second)
-
-  abbrev rooms : ℕ
-  rooms = capacity_count p t + stability_count p t
+      ∙ ap (sum_by (λ g. points p g t)) right.is.groups ∙ points_added p parts t ok
 
   pays : (signed_sum (λ (g : PricedGroup × ℤ). g.1) right.is.least +ℤ signed_sum right.is.terms (all_courses p)) ≤ℤ
-      pos (h.scale * own + room_scale h * rooms + all_rents p parts)
+      pos (h.scale * own_cost p parts t + room_scale h * rooms_cost p t + all_rents p parts)
   pays =
       let total = right.is in
       let bounds : All (λ (g : PricedGroup × ℤ). IsGroupBound p h.scale g.0 g.1) total.least =
@@ -164,23 +150,9 @@ module _ (p : Problem) (h : Header) (parts : List Part) (right : IsRight p h par
       (sym total.groups)
       (course_bound p (room_scale h) (groups_of p parts) (rent_of p parts) c (total.terms c) (total.courses c l))) t ok in
       subst (λ n. (signed_sum (λ (g : PricedGroup × ℤ). g.1) total.least +ℤ signed_sum total.terms (all_courses p)) ≤ℤ
-      pos (h.scale * n + room_scale h * rooms + all_rents p parts)) points_are all
+      pos (h.scale * n + room_scale h * rooms_cost p t + all_rents p parts)) points_are all
 
-  pub bound_holds : h.bound ≤ own + cond h.has_rooms rooms 0
-  bound_holds = by h.has_rooms refl
-    where
-      by : (b : Bool) → h.has_rooms ≡ b → h.bound ≤ own + cond b rooms 0
-      by b e = elim (cases_lt (own + cond b rooms 0) h.bound) [
-        | inl less ↦
-            let next : (own + cond b rooms 0) + 1 ≤ h.bound = omega (arith, less) in
-            let more = mul-le-mul_left h.scale next in
-            let one = mul-add h.scale (own + cond b rooms 0) 1 in
-            let two = mul-add h.scale own (cond b rooms 0) in
-            let scaled = times b e in
-            absurd (omega (arith, ints, pays, right.is.adds_up, right.enough, more, one, two, scaled))
-        | inr enough ↦ enough
-      ]
-        where
-          times : (b : Bool) → h.has_rooms ≡ b → h.scale * cond b rooms 0 ≡ room_scale h * rooms
-          times true e = sym (ap (λ z. cond z h.scale 0 * rooms) e)
-          times false e = let none : h.scale * 0 ≡ 0 * rooms = omega arith in none ∙ sym (ap (λ z. cond z h.scale 0 * rooms) e)
+  pub bound_holds : h.bound ≤ own_cost p parts t + cond h.has_rooms (rooms_cost p t) 0
+  bound_holds =
+      let sum = signed_sum (λ (g : PricedGroup × ℤ). g.1) right.is.least +ℤ signed_sum right.is.terms (all_courses p) in
+      bound_reached h (own_cost p parts t) (rooms_cost p t) (all_rents p parts) right.total sum right.is.adds_up pays right.enough

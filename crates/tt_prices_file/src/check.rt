@@ -25,7 +25,7 @@ use tt_stop::Stop;
 use tt_text::Source;
 
 /// Returns the units that a point of the rooms' costs has: those of the scale if the file claims the rooms, and otherwise none.
-fn room_scale(header: Header) -> u32
+pub fn room_scale(header: Header) -> u32
     requires { IsHeader header }
     ensures { result ≡ room_scale header }
 {

@@ -21,7 +21,7 @@ use tt_prices_read::Header;
 use tt_stop::Stop;
 
 /// Returns whether a total reaches a bound: whether the bound is at most the total, divided by the scale and rounded up.
-fn reaches(header: Header, total: i128) -> bool
+pub fn reaches(header: Header, total: i128) -> bool
     requires header { IsHeader header }
     requires total { IsWithin (2 ^ 100) total }
     ensures { IsTrue result ↔ Reaches header total }

@@ -7,5 +7,6 @@ use Rattle.tt_prices_read.specs.declared.fault.HeaderWord.TheVariants as word
 abbrev pub word_text : HeaderWord → List ℕ
 word_text word.Groups = codes "CTTG"
 word_text word.Version = codes "2"
+word_text word.TreeVersion = codes "3"
 word_text word.Bound = codes "bound"
 word_text word.Scale = codes "scale"

@@ -15,6 +15,8 @@ use tt_proof_read::TextFault;
 pub enum HeaderWord {
     Groups,
     Version,
+    /// The version of files with a tree.
+    TreeVersion,
     Bound,
     Scale,
 }
@@ -27,6 +29,7 @@ impl HeaderWord {
         match self {
             HeaderWord::Groups => "CTTG",
             HeaderWord::Version => "2",
+            HeaderWord::TreeVersion => "3",
             HeaderWord::Bound => "bound",
             HeaderWord::Scale => "scale",
         }

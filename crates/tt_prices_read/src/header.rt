@@ -38,7 +38,7 @@ fn claims(text: &[u8], at: usize) -> Result<bool, PricesTextFault>
 
 /// Reads whether the rooms are claimed.
 #[tactic(auto, unfolding(crate::specs::Reading::claims_at))]
-fn read_claims<R: Source>(feed: &mut Feed, source: &mut R) -> Result<bool, PricesTextFault>
+pub fn read_claims<R: Source>(feed: &mut Feed, source: &mut R) -> Result<bool, PricesTextFault>
     ensures read { ReadsAs R.Source feed.old source.old feed.new source.new (λ b. b) result claims_at }
 {
     let at = token(feed, source)?;
@@ -59,7 +59,7 @@ fn read_bound<R: Source>(feed: &mut Feed, source: &mut R) -> Result<u64, PricesT
 
 /// Reads the scale and the word before it.
 #[tactic(auto, unfolding(crate::specs::Reading::named_scale_at))]
-fn read_named_scale<R: Source>(feed: &mut Feed, source: &mut R) -> Result<u64, PricesTextFault>
+pub fn read_named_scale<R: Source>(feed: &mut Feed, source: &mut R) -> Result<u64, PricesTextFault>
     ensures read { ReadsAs R.Source feed.old source.old feed.new source.new (λ n. n) result named_scale_at }
     ensures least { IfOk result (λ n. 1 ≤ n) }
     ensures within { IfOk result (λ n. n ≤ MAX_SCALE) }

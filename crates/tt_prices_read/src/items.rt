@@ -50,7 +50,7 @@ fn slots(sizes: Sizes) -> usize
 
 /// Reads the part of a group after its word.
 #[tactic(auto, unfolding(crate::specs::Reading::group_at))]
-fn read_group<R: Source>(
+pub fn read_group<R: Source>(
     alloc: Global,
     feed: &mut Feed,
     source: &mut R,
@@ -90,7 +90,7 @@ fn read_group<R: Source>(
 
 /// Reads the rents of a room after their word.
 #[tactic(auto, unfolding(crate::specs::Reading::rent_at))]
-fn read_rent<R: Source>(
+pub fn read_rent<R: Source>(
     alloc: Global,
     feed: &mut Feed,
     source: &mut R,
@@ -107,7 +107,7 @@ fn read_rent<R: Source>(
 
 /// Checks that there is no token after the last one.
 #[tactic(auto, unfolding(crate::specs::Reading::nothing_at))]
-fn read_nothing<R: Source>(feed: &mut Feed, source: &mut R) -> Result<(), PricesTextFault>
+pub fn read_nothing<R: Source>(feed: &mut Feed, source: &mut R) -> Result<(), PricesTextFault>
     ensures read { ReadsPast R.Source feed.old source.old feed.new source.new result nothing_at }
 {
     match feed.next(source) {

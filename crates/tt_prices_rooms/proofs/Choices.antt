@@ -28,7 +28,7 @@ same x u = (x.day == u.day) && (x.period == u.period)
 -- ---- elements that pass a test, which one passes or none
 
 -- the elements that pass, as a sum of so many elements
-passing : {X : Type 0} (f : X → ℤ) (q : X → Bool) (xs : List X)
+pub passing : {X : Type 0} (f : X → ℤ) (q : X → Bool) (xs : List X)
     → IsSumOf (count_by q xs) (map f xs) (signed_sum (λ u. cond (q u) (f u) (pos 0)) xs)
 passing f q [] = refl
 passing f q (x ∷ xs) = by_test (q x) refl (passing f q xs)
@@ -84,7 +84,7 @@ module _ (p : Problem) (c : ℕ) (ss : List Slot) (choice : IsChoice p c ss) whe
   abbrev is_open : Slot → Bool
   is_open s = not (unavailable p c s.day s.period)
 
-  abbrev chosen : Slot → Bool
+  abbrev pub chosen : Slot → Bool
   chosen u = list_any (λ x. same x u) ss
 
   once : (u : Slot) → Contains (all_slots p) u → count_by (λ x. same x u) ss ≤ 1
@@ -116,7 +116,7 @@ module _ (p : Problem) (c : ℕ) (ss : List Slot) (choice : IsChoice p c ss) whe
         sym (passing_once f (f x) (same x) (open_slots p c) (open_once x) (λ u e. ap f (sym (same_is x u e)))
         ∙ ap (λ b. cond b (f x) (pos 0)) (open_has x m))
 
-    whole : signed_sum f ss ≡ signed_sum (λ u. cond (chosen u) (f u) (pos 0)) (open_slots p c)
+    pub whole : signed_sum f ss ≡ signed_sum (λ u. cond (chosen u) (f u) (pos 0)) (open_slots p c)
     whole =
         signed_sum-same_member f (λ x. signed_sum (λ u. cond (same x u) (f u) (pos 0)) (open_slots p c)) ss own_term
         ∙ signed_sum-swap (λ x u. cond (same x u) (f u) (pos 0)) ss (open_slots p c)
@@ -124,7 +124,7 @@ module _ (p : Problem) (c : ℕ) (ss : List Slot) (choice : IsChoice p c ss) whe
         (open_slots p c)
         (λ u m. passing_once (λ x. f u) (f u) (λ x. same x u) ss (once u (member_before is_open (all_slots p) u m)) (λ x e. refl))
 
-  number : length ss ≡ count_by chosen (open_slots p c)
+  pub number : length ss ≡ count_by chosen (open_slots p c)
   number =
       let ones = signed_sum-pos (λ (s : Slot). 1) ss ∙ ap pos (sum_by-ones ss) in
       let counts = signed_sum-same (λ u. cond (chosen u) (pos 1) (pos 0)) (λ u. pos (one_if (chosen u))) (open_slots p c)

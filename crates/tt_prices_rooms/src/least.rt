@@ -1,6 +1,6 @@
 //! The least sum of some numbers.
 
-ghost use Rattle.std.specs.Prelude.{◌≡◌, ◌≤◌, length, All};
+ghost use Rattle.std.specs.Prelude.{◌≡◌, ◌*◌, ◌≤◌, length, All};
 ghost use Rattle.tt_instance.specs.declared.limit.TheConstants.{MAX_SLOTS};
 ghost use Rattle.tt_prices.specs.Limits.{IsWithin};
 ghost use Rattle.tt_prices.specs.Signed.{signed_sum};
@@ -8,10 +8,11 @@ ghost use Rattle.tt_prices_rooms.specs.Least.{IsLeastSum};
 ghost use Rattle.tt_prices_rooms.specs.declared.limit.TheConstants.{MAX_COST, MAX_TERM};
 
 /// Returns the sum of some costs.
-fn sum_of(costs: &[i64]) -> i64
+pub fn sum_of(costs: &[i64]) -> i64
     requires few { length costs.now ≤ MAX_SLOTS }
     requires small { All (IsWithin MAX_COST) costs.now }
     ensures sum { result ≡ signed_sum (λ z. z) costs.now }
+    ensures each { IsWithin (length costs.now * MAX_COST) result }
     ensures within { IsWithin MAX_TERM result }
 {
     let mut sum = 0;
@@ -27,6 +28,7 @@ pub fn least_sum(costs: &mut [i64], count: usize) -> i64
     requires few { count ≤ MAX_SLOTS }
     requires small { All (IsWithin MAX_COST) costs.old }
     ensures least { IsLeastSum count costs.old result }
+    ensures each { IsWithin (count * MAX_COST) result }
     ensures within { IsWithin MAX_TERM result }
 {
     if count == costs.len() {

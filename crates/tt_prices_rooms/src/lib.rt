@@ -8,6 +8,7 @@ mod limit;
 mod places;
 mod term;
 
+pub use costs::add_costs;
 pub use laws::terms_are_bounds;
 pub use least::least_sum;
 pub use limit::{MAX_COST, MAX_PRICES, MAX_RENT, MAX_TERM};

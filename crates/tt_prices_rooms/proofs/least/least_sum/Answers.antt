@@ -1,4 +1,4 @@
-use Rattle.std.proofs.Common.{◌∷◌, sym, subst, ◌∙◌, w64}
+use Rattle.std.proofs.Common.{◌∷◌, ◌*◌, sym, subst, ◌∙◌, w64}
 use Rattle.std.proofs.lemmas.Int.{to_z-of_z}
 use Rattle.std.proofs.lemmas.List.Sorted.{All-permutation}
 use Rattle.std.specs.Prelude.{◌++◌}
@@ -34,3 +34,15 @@ returns-clause-least c =
     (subst (λ n. IsLeastSum n ys (signed_sum (λ z. z) r.0.now)) c.select_nth_unstable-least.ensures.front_len
     (split_least ys r.0.now r.1.now r.2.now c.select_nth_unstable-least.ensures.permutation
     c.select_nth_unstable-least.ensures.partitioned))
+
+pub returns-then-count-costs-clause-each : goal.returns-then-count-costs-clause-each
+returns-then-count-costs-clause-each c =
+    let word = to_z-of_z w64 c.sum_of.result (within_fits c.sum_of.result c.sum_of.ensures.within) in
+    subst (IsWithin (c.args.count * MAX_COST)) (sym word)
+    (subst (λ n. IsWithin (n * MAX_COST) c.sum_of.result) (sym c.if-count-costs.true) c.sum_of.ensures.each)
+
+pub returns-clause-each : goal.returns-clause-each
+returns-clause-each c =
+    let word = to_z-of_z w64 c.sum_of-2.result (within_fits c.sum_of-2.result c.sum_of-2.ensures.within) in
+    subst (IsWithin (c.args.count * MAX_COST)) (sym word)
+    (subst (λ n. IsWithin (n * MAX_COST) c.sum_of-2.result) c.select_nth_unstable-least.ensures.front_len c.sum_of-2.ensures.each)

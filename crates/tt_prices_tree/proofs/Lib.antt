@@ -1,0 +1,6 @@
+pub mod Filling
+pub mod Held
+pub mod OneTotal
+pub mod Places
+pub mod Sound
+mod Examples
