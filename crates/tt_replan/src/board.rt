@@ -1,16 +1,10 @@
 //! A timetable without the lectures of a group, and what they cost.
 
-use crate::group::Group;
-use crate::links::Links;
-use crate::prices::Prices;
-use crate::reading::Sizes;
-use crate::rooms::Rooms;
-use crate::seating::Seating;
-use crate::week::Week;
 use rand_pcg::Pcg32;
 use std::alloc::{AllocError, Global};
 use tt_instance::Instance;
 use tt_occupancy::Occupied;
+use tt_replan_tables::{Group, Links, Prices, Rooms, Seating, Sizes, Week};
 
 /// The rooms, the week without the lectures of a group, the links of all courses to it, and its prices.
 #[derive(Drop)]

@@ -1,11 +1,9 @@
 //! The cheapest week of a group, from the lectures that each day can have.
 
-use crate::group::{Group, MOST_STATES};
-use crate::places::{put, put_next};
-use crate::rooms::POINT;
 use crate::spelling::{DEAR, Speller, Vector, left_after};
 use std::alloc::{AllocError, Global};
 use tt_instance::MISSING_DAY_COST;
+use tt_replan_tables::{Group, MOST_STATES, POINT, put, put_next};
 
 /// The maximum number of vectors of all days together.
 const MOST_VECTORS: usize = 16_384;

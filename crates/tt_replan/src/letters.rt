@@ -1,9 +1,7 @@
 //! Sets of members that can be taught in one period.
 
 use crate::board::Board;
-use crate::group::{Group, MOST_MEMBERS};
-use crate::links::Links;
-use crate::week::Slot;
+use tt_replan_tables::{Group, Links, MOST_MEMBERS, Slot};
 
 /// The maximum number of sets of members.
 pub const MOST_LETTERS: usize = 1 << MOST_MEMBERS;

@@ -1,13 +1,10 @@
 //! The steps to a plan.
 
 use crate::board::Board;
-use crate::places::{put, put_next};
-use crate::reading::entry_at;
-use crate::seating::Seating;
-use crate::week::{Own, Week};
 use std::alloc::{AllocError, Global};
 use tt_moves::Step;
 use tt_occupancy::Occupied;
+use tt_replan_tables::{Own, Seating, Week, entry_at, put, put_next};
 
 /// The maximum number of steps that lead to a plan.
 const MOST_STEPS: usize = 512;

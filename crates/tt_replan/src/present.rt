@@ -2,8 +2,8 @@
 
 use crate::board::Board;
 use crate::folding::crowding_cost;
-use crate::group::{Group, Member};
 use crate::spelling::isolation;
+use tt_replan_tables::{Group, Member};
 
 /// Returns the group's curricula that are taught in a period, as a set.
 fn taught(board: &Board, group: &Group, slot: usize) -> u128 {

@@ -1,15 +1,13 @@
 //! The search for a plan.
 
 use crate::board::Board;
-use crate::group::{Group, MOST_MEMBERS};
-use crate::reading::{course_count, sizes_of};
-use crate::rooms::MOST_ROOMS;
 use crate::searching::Search;
 use rand_pcg::Pcg32;
 use std::alloc::{AllocError, Global};
 use tt_instance::Instance;
 use tt_moves::Step;
 use tt_occupancy::Occupied;
+use tt_replan_tables::{Group, MOST_MEMBERS, MOST_ROOMS, course_count, sizes_of};
 
 /// The maximum number of periods of a day.
 const MOST_PERIODS: u32 = 15;

@@ -2,14 +2,13 @@
 
 use crate::board::Board;
 use crate::folding::Folder;
-use crate::group::Group;
 use crate::letters::Alphabet;
 use crate::placing::Plan;
 use crate::present::present_cost;
-use crate::reading::Sizes;
 use crate::spelling::Speller;
 use std::alloc::{AllocError, Global};
 use tt_occupancy::Occupied;
+use tt_replan_tables::{Group, Sizes};
 
 /// The search for the cheapest week of a group, and the plan that it found.
 #[derive(Drop)]

@@ -1,12 +1,10 @@
 //! The possible lectures of a day, and their costs.
 
 use crate::board::Board;
-use crate::group::{Group, MOST_STATES};
 use crate::letters::{Alphabet, Letter, MOST_LETTERS, priced};
-use crate::places::{put, put_next};
-use crate::rooms::POINT;
 use std::alloc::{AllocError, Global};
 use tt_instance::ISOLATED_COST;
+use tt_replan_tables::{Group, MOST_STATES, POINT, put, put_next};
 
 /// The maximum number of sequences of sets of a day.
 const MOST_SEQUENCES: usize = 50_000;
