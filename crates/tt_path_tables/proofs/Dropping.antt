@@ -1,7 +1,7 @@
 -- Bits that are removed word by word.
 use Rattle.std.proofs.Common.{◌≡◌, ℕ, ◌+◌, ◌*◌, ◌/◌, ◌%◌, ◌<◌, Bool, true, false, not, ◌&&◌, ◌||◌, List, length, Option, refl, sym, ap, ◌∙◌, arith, inl, inr, eq-eqb, ne_eqb}
 use Rattle.std.specs.Prelude.{◌==◌, nat_lt, slice_set, slice_index_or}
-use Rattle.std.proofs.lemmas.Bool.{cases_eq, and_parts, and_from, eqb-true, lt-ltb, ltb-true, false_from_ne_true, le-ltb}
+use Rattle.std.proofs.lemmas.Bool.{cases_eq, and_parts, and_from, both_ways, eqb-true, lt-ltb, ltb-true, false_from_ne_true, le-ltb, or_cases, or_left, or_right}
 use Rattle.std.proofs.lemmas.List.{length-set, get_or-set_same, get_or-set_other}
 use Rattle.tt_list_laws.proofs.Truth.{same_truth, still_there, taken_twice}
 use Rattle.tt_instance.specs.Problem.{Problem}
@@ -9,14 +9,14 @@ use Rattle.tt_instance.specs.Cells.{slot, cell, InRange}
 use Rattle.tt_instance.specs.declared.cell.Cell.{Cell}
 use Rattle.tt_path.specs.Facts.{agrees}
 use Rattle.tt_bits.specs.Inner.Bits.{has_bit, Clears}
-use Rattle.tt_path_tables.specs.Inner.Words.{Bit, IsBit, width, place, size, bit_of, is_set, in_force, is_here, Drops}
-use Rattle.tt_path_tables.specs.Inner.Tables.{has_cell, IsTable, Loses, is_placed, is_open}
-use Rattle.tt_path_tables.proofs.Grid.{word_within, same_word, bit_within, room_back, block_within}
+use Rattle.tt_path_tables.specs.Inner.Words.{Bit, IsBit, width, place, size, bit_of, bit_on, is_set, in_force, is_plain, is_kept, is_wide, is_here, Drops}
+use Rattle.tt_path_tables.specs.Inner.Tables.{has_cell, IsTable, Loses, Widens, is_placed, is_open}
+use Rattle.tt_path_tables.proofs.Grid.{word_within, same_word, bit_within, wide_within, room_back, block_within}
 
 -- a table whose bits aren't in force has no cell
 pub cleared-cell : (p : Problem) (words : List ℕ) → in_force p words ≡ false → (x : Cell) → has_cell p words x ≡ false
 unfolding has_cell
-cleared-cell p words e x = ap (λ b. b && is_set p words (bit_of x)) e
+cleared-cell p words e x = ap (λ b. b && is_set p words (bit_of x) && (is_plain p words || is_kept p words x)) e
 
 -- ---- truth values
 
@@ -24,9 +24,17 @@ taken : (b h m : Bool) → h ≡ true → (b && not m) ≡ (b && not (h && m))
 taken b true m e = refl
 taken b false m e = cc
 
-in_both : (f b g h : Bool) → g ≡ h → (f && (b && not g)) ≡ ((f && b) && not h)
-in_both true b g h e = ap (λ k. b && not k) e
-in_both false b g h e = refl
+in_all : (f b w g : Bool) → (f && (b && not g) && w) ≡ ((f && b && w) && not g)
+in_all false b w g = refl
+in_all true false w g = refl
+in_all true true true true = refl
+in_all true true true false = refl
+in_all true true false true = refl
+in_all true true false false = refl
+
+or_nothing : (b : Bool) → b ≡ false → (v : Bool) → (b || v) ≡ v
+or_nothing true e v = cc
+or_nothing false e v = refl
 
 last_one : (h g m : Bool) → m ≡ g → ((h && false && g) || (h && true && m)) ≡ (h && true && g)
 last_one true g m e = e
@@ -43,7 +51,7 @@ module _ (p : Problem) (old : List ℕ) where
   drops-none g h = record { len = refl; last = refl; bits = λ b k. still_there (is_set p old b) (g b) (h b k) }
 
   -- one word loses the bits of a mask
-  pub word_dropped : (c d s n mask : ℕ) (new : List ℕ) → c < length p.courses → d < p.days → s < p.periods → n < width p
+  pub word_dropped : (c d s n mask : ℕ) (new : List ℕ) → c < length p.courses → d < p.days + 1 → s < p.periods + 1 → n < width p
       → Clears old (place p c d s + n) mask new → Drops p old new (λ b. is_here c d s b && (b.block == n) && has_bit mask b.number)
   word_dropped c d s n mask new hc hd hs hn cl = record {
     len = cl.len;
@@ -95,7 +103,7 @@ module _ (p : Problem) (old : List ℕ) where
   }
 
   -- another block of a course in a period
-  pub block_dropped : (c d s n mask : ℕ) (lost : ℕ → ℕ → Bool) (mid new : List ℕ) → c < length p.courses → d < p.days → s < p.periods
+  pub block_dropped : (c d s n mask : ℕ) (lost : ℕ → ℕ → Bool) (mid new : List ℕ) → c < length p.courses → d < p.days + 1 → s < p.periods + 1
       → n < width p
       → Drops p old mid (λ b. is_here c d s b && nat_lt b.block n && lost b.block b.number)
       → Drops p mid new (λ b. is_here c d s b && (b.block == n) && has_bit mask b.number) → ((k : ℕ) → k < 64 → has_bit mask k ≡ lost n k)
@@ -125,20 +133,54 @@ module _ (p : Problem) (old : List ℕ) where
             (λ t. let l = ltb-true b.block (n + 1) t in lt-ltb b.block n (omega (arith, e))))
       ]
 
-  -- the bits removed from a table, as cells
-  pub loses_from : (new : List ℕ) (g : Bit → Bool) (h : Cell → Bool) → IsTable p old → Drops p old new g
-      → ((x : Cell) → InRange p x → g (bit_of x) ≡ h x) → Loses p old h new
-  unfolding has_cell
-  loses_from new g h t a e = record {
-    table = record {
+  -- the bits of single periods removed from a table, as cells
+  module _ (new : List ℕ) (g : Bit → Bool) (t : IsTable p old) (a : Drops p old new g) where
+    pub same_bit : (b : Bit) → IsBit p b → g b ≡ false → is_set p new b ≡ is_set p old b
+    same_bit b k e = a.bits b k ∙ sym (still_there (is_set p old b) (g b) e)
+
+    pub same_force : in_force p new ≡ in_force p old
+    same_force = ap (λ w. not (w == 1)) a.last
+
+    pub same_state : is_plain p new ≡ is_plain p old
+    same_state = ap (λ w. w == 0) a.last
+
+    pub table_from : ((b : Bit) → is_plain p old ≡ true → is_wide p b ≡ true → g b ≡ false) → IsTable p new
+    table_from own = record {
       len = a.len ∙ t.len;
       spare = λ b k past. a.bits b k ∙ ap (λ v. v && not (g b)) (t.spare b k past);
-    };
-    cells = λ x k.
-        ap (λ w. (w == 0) && is_set p new (bit_of x)) a.last
-        ∙ ap (λ v. in_force p old && v) (a.bits (bit_of x) (bit_within p x k))
-        ∙ in_both (in_force p old) (is_set p old (bit_of x)) (g (bit_of x)) (h x) (e x k);
-  }
+      plain = λ state b k wide inside.
+          let before = sym same_state ∙ state in
+          same_bit b k (own b before wide) ∙ t.plain before b k wide inside;
+    }
+
+    same_kept : (x : Cell) → InRange p x → ((d s : ℕ) → is_wide p (bit_on d s x) ≡ true → g (bit_on d s x) ≡ false)
+        → is_kept p new x ≡ is_kept p old x
+    same_kept x k own =
+        ap (λ v. v && (is_set p new (bit_on p.days x.period x) && is_set p new (bit_on p.days p.periods x)))
+        (same_bit (bit_on x.day p.periods x) (wide_within p x k x.day p.periods (omega (arith, k.day)) (omega arith))
+        (own x.day p.periods (or_right (x.day == p.days) (p.periods == p.periods) (eq-eqb p.periods p.periods refl))))
+        ∙ ap (λ v. is_set p old (bit_on x.day p.periods x) && (v && is_set p new (bit_on p.days p.periods x)))
+        (same_bit (bit_on p.days x.period x) (wide_within p x k p.days x.period (omega arith) (omega (arith, k.period)))
+        (own p.days x.period (or_left (p.days == p.days) (x.period == p.periods) (eq-eqb p.days p.days refl))))
+        ∙ ap (λ v. is_set p old (bit_on x.day p.periods x) && (is_set p old (bit_on p.days x.period x) && v))
+        (same_bit (bit_on p.days p.periods x) (wide_within p x k p.days p.periods (omega arith) (omega arith))
+        (own p.days p.periods (or_left (p.days == p.days) (p.periods == p.periods) (eq-eqb p.days p.days refl))))
+
+    pub loses_from : (h : Cell → Bool) → ((b : Bit) → is_wide p b ≡ true → g b ≡ false)
+        → ((x : Cell) → InRange p x → g (bit_of x) ≡ h x) → Loses p old h new
+    unfolding has_cell
+    loses_from h own e = record {
+      table = table_from (λ b _ wide. own b wide);
+      cells = λ x k.
+          let rest = is_plain p old || is_kept p old x in
+          ap (λ f. f && is_set p new (bit_of x) && (is_plain p new || is_kept p new x)) same_force
+          ∙ ap (λ v. in_force p old && v && (is_plain p new || is_kept p new x)) (a.bits (bit_of x) (bit_within p x k))
+          ∙ ap (λ v. in_force p old && (is_set p old (bit_of x) && not (g (bit_of x))) && (v || is_kept p new x)) same_state
+          ∙ ap (λ v. in_force p old && (is_set p old (bit_of x) && not (g (bit_of x))) && (is_plain p old || v))
+          (same_kept x k (λ d s wide. own (bit_on d s x) wide))
+          ∙ in_all (in_force p old) (is_set p old (bit_of x)) rest (g (bit_of x))
+          ∙ ap (λ v. (in_force p old && is_set p old (bit_of x) && rest) && not v) (e x k);
+    }
 
   pub all_removed : (new : List ℕ) → IsTable p old → new ≡ slice_set old (size p) 1 → Loses p old (λ x. true) new
   unfolding has_cell
@@ -148,13 +190,16 @@ module _ (p : Problem) (old : List ℕ) where
       spare = λ b k past. ap (λ l. is_set p l b) e
           ∙ ap (λ w. has_bit w b.number) (get_or-set_other old (size p) (place p b.course b.day b.period + b.block) 1 0
           (λ q. let w = word_within p b k in omega arith)) ∙ t.spare b k past;
+      plain = λ state b k wide inside. absurd (both_ways (is_plain p new) (ap (λ w. w == 0) last) state);
     };
     cells = λ x k.
-        ap (λ w. (w == 0) && is_set p new (bit_of x)) (ap (λ l. slice_index_or l (size p) 0) e ∙ get_or-set_same old (size p) 1 0
-        (let l = t.len in omega arith))
+        ap (λ w. not (w == 1) && is_set p new (bit_of x) && (is_plain p new || is_kept p new x)) last
         ∙ nothing (has_cell p old x);
   }
     where
+      last : slice_index_or new (size p) 0 ≡ 1
+      last = ap (λ l. slice_index_or l (size p) 0) e ∙ get_or-set_same old (size p) 1 0 (let l = t.len in omega arith)
+
       nothing : (b : Bool) → false ≡ (b && not true)
       nothing true = refl
       nothing false = refl
@@ -173,20 +218,37 @@ module _ (p : Problem) (old : List ℕ) where
       by_test true f = f refl
       by_test false f = refl
 
-  pub rooms_removed : (c d s : ℕ) (room : Option ℕ) (new : List ℕ) → IsTable p old
+  -- no bit of a single period is one of several periods
+  own_period : (c d s : ℕ) → d < p.days → s < p.periods → (lost : ℕ → ℕ → Bool) → (b : Bit) → is_wide p b ≡ true
+      → (is_here c d s b && nat_lt b.block (width p) && lost b.block b.number) ≡ false
+  own_period c d s hd hs lost b wide = false_from_ne_true (is_here c d s b && nat_lt b.block (width p) && lost b.block b.number) (λ e.
+      let u = and_parts (is_here c d s b && nat_lt b.block (width p)) (lost b.block b.number) e in
+      let v = and_parts (is_here c d s b) (nat_lt b.block (width p)) u.0 in
+      let w = and_parts ((b.course == c) && (b.day == d)) (b.period == s) v.0 in
+      let x = and_parts (b.course == c) (b.day == d) w.0 in
+      let day = eqb-true b.day d x.1 in
+      let period = eqb-true b.period s w.1 in
+      elim (or_cases (b.day == p.days) (b.period == p.periods) wide) [
+        | inl q ↦ let i = eqb-true b.day p.days q in omega arith
+        | inr q ↦ let i = eqb-true b.period p.periods q in omega arith
+      ])
+
+  pub rooms_removed : (c d s : ℕ) → d < p.days → s < p.periods → (room : Option ℕ) (new : List ℕ) → IsTable p old
       → Drops p old new (λ b. is_here c d s b && nat_lt b.block (width p) && agrees room (b.block * 64 + b.number))
       → Loses p old (λ x. is_placed c d s x && agrees room x.room) new
-  rooms_removed c d s room new t a =
-      loses_from new (λ b. is_here c d s b && nat_lt b.block (width p) && agrees room (b.block * 64 + b.number))
-      (λ x. is_placed c d s x && agrees room x.room) t a
+  rooms_removed c d s hd hs room new t a =
+      loses_from new (λ b. is_here c d s b && nat_lt b.block (width p) && agrees room (b.block * 64 + b.number)) t a
+      (λ x. is_placed c d s x && agrees room x.room)
+      (λ b wide. own_period c d s hd hs (λ w i. agrees room (w * 64 + i)) b wide)
       (λ x k. each_block c d s (λ w i. agrees room (w * 64 + i)) (λ y. agrees room y.room) x k (λ _. ap (agrees room) (room_back x.room)))
 
-  pub rooms_kept : (c d s : ℕ) (room : Option ℕ) (other new : List ℕ) → IsTable p old
+  pub rooms_kept : (c d s : ℕ) → d < p.days → s < p.periods → (room : Option ℕ) (other new : List ℕ) → IsTable p old
       → Drops p old new (λ b. is_here c d s b && nat_lt b.block (width p) && not (is_open p other room c d s (b.block * 64 + b.number)))
       → Loses p old (λ x. is_placed c d s x && not (has_cell p other x && agrees room x.room)) new
-  rooms_kept c d s room other new t a =
-      loses_from new (λ b. is_here c d s b && nat_lt b.block (width p) && not (is_open p other room c d s (b.block * 64 + b.number)))
-      (λ x. is_placed c d s x && not (has_cell p other x && agrees room x.room)) t a
+  rooms_kept c d s hd hs room other new t a =
+      loses_from new (λ b. is_here c d s b && nat_lt b.block (width p) && not (is_open p other room c d s (b.block * 64 + b.number))) t a
+      (λ x. is_placed c d s x && not (has_cell p other x && agrees room x.room))
+      (λ b wide. own_period c d s hd hs (λ w i. not (is_open p other room c d s (w * 64 + i))) b wide)
       (λ x k. each_block c d s (λ w i. not (is_open p other room c d s (w * 64 + i)))
       (λ y. not (has_cell p other y && agrees room y.room)) x k (λ e.
       let u = and_parts ((x.course == c) && (x.day == d)) (x.period == s) e in

@@ -16,7 +16,7 @@ use Rattle.tt_list_laws.proofs.Twos.{neither}
 use Rattle.tt_instance.specs.Problem.{Problem, Unavailability}
 use Rattle.tt_instance.specs.declared.cell.Cell.{Cell}
 use Rattle.tt_bits.specs.Inner.Bits.{has_bit}
-use Rattle.tt_path_tables.specs.Inner.Words.{Bit, IsBit, width, place, size, room_of, bit_of, is_set}
+use Rattle.tt_path_tables.specs.Inner.Words.{Bit, IsBit, width, place, size, room_of, bit_of, is_set, is_kept}
 use Rattle.tt_path_tables.specs.Inner.Tables.{has_cell, Shows, Loses, is_placed}
 use Rattle.tt_path_tables.specs.Inner.First.{AreFull}
 use Rattle.tt_path_tables.proofs.Grid.{word_within, bit_within, room_back}
@@ -59,7 +59,7 @@ module _ (p : Problem) (full : List ℕ) (a : AreFull p full (size p)) where
       ap (λ v. has_bit v b.number) (get_or-append full (0 ∷ []) 0 i under)
       ∙ a.bits i b.number w h.number
       ∙ ap (λ j. nat_lt (j * 64 + b.number) (length p.rooms))
-      (mod-mul-add ((b.course * p.days + b.day) * p.periods + b.period) (width p) b.block h.block)
+      (mod-mul-add ((b.course * (p.days + 1) + b.day) * (p.periods + 1) + b.period) (width p) b.block h.block)
 
   pub full_table : Shows p (is_open_by []) (full ++ 0 ∷ [])
   unfolding has_cell
@@ -67,10 +67,12 @@ module _ (p : Problem) (full : List ℕ) (a : AreFull p full (size p)) where
     table = record {
       len = length-append full (0 ∷ []) ∙ ap (λ n. n + 1) a.len;
       spare = λ b h past. set_if_room b h ∙ le-ltb (room_of b) (length p.rooms) past;
+      plain = λ state b h wide inside. set_if_room b h ∙ lt-ltb (room_of b) (length p.rooms) inside;
     };
     cells = λ x h.
-        ap (λ v. (v == 0) && is_set p (full ++ 0 ∷ []) (bit_of x)) (ap (λ i. slice_index_or (full ++ 0 ∷ []) i 0) (sym a.len)
-        ∙ get_or-append_seam full 0 [] 0)
+        ap (λ v. not (v == 1) && is_set p (full ++ 0 ∷ []) (bit_of x) && ((v == 0) || is_kept p (full ++ 0 ∷ []) x))
+        (ap (λ i. slice_index_or (full ++ 0 ∷ []) i 0) (sym a.len) ∙ get_or-append_seam full 0 [] 0)
+        ∙ and-true (is_set p (full ++ 0 ∷ []) (bit_of x))
         ∙ set_if_room (bit_of x) (bit_within p x h) ∙ ap (λ r. nat_lt r (length p.rooms)) (room_back x.room)
         ∙ lt-ltb x.room (length p.rooms) h.room;
   }

@@ -4,4 +4,6 @@ pub mod Reading
 pub mod FirstTable
 pub mod Losing
 pub mod Barred
+pub mod Wide
+pub mod Firsts
 pub mod Linked

@@ -1,5 +1,5 @@
 -- What words say about the cells of a course in a period.
-use Rattle.std.proofs.Common.{◌≡◌, ℕ, ◌+◌, ◌*◌, ◌/◌, ◌%◌, ◌<◌, ◌≤◌, Bool, true, false, ◌&&◌, List, length, refl, sym, ap, ◌∙◌, arith, inl, inr}
+use Rattle.std.proofs.Common.{◌≡◌, ℕ, ◌+◌, ◌*◌, ◌/◌, ◌%◌, ◌<◌, ◌≤◌, Bool, true, false, ◌&&◌, ◌||◌, List, length, refl, sym, ap, ◌∙◌, arith, inl, inr}
 use Rattle.std.specs.List.{list_any, list_all}
 use Rattle.std.proofs.lemmas.Bool.{cases_lt, both_ways}
 use Rattle.tt_list_laws.specs.Words.{range_below}
@@ -9,9 +9,9 @@ use Rattle.tt_list_laws.proofs.Range.{all_below, at_below, below_member}
 use Rattle.tt_list_laws.proofs.Truth.{same_truth}
 use Rattle.tt_instance.specs.Problem.{Problem}
 use Rattle.tt_instance.specs.Cells.{slot, cell, all_rooms}
-use Rattle.tt_bits.specs.Inner.Bits.{bits}
+use Rattle.tt_bits.specs.Inner.Bits.{has_bit, bits}
 use Rattle.tt_bits.proofs.BitLaws.{any_bits_at, bit_from_any, all_bits_from, all_bits_at}
-use Rattle.tt_path_tables.specs.Inner.Words.{width, is_set, in_force}
+use Rattle.tt_path_tables.specs.Inner.Words.{width, word_at, in_force, is_plain}
 use Rattle.tt_path_tables.specs.Inner.Tables.{has_cell, IsTable}
 use Rattle.tt_path_tables.proofs.Grid.{room_back, block_within}
 use Rattle.tt_list_laws.proofs.Grid.{block_back, number_back}
@@ -19,25 +19,30 @@ use Rattle.tt_list_laws.proofs.Grid.{block_back, number_back}
 module _ (p : Problem) where
   -- a cell by its block and number
   pub cell-bit : (words : List ℕ) (c d s w k : ℕ) → k < 64 → has_cell p words (cell c (w * 64 + k) (slot d s)) ≡
-      (in_force p words && is_set p words (record { course = c; day = d; period = s; block = w; number = k }))
+      (in_force p words && has_bit (word_at p words c d s w) k && (is_plain p words || (has_bit (word_at p words c d p.periods w) k
+      && (has_bit (word_at p words c p.days s w) k && has_bit (word_at p words c p.days p.periods w) k))))
   unfolding has_cell
   cell-bit words c d s w k h =
-      ap (λ i. in_force p words && is_set p words (record { course = c; day = d; period = s; block = i; number = (w * 64 + k) % 64 }))
-      (block_back w k h)
-      ∙ ap (λ i. in_force p words && is_set p words (record { course = c; day = d; period = s; block = w; number = i })) (number_back w k h)
+      ap (λ i. found i ((w * 64 + k) % 64)) (block_back w k h) ∙ ap (found w) (number_back w k h)
+    where
+      found : ℕ → ℕ → Bool
+      found i n = in_force p words && has_bit (word_at p words c d s i) n && (is_plain p words || (has_bit (word_at p words c d p.periods i) n
+          && (has_bit (word_at p words c p.days s i) n && has_bit (word_at p words c p.days p.periods i) n)))
 
   -- no table has a room that is out of range
   pub spare-cell : (words : List ℕ) (c d s w k : ℕ) → IsTable p words → c < length p.courses → d < p.days → s < p.periods → w < width p
       → k < 64 → length p.rooms ≤ w * 64 + k → has_cell p words (cell c (w * 64 + k) (slot d s)) ≡ false
   spare-cell words c d s w k t hc hd hs hw hk past =
+      let others = is_plain p words || (has_bit (word_at p words c d p.periods w) k
+      && (has_bit (word_at p words c p.days s w) k && has_bit (word_at p words c p.days p.periods w) k)) in
       cell-bit words c d s w k hk
-      ∙ ap (λ b. in_force p words && b) (t.spare (record { course = c; day = d; period = s; block = w; number = k })
-      (record { course = hc; day = hd; period = hs; block = hw; number = hk }) past)
-      ∙ nothing (in_force p words)
+      ∙ ap (λ b. in_force p words && b && others) (t.spare (record { course = c; day = d; period = s; block = w; number = k })
+      (record { course = hc; day = omega (arith, hd); period = omega (arith, hs); block = hw; number = hk }) past)
+      ∙ nothing (in_force p words) others
     where
-      nothing : (b : Bool) → (b && false) ≡ false
-      nothing true = refl
-      nothing false = refl
+      nothing : (b v : Bool) → (b && false && v) ≡ false
+      nothing true v = refl
+      nothing false v = refl
 
   -- ---- tests of rooms, block by block
 

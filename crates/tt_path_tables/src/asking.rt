@@ -1,8 +1,9 @@
 //! Queries of a table.
 
-ghost use Rattle.std.specs.Prelude.{◌≡◌, ◌<◌, ◌+◌, ◌*◌, ◌==◌, ◌||◌, ◌&&◌, ℕ, not, nat_lt, length, None};
+ghost use Rattle.std.specs.Prelude.{◌≡◌, ◌<◌, ◌+◌, ◌*◌, ◌==◌, ◌||◌, ◌&&◌, ℕ, true, false, not, nat_lt, length, None};
 ghost use Rattle.std.specs.List.{list_any, list_all};
 ghost use Rattle.tt_instance.specs.Cells.{all_rooms, InRange};
+ghost use Rattle.tt_instance.specs.declared.cell.Cell.{Cell};
 ghost use Rattle.tt_list_laws.specs.Words.{range_below};
 ghost use Rattle.tt_bits.specs.Inner.Bits.{has_bit, bits};
 ghost use Rattle.tt_path_tables.specs.Inner.Words.{width};
@@ -10,7 +11,7 @@ ghost use Rattle.tt_path_tables.specs.Inner.Rooms.{has_room};
 ghost use Rattle.tt_path_tables.specs.Inner.Tables.{has_cell, is_open, IsTable};
 ghost use Rattle.tt_path_tables.specs.Inner.Spots.{IsSpot};
 
-use crate::places::{cells_word, open_word, width};
+use crate::places::{WIDE, cells_word, open_word, place, width};
 use crate::rooms::{Rooms, common_of};
 use crate::spot::Spot;
 use tt_bits::{Trail, has_bit, is_empty, with_if};
@@ -28,6 +29,27 @@ pub fn has_cell(instance: &Instance<'_>, table: &Trail, cell: Cell) -> bool
     };
     let word = cells_word(instance, table, cell.course, slot, cell.room / 64);
     has_bit(word, cell.room % 64)
+}
+
+/// Returns whether all cells of a course were removed at once.
+pub fn is_gone(instance: &Instance<'_>, table: &Trail, course: u32) -> bool
+    requires course { course < length instance.now.courses }
+    requires table { IsTable instance.now table.now.words }
+    ensures { result ≡ true → (x : Cell) → InRange instance.now x → x.course ≡ course → has_cell instance.now table.now.words x ≡ false }
+{
+    if table.word(table.len() - 1) != WIDE {
+        return false;
+    }
+    let week = Slot {
+        day: instance.days(),
+        period: instance.periods(),
+    };
+    for block in 0..width(instance) {
+        if !is_empty(table.word(place(instance, course, week, block))) {
+            return false;
+        }
+    }
+    true
 }
 
 /// Returns whether one of the words of rooms has some of these cells.

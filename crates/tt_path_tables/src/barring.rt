@@ -6,8 +6,7 @@ ghost use Rattle.tt_path.specs.Inner.Nested.{has_place_of};
 ghost use Rattle.tt_path_tables.specs.Inner.Tables.{IsTable, Loses};
 
 use crate::courses::courses_of;
-use crate::periods::{is_allowed, slots_of};
-use crate::removing::remove_rooms;
+use crate::removing::{remove_rooms, remove_wide};
 use crate::spot::Spot;
 use std::alloc::AllocError;
 use tt_bits::Trail;
@@ -42,40 +41,6 @@ fn remove_at(
     Ok(())
 }
 
-/// Removes a course's cells that agree with the pattern, period by period. Not inlined, so that the code for a pattern of one period
-/// stays short.
-#[inline(never)]
-fn remove_within(
-    instance: &Instance<'_>,
-    table: &mut Trail,
-    pattern: &Pattern,
-    course: u32,
-) -> Result<(), AllocError>
-    requires course { course < length instance.now.courses }
-    requires table { IsTable instance.now table.old.words }
-    ensures ok { OnOk result (Loses instance.now table.old.words
-        (λ x. (x.course == course) && has_place_of pattern.now x) table.new.words) }
-    ensures unchanged { table.new.earlier ≡ table.old.earlier }
-{
-    let periods = instance.periods();
-    let (from, to) = slots_of(instance, pattern);
-    for slot in from..to {
-        if !is_allowed(instance, pattern, slot) {
-            continue;
-        }
-        let spot = Spot {
-            room: pattern.room,
-            course,
-            slot: Slot {
-                day: slot / periods,
-                period: slot % periods,
-            },
-        };
-        remove_rooms(instance, table, spot)?;
-    }
-    Ok(())
-}
-
 /// Removes a course's cells that agree with the pattern.
 fn remove_of(
     instance: &Instance<'_>,
@@ -89,12 +54,18 @@ fn remove_of(
         (λ x. (x.course == course) && has_place_of pattern.now x) table.new.words) }
     ensures unchanged { table.new.earlier ≡ table.old.earlier }
 {
-    if let (Some(day), Some(period)) = (pattern.day, pattern.period) {
-        remove_at(instance, table, pattern, course, Slot { day, period })?;
-        return Ok(());
+    match (pattern.day, pattern.period) {
+        (Some(day), Some(period)) => {
+            remove_at(instance, table, pattern, course, Slot { day, period })?;
+            Ok(())
+        }
+        (Some(day), None) if day >= instance.days() => Ok(()),
+        (None, Some(period)) if period >= instance.periods() => Ok(()),
+        _ => {
+            remove_wide(instance, table, course, pattern)?;
+            Ok(())
+        }
     }
-    remove_within(instance, table, pattern, course)?;
-    Ok(())
 }
 
 /// Removes the cells that the pattern matches.

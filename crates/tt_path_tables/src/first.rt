@@ -6,7 +6,7 @@ ghost use Rattle.tt_path_tables.specs.Inner.Words.{size};
 ghost use Rattle.tt_path_tables.specs.Inner.Tables.{Shows};
 ghost use Rattle.tt_path_tables.specs.Inner.First.{AreFull};
 
-use crate::places::width;
+use crate::places::{PLAIN, width};
 use crate::removing::remove_rooms;
 use crate::spot::Spot;
 use std::alloc::{AllocError, Global};
@@ -20,8 +20,8 @@ fn full_words(alloc: Global, instance: &Instance<'_>) -> Result<Vec<u64>, AllocE
     let rooms = instance.rooms();
     let width = width(instance) as usize;
     let slots = instance.courses() as usize
-        * instance.days() as usize
-        * instance.periods() as usize;
+        * (instance.days() as usize + 1)
+        * (instance.periods() as usize + 1);
     let mut words = Vec::new(alloc);
     for index in 0..slots * width {
         let block = (index % width) as u32;
@@ -37,7 +37,7 @@ pub fn first_table(alloc: Global, instance: &Instance<'_>) -> Result<Trail, Allo
     ensures earlier { IfOk result (λ t. t.earlier ≡ []) }
 {
     let mut words = full_words(alloc, instance)?;
-    words.push(0)?;
+    words.push(PLAIN)?;
     let mut table = Trail::new(alloc, words);
     let courses = instance.courses();
     let days = instance.days();

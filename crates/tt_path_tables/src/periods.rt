@@ -1,12 +1,12 @@
 //! The periods in which a yes-fact has a free cell.
 
-ghost use Rattle.std.specs.Prelude.{◌≡◌, ◌<◌, ◌≤◌, ◌*◌, MatchOption};
+ghost use Rattle.std.specs.Prelude.{◌≡◌, ◌<◌, ◌≤◌, ◌*◌, [], ◌∷◌, MatchOption};
 ghost use Rattle.tt_path_tables.specs.Inner.Tables.{IsTable};
 ghost use Rattle.tt_path_tables.specs.Inner.Struck.{is_left_to, is_left};
 ghost use Rattle.tt_path_tables.specs.Inner.Slots.{is_allowed, is_left_in, Covers, IsNone, IsFirst};
 ghost use Rattle.tt_path_tables.specs.Inner.Spots.{IsSlot};
 
-use crate::asking::has_period;
+use crate::asking::{has_period, is_gone};
 use crate::basis::Basis;
 use crate::demand::Demand;
 use crate::spot::Spot;
@@ -80,6 +80,35 @@ pub fn is_left_in(basis: &Basis<'_, '_>, demand: &Demand<'_>, slot: u32) -> bool
     is_allowed(basis.instance, demand.pattern, slot) && is_left(basis, demand, Slot { day, period })
 }
 
+/// Returns the first of these periods in which a course has a free room that the pattern allows. A course all of whose cells were removed at once
+/// isn't looked for in each period.
+fn first_left_to(
+    basis: &Basis<'_, '_>,
+    pattern: &Pattern,
+    course: u32,
+    from: u32,
+    to: u32,
+) -> Option<u32>
+    requires to { to ≤ basis.now.instance.now.days * basis.now.instance.now.periods }
+    requires free { IsTable basis.now.instance.now basis.now.free.now.words }
+    ensures { let left = is_left_in basis.now.instance.now basis.now.free.now.words pattern.now (course ∷ []) in
+        MatchOption result (IsNone left from to) (λ k. IsFirst left from to k) }
+{
+    if course >= basis.instance.courses() || is_gone(basis.instance, basis.free, course) {
+        return None;
+    }
+    let demand = Demand {
+        pattern,
+        courses: &[course],
+    };
+    for slot in from..to {
+        if is_left_in(basis, &demand, slot) {
+            return Some(slot);
+        }
+    }
+    None
+}
+
 /// Returns the first of these periods in which one of the courses has a free room that the pattern allows.
 pub fn first_left(basis: &Basis<'_, '_>, demand: &Demand<'_>, from: u32, to: u32) -> Option<u32>
     requires to { to ≤ basis.now.instance.now.days * basis.now.instance.now.periods }
@@ -88,10 +117,15 @@ pub fn first_left(basis: &Basis<'_, '_>, demand: &Demand<'_>, from: u32, to: u32
         demand.now.courses.now in
         MatchOption result (IsNone left from to) (λ k. IsFirst left from to k) }
 {
-    for slot in from..to {
-        if is_left_in(basis, demand, slot) {
-            return Some(slot);
+    let mut first: Option<u32> = None;
+    for course in demand.courses {
+        let end = first.unwrap_or(to);
+        if end == from {
+            return first;
+        }
+        if let Some(slot) = first_left_to(basis, demand.pattern, *course, from, end) {
+            first = Some(slot);
         }
     }
-    None
+    first
 }

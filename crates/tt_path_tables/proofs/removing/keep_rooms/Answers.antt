@@ -21,8 +21,9 @@ loop-block-preserved c =
     let cleared = subst (λ i. Clears mid i mask new) c.place.ensures.value c.in_ok-clear.ensures.ok in
     record {
       drops = block_dropped p a.table.now.words spot.course spot.slot.day spot.slot.period n mask lost mid new
-          q.course q.slot.day q.slot.period here c.loop-block.invariant.drops
-          (word_dropped p mid spot.course spot.slot.day spot.slot.period n mask new q.course q.slot.day q.slot.period here cleared)
+          q.course (omega (arith, q.slot.day)) (omega (arith, q.slot.period)) here c.loop-block.invariant.drops
+          (word_dropped p mid spot.course spot.slot.day spot.slot.period n mask new q.course (omega (arith, q.slot.day))
+          (omega (arith, q.slot.period)) here cleared)
           (λ k h. c.others.ensures k h ∙ ap not (c.open_word-word.ensures k h));
       earlier = c.clear.ensures.unchanged ∙ c.loop-block.invariant.earlier;
     }
@@ -34,7 +35,7 @@ returns-clause-ok c =
     let p = a.instance.now in
     let new = c.loop-block.table.words in
     let end : c.loop-block.block ≡ width p = omega (arith, c.width-block-end.ensures.value) in
-    rooms_kept p a.table.now.words spot.course spot.slot.day spot.slot.period spot.room a.kept.now.words new c.requires.table
+    rooms_kept p a.table.now.words spot.course spot.slot.day spot.slot.period c.requires.spot.slot.day c.requires.spot.slot.period spot.room a.kept.now.words new c.requires.table
     (subst (λ n. Drops p a.table.now.words new (λ b. is_here spot.course spot.slot.day spot.slot.period b && nat_lt b.block n && not
     (is_open p a.kept.now.words spot.room spot.course spot.slot.day spot.slot.period (b.block * 64 + b.number))))
     end c.loop-block.invariant.drops)
