@@ -12,10 +12,9 @@ use tt_cli_arguments::BestRequest;
 use tt_cli_files::Batch;
 use tt_cli_progress::{Ticker, World, ticker_of};
 use tt_cli_saving::{
-    CommandFault, Folder, Input, InputFile, Inputs, Keeper, Prepared, Reply, WISHES_LINE,
-    read_if_given, reply_with,
+    CommandFault, Folder, GROUPS, Given, Input, InputFile, Inputs, Keeper, PRICES, Prepared, Reply,
+    WISHES_LINE, kept_table, read_if_given, reply_with,
 };
-use tt_cli_searches::{GROUPS, Given, PRICES, kept_table};
 use tt_page::STYLE;
 use tt_text_peek::{FileKind, kind_of_front};
 

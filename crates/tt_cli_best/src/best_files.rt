@@ -5,8 +5,7 @@ use std::cell::Cell;
 use tt_call_searches::BestAnswer;
 use tt_cli_files::{Batch, Role};
 use tt_cli_progress::World;
-use tt_cli_saving::{Folder, FolderFile, Prepared, Shelf};
-use tt_cli_searches::{GROUPS, PRICES, ProofFolder};
+use tt_cli_saving::{Folder, FolderFile, GROUPS, PRICES, Prepared, ProofFolder, Shelf};
 
 /// The file of the best timetable.
 pub const TABLE: FolderFile = FolderFile {

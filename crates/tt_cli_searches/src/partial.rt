@@ -1,6 +1,5 @@
 //! The files for a timetable of `solve` that breaks hard rules or wishes: they are next to the output of the best timetable, so that an older one stays.
 
-use crate::given::Given;
 use std::alloc::{AllocError, Global};
 use std::io::Write;
 use tt_call_answers::{Answer, AppFault, UNNAMED};
@@ -8,7 +7,7 @@ use tt_call_kept_searches::KeptFiles;
 use tt_call_texts::{PageTexts, ProvedTexts, kept_page, proved_page};
 use tt_cli_files::{Batch, Role};
 use tt_cli_progress::World;
-use tt_cli_saving::{CommandFault, Inputs, Prepared, Target};
+use tt_cli_saving::{CommandFault, Given, Inputs, Prepared, Target};
 use tt_page::STYLE;
 use tt_text::{Pieces, Writing};
 use tt_text_peek::Peeked;

@@ -1,8 +1,6 @@
 //! The files of `solve`.
 
-use crate::given::Given;
 use crate::partial::PartialFiles;
-use crate::saving::kept_table;
 use crate::tree_files::{TreeFile, TreeShelf};
 use std::alloc::AllocError;
 use std::io::Write;
@@ -13,7 +11,8 @@ use tt_cli_arguments::{MAX_SOLVE_NODES, SolveRequest, TreeSearch};
 use tt_cli_files::{Batch, Ready, Role};
 use tt_cli_progress::{Ticker, World, ticker_of};
 use tt_cli_saving::{
-    CommandFault, Input, Inputs, Keeper, Prepared, Reply, Target, read_if_given, reply_with,
+    CommandFault, Given, Input, Inputs, Keeper, Prepared, Reply, Target, kept_table, read_if_given,
+    reply_with,
 };
 
 /// The outputs of `solve`.

@@ -1,10 +1,9 @@
 //! The file of the proof of a tree.
 
-use crate::proof_files::with_wishes_line;
 use std::alloc::AllocError;
 use tt_cli_files::{Batch, Ready};
 use tt_cli_progress::World;
-use tt_cli_saving::{Prepared, Shelf};
+use tt_cli_saving::{Prepared, Shelf, with_wishes_line};
 
 /// The file of the proof of a tree.
 pub struct TreeFile<F> {

@@ -2,7 +2,6 @@
 
 use crate::dropping::drop_and_list;
 use crate::near::{improve_priced, prices};
-use crate::saving::kept_table;
 use std::alloc::Global;
 use std::io::Write;
 use tt_call_answers::Answer;
@@ -12,8 +11,8 @@ use tt_cli_arguments::{ImproveRequest, Search};
 use tt_cli_files::{Batch, Role};
 use tt_cli_progress::{Ticker, World, ticker_of};
 use tt_cli_saving::{
-    CommandFault, Input, Inputs, Keeper, NoShelf, Prepared, Reply, Target, read_if_given,
-    reply_with, show_clash,
+    CommandFault, Input, Inputs, Keeper, NoShelf, Prepared, Reply, Target, kept_table,
+    read_if_given, reply_with, show_clash,
 };
 use tt_watch::Watch;
 

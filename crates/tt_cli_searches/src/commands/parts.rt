@@ -1,6 +1,5 @@
 //! The files of `parts`.
 
-use crate::proof_files::{GROUPS, PRICES, ProofFolder};
 use std::alloc::AllocError;
 use std::io::Write;
 use tt_call_searches::{PartsAnswer, parts};
@@ -8,7 +7,8 @@ use tt_cli_arguments::{PartSearch, PartsRequest};
 use tt_cli_files::{Batch, Role};
 use tt_cli_progress::{Ticker, World, ticker_of};
 use tt_cli_saving::{
-    CommandFault, Folder, FolderFile, Input, InputFile, Inputs, Keeper, Reply, Shelf, reply_with,
+    CommandFault, Folder, FolderFile, GROUPS, Input, InputFile, Inputs, Keeper, PRICES,
+    ProofFolder, Reply, Shelf, reply_with,
 };
 use tt_parts::Effort;
 

@@ -1,9 +1,10 @@
 //! Files of proofs in a folder.
 
+use crate::folder::{Folder, FolderFile};
+use crate::front::WISHES_LINE;
 use std::alloc::{AllocError, Global};
 use tt_cli_files::{Batch, Role};
 use tt_cli_progress::World;
-use tt_cli_saving::{Folder, FolderFile, WISHES_LINE};
 use tt_text_peek::{FileKind, kind_of_front};
 
 /// The file of groups.

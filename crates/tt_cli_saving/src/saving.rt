@@ -1,7 +1,8 @@
 //! Timetables that are stored during a search.
 
+use crate::keeper::KeptTable;
+use crate::targets::Prepared;
 use std::alloc::Global;
-use tt_cli_saving::{KeptTable, Prepared};
 use tt_instance_read::read_instance;
 
 /// Returns the file in which timetables are stored on the way, if they are to be stored and the bytes spell an instance.

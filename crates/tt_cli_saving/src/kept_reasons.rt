@@ -1,8 +1,8 @@
 //! Words on why no timetable was found that keeps wishes.
 
+use crate::clash::show_clash;
 use std::alloc::{AllocError, Global};
 use std::io::Write;
-use tt_cli_saving::show_clash;
 use tt_inspect::explain_shortages;
 use tt_instance::Instance;
 use tt_instance_read::{InstanceFault, read_instance};
