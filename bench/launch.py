@@ -49,7 +49,7 @@ FILES = {
     "crates/tt_tests_commands/src/lib.rt": "",
 }
 PACKED = ["LICENSE-MIT", "LICENSE-APACHE", "README.md", "CHANGELOG.md", "docs/RULES.md", "docs/PROOF_FORMAT.md", "docs/GROUPS_FORMAT.md", "examples/mini.ctt"]
-SCRIPTS = ["tt", "gate", "bench/sources.sh", "bench/package.sh", "bench/look.sh"]
+SCRIPTS = ["tt", "gate", "bench/jobs.sh", "bench/sources.sh", "bench/package.sh", "bench/look.sh"]
 
 
 class Copy:
