@@ -103,7 +103,8 @@ module _ (p : Problem) (old : List ℕ) where
   }
 
   -- another block of a course in a period
-  pub block_dropped : (c d s n mask : ℕ) (lost : ℕ → ℕ → Bool) (mid new : List ℕ) → c < length p.courses → d < p.days + 1 → s < p.periods + 1
+  pub block_dropped : (c d s n mask : ℕ) (lost : ℕ → ℕ → Bool) (mid new : List ℕ) → c < length p.courses → d < p.days + 1
+      → s < p.periods + 1
       → n < width p
       → Drops p old mid (λ b. is_here c d s b && nat_lt b.block n && lost b.block b.number)
       → Drops p mid new (λ b. is_here c d s b && (b.block == n) && has_bit mask b.number) → ((k : ℕ) → k < 64 → has_bit mask k ≡ lost n k)

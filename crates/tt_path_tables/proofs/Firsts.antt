@@ -58,7 +58,8 @@ module _ (t u v : ℕ → Bool) (joined : (k : ℕ) → v k ≡ (t k || u k)) (f
   }
 
   -- whether or not there was one before
-  pub then_first : (o : Option ℕ) → MatchOption o (IsNone t from to) (λ e. IsFirst t from to e) → (k : ℕ) → IsFirst u from (unwrap_or o to) k
+  pub then_first : (o : Option ℕ) → MatchOption o (IsNone t from to) (λ e. IsFirst t from to e) → (k : ℕ)
+      → IsFirst u from (unwrap_or o to) k
       → IsFirst v from to k
   then_first None a k b = none_first a k b
   then_first (Some e) a k b = first_first e a k b
@@ -107,7 +108,8 @@ module _ (p : Problem) (free : List ℕ) (g : Pattern) where
       → is_left_in p free g (take (i + 1) ks) k ≡ (is_left_in p free g (take i ks) k || is_left_in p free g (slice_index_or ks i 0 ∷ []) k)
   one_more ks i h k =
       ap (λ l. is_left_in p free g l k) (take_more ks i 0 h)
-      ∙ ap (λ b. is_allowed p g k && b) (list_any-append (is_left_to p free g (k / p.periods) (k % p.periods)) (take i ks) (slice_index_or ks i 0 ∷ []))
+      ∙ ap (λ b. is_allowed p g k && b) (list_any-append (is_left_to p free g (k / p.periods) (k % p.periods)) (take i ks)
+          (slice_index_or ks i 0 ∷ []))
       ∙ over_or (is_allowed p g k) (is_left p free g (k / p.periods) (k % p.periods) (take i ks))
       (is_left p free g (k / p.periods) (k % p.periods) (slice_index_or ks i 0 ∷ []))
 
@@ -147,7 +149,8 @@ module _ (p : Problem) (free : List ℕ) (g : Pattern) (c : ℕ) (from to : ℕ)
           let x : Cell = cell c m.0 (slot d s) in
           let there = and_parts (has_cell p free x) (agrees g.room m.0) m.2 in
           both_ways (has_cell p free x)
-          (gone x (record { course = inside; room = below_member (length p.rooms) m.0 m.1; day = day some; period = period some }) refl) there.0)
+          (gone x (record { course = inside; room = below_member (length p.rooms) m.0 m.1; day = day some; period = period
+              some }) refl) there.0)
         where
           d : ℕ
           d = k / p.periods

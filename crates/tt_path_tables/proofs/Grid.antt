@@ -28,7 +28,8 @@ words_bounded c d s w hc hd hs hw =
 
 module _ (p : Problem) where
   pub place_within : (c d s : ℕ) → c < length p.courses → d < (p.days + 1) → s < (p.periods + 1) → place p c d s + width p ≤ size p
-  place_within c d s hc hd hs = row_within ((c * (p.days + 1) + d) * (p.periods + 1) + s) (width p) (length p.courses * (p.days + 1) * (p.periods + 1))
+  place_within c d s hc hd hs = row_within ((c * (p.days + 1) + d) * (p.periods + 1) + s) (width p)
+      (length p.courses * (p.days + 1) * (p.periods + 1))
       (within_slots c d s (length p.courses) (p.days + 1) (p.periods + 1) hc hd hs)
 
   pub word_within : (b : Bit) → IsBit p b → place p b.course b.day b.period + b.block < size p

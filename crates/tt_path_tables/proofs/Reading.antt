@@ -26,7 +26,8 @@ module _ (p : Problem) where
       ap (λ i. found i ((w * 64 + k) % 64)) (block_back w k h) ∙ ap (found w) (number_back w k h)
     where
       found : ℕ → ℕ → Bool
-      found i n = in_force p words && has_bit (word_at p words c d s i) n && (is_plain p words || (has_bit (word_at p words c d p.periods i) n
+      found i n = in_force p words && has_bit (word_at p words c d s i) n
+          && (is_plain p words || (has_bit (word_at p words c d p.periods i) n
           && (has_bit (word_at p words c p.days s i) n && has_bit (word_at p words c p.days p.periods i) n)))
 
   -- no table has a room that is out of range

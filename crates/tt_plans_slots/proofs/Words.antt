@@ -78,7 +78,8 @@ second_false : (a b : Bool) → (a && b) ≡ false → a ≡ true → b ≡ fals
 second_false true b e t = e
 second_false false b e t = absurd (both_ways false refl t)
 
-module _ (words others : List ℕ) (place word other both : ℕ) (word_is : word ≡ get_or words place 0) (other_is : other ≡ get_or others place 0)
+module _ (words others : List ℕ) (place word other both : ℕ) (word_is : word ≡ get_or words place 0)
+    (other_is : other ≡ get_or others place 0)
     (both_is : (r : ℕ) → r < 64 → has_bit both r ≡ (has_bit word r && has_bit other r)) where
   -- a word of the common bits that isn't 0
   pub common_at : list_any (has_bit both) bits ≡ true → (k : ℕ) × (flag_in words k ≡ true) × (flag_in others k ≡ true)

@@ -22,7 +22,8 @@ loop-block-preserved c = λ w k lt h.
     false_from_ne_true (has_bit found k) (λ t. both_ways (list_any (has_bit found) bits) none (any_bits_at (has_bit found) k h t)) in
     let word : found ≡ word_at p words a.course p.days p.periods n =
     c.word-in-loop-block.ensures ∙ ap (λ i. slice_index_or words i 0) (c.place.ensures.value
-    ∙ ap (λ d. place p a.course d c.periods.result + n) c.days.ensures.value ∙ ap (λ s. place p a.course p.days s + n) c.periods.ensures.value) in
+    ∙ ap (λ d. place p a.course d c.periods.result + n) c.days.ensures.value
+        ∙ ap (λ s. place p a.course p.days s + n) c.periods.ensures.value) in
     elim (cases_lt w n) [
       | inl l ↦ c.loop-block.invariant w k l h
       | inr l ↦

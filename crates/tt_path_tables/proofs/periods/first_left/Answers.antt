@@ -35,5 +35,6 @@ returns-then-end-from c =
     let free = a.basis.now.free.now.words in
     let g = a.demand.now.pattern.now in
     let ks = a.demand.now.courses.now in
-    ended (is_left_in p free g (take c.loop-course.course-index ks)) (is_left_in p free g ks) a.from a.to c.loop-course.first c.loop-course.invariant
+    ended (is_left_in p free g (take c.loop-course.course-index ks)) (is_left_in p free g ks) a.from a.to c.loop-course.first
+        c.loop-course.invariant
     (sym c.unwrap_or-end.ensures ∙ c.if-end-from.true) (all_more p free g ks c.loop-course.course-index a.from)

@@ -30,7 +30,8 @@ overflow_mul-result c =
       block = c.requires.block;
       number = omega arith;
     }) in
-    let most = words_bounded (length p.courses) p.days p.periods (width p) (omega (arith, c.courses-courses.ensures.value, c.courses-courses.ensures.within))
+    let most = words_bounded (length p.courses) p.days p.periods (width p)
+        (omega (arith, c.courses-courses.ensures.value, c.courses-courses.ensures.within))
     (omega (arith, c.days-days.ensures.value, c.days-days.ensures.within))
     (omega (arith, c.periods-periods.ensures.value, c.periods-periods.ensures.within))
     (omega (arith, c.width-width.ensures.value, c.width-width.ensures.within)) in
@@ -49,7 +50,8 @@ overflow_add-result c =
       block = c.requires.block;
       number = omega arith;
     }) in
-    let most = words_bounded (length p.courses) p.days p.periods (width p) (omega (arith, c.courses-courses.ensures.value, c.courses-courses.ensures.within))
+    let most = words_bounded (length p.courses) p.days p.periods (width p)
+        (omega (arith, c.courses-courses.ensures.value, c.courses-courses.ensures.within))
     (omega (arith, c.days-days.ensures.value, c.days-days.ensures.within))
     (omega (arith, c.periods-periods.ensures.value, c.periods-periods.ensures.within))
     (omega (arith, c.width-width.ensures.value, c.width-width.ensures.within)) in

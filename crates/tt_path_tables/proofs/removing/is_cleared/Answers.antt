@@ -9,4 +9,5 @@ returns c = λ e x.
     let p = c.args.instance.now in
     let words = c.args.table.now.words in
     let last : c.len.result - 1 ≡ size p = omega (arith, c.len.ensures, c.requires.table.len) in
-    cleared-cell p words (ap (λ i. not (slice_index_or words i 0 == 1)) (sym last) ∙ ap (λ w. not (w == 1)) (sym c.word.ensures) ∙ ap not e) x
+    cleared-cell p words (ap (λ i. not (slice_index_or words i 0 == 1)) (sym last)
+        ∙ ap (λ w. not (w == 1)) (sym c.word.ensures) ∙ ap not e) x
