@@ -1,8 +1,8 @@
 -- The faults of calls hold none of memory or of a failed read.
 use Rattle.std.proofs.Common.{ℕ, refl}
-use Rattle.tt_stop.specs.Stops.{OnFault}
-use Rattle.tt_stop.specs.declared.stop.Stop.{Stop}
-use Rattle.tt_stop.specs.declared.stop.Stop.TheVariants.{Fault, ReadFailed, OutOfMemory}
+use Rattle.tt_text.specs.Stops.{OnFault}
+use Rattle.tt_text.specs.declared.stop.Stop.{Stop}
+use Rattle.tt_text.specs.declared.stop.Stop.TheVariants.{Fault, ReadFailed, OutOfMemory}
 use Rattle.tt_instance_read.specs.declared.fault.InstanceFault.{InstanceFault}
 use Rattle.tt_instance_read.specs.declared.fault.InstanceFault.TheVariants as instance
 use Rattle.tt_page_text.specs.declared.fault.LabelsFault.{LabelsFault}

@@ -10,9 +10,8 @@ use tt_proof_sum::{FileFault, SumStop};
 use tt_proof_upgrade::UpgradeFault;
 use tt_report_export::TermFault;
 use tt_search_complete::CompleteFault;
-use tt_stop::Stop;
+use tt_text::{Stop, WriteFailed};
 use tt_table::SolutionFault;
-use tt_text::WriteFailed;
 
 /// The reason why a call was refused.
 #[derive(Clone, Copy, Debug, PartialEq, Eq, Error)]

@@ -8,7 +8,7 @@ use Rattle.tt_page_reason.specs.Explained.{IsProvedBy}
 use Rattle.tt_proof_check.specs.Derives.{HoldsOfAll}
 use Rattle.tt_proof_sum.specs.Faults.{IsSumStop}
 use Rattle.tt_proof_sum.specs.Sums.{IsSum}
-use Rattle.tt_stop.specs.declared.stop.Stop.TheVariants.{Fault, ReadFailed}
+use Rattle.tt_text.specs.declared.stop.Stop.TheVariants.{Fault, ReadFailed}
 use Rattle.tt_call_answers.specs.declared.fault.AppFault.{AppFault}
 use Rattle.tt_call_answers.specs.declared.fault.AppFault.TheVariants as app
 

@@ -1,9 +1,9 @@
 -- The answers of `check` and `bound`, from the results of the checker.
 use Rattle.std.proofs.Common.{◌≡◌, ℕ, List, Option, Result, Ok, Err, refl, subst, inl, inr}
 use Rattle.std.specs.Prelude.{◌↔◌}
-use Rattle.tt_stop.specs.Stops.{OnFault}
-use Rattle.tt_stop.specs.declared.stop.Stop.{Stop}
-use Rattle.tt_stop.specs.declared.stop.Stop.TheVariants.{Fault, ReadFailed, OutOfMemory}
+use Rattle.tt_text.specs.Stops.{OnFault}
+use Rattle.tt_text.specs.declared.stop.Stop.{Stop}
+use Rattle.tt_text.specs.declared.stop.Stop.TheVariants.{Fault, ReadFailed, OutOfMemory}
 use Rattle.tt_rules.specs.declared.counts.Score.{Score}
 use Rattle.tt_proof_check.specs.Headline.{Solves}
 use Rattle.tt_proof_check.specs.declared.fault.Verdict.{Verdict}

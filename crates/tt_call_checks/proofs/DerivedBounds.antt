@@ -11,9 +11,9 @@ use Rattle.tt_leaf.specs.declared.leaf.Bound.{Bound}
 use Rattle.tt_proof_check.specs.Derives.{HoldsOfAll}
 use Rattle.tt_proof_check.specs.Streams.{IsProved, stream_of, IsProofFault}
 use Rattle.tt_proof_check.specs.declared.fault.CheckFault.{CheckFault}
-use Rattle.tt_stop.specs.Stops.{OnFault}
-use Rattle.tt_stop.specs.declared.stop.Stop.{Stop}
-use Rattle.tt_stop.specs.declared.stop.Stop.TheVariants.{Fault, ReadFailed, OutOfMemory}
+use Rattle.tt_text.specs.Stops.{OnFault}
+use Rattle.tt_text.specs.declared.stop.Stop.{Stop}
+use Rattle.tt_text.specs.declared.stop.Stop.TheVariants.{Fault, ReadFailed, OutOfMemory}
 use Rattle.tt_call_checks.specs.Bounded.{IsBoundAnswer, IsBounded, IsBoundRefusal, AnswersBound}
 use Rattle.tt_call_answers.specs.FaultMaps.{fault_from_instance, fault_from_check}
 use Rattle.tt_call_answers.specs.declared.answer.Answer.{Answer}

@@ -11,8 +11,8 @@ use Rattle.tt_proof_check.specs.Derives.{HoldsOfAll}
 use Rattle.tt_table.specs.Spelling.{SpellsBoth}
 use Rattle.tt_proof_check.specs.Headline.{Solves, BoundsAll}
 use Rattle.tt_proof_check.specs.Verdicts.{IsBroken, FailsSolution}
-use Rattle.tt_stop.specs.declared.stop.Stop.{Stop}
-use Rattle.tt_stop.specs.declared.stop.Stop.TheVariants.{Fault, ReadFailed}
+use Rattle.tt_text.specs.declared.stop.Stop.{Stop}
+use Rattle.tt_text.specs.declared.stop.Stop.TheVariants.{Fault, ReadFailed}
 use Rattle.tt_proof_sum.specs.Faults.{IsSumStop}
 use Rattle.tt_proof_sum.specs.Sums.{IsSum}
 use Rattle.tt_proof_sum.specs.declared.fault.FileFault.{FileFault}

@@ -1,6 +1,6 @@
 -- The bytes that `page --proof --wishes` writes.
 use Rattle.std.specs.Prelude.{◌≡◌, ℕ, List, Option, Err, ⊤}
-use Rattle.tt_stop.specs.declared.stop.Stop.TheVariants.{Fault, ReadFailed}
+use Rattle.tt_text.specs.declared.stop.Stop.TheVariants.{Fault, ReadFailed}
 use Rattle.tt_instance_read.specs.Reading.{instance_of}
 use Rattle.tt_leaf.specs.declared.leaf.Bound.{Bound}
 use Rattle.tt_page.specs.Proofs.{kept_of}

@@ -10,10 +10,10 @@ use Rattle.tt_proof_sum.specs.Faults.{IsSumStopOn, IsUnfinished, all_points, is_
 use Rattle.tt_proof_sum.specs.Sums.{IsPartOn, IsSumOn}
 use Rattle.tt_proof_sum.specs.declared.fault.FileFault.{FileFault}
 use Rattle.tt_proof_sum.specs.declared.fault.SumStop.{SumStop}
-use Rattle.tt_stop.specs.Stops as stops
-use Rattle.tt_stop.specs.Stops.{OnFault}
-use Rattle.tt_stop.specs.declared.stop.Stop.{Stop}
-use Rattle.tt_stop.specs.declared.stop.Stop.TheVariants.{Fault, ReadFailed, OutOfMemory}
+use Rattle.tt_text.specs.Stops as stops
+use Rattle.tt_text.specs.Stops.{OnFault}
+use Rattle.tt_text.specs.declared.stop.Stop.{Stop}
+use Rattle.tt_text.specs.declared.stop.Stop.TheVariants.{Fault, ReadFailed, OutOfMemory}
 use Rattle.tt_parts.specs.Found.{AreRefusedOn}
 
 -- no value was found

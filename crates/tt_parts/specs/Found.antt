@@ -7,7 +7,7 @@ use Rattle.tt_leaf.specs.declared.leaf.Bound.{Bound}
 use Rattle.tt_proof_sum.specs.Faults.{IsSumStopOn, IsUnfinished, all_points}
 use Rattle.tt_proof_sum.specs.Sums.{IsSumOn}
 use Rattle.tt_proof_sum.specs.declared.fault.FileFault.{FileFault}
-use Rattle.tt_stop.specs.declared.stop.Stop.TheVariants.{Fault}
+use Rattle.tt_text.specs.declared.stop.Stop.TheVariants.{Fault}
 use Rattle.tt_parts.specs.declared.finding.Parts.{Parts}
 
 -- The bytes of each text.

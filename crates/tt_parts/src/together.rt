@@ -10,7 +10,7 @@ use tt_instance::Instance;
 use tt_leaf::Bound;
 use tt_path::Fact;
 use tt_proof_sum::{SumStop, sum_proofs_on};
-use tt_stop::Stop;
+use tt_text::Stop;
 use tt_text_peek::{Memory, Peeked};
 
 /// The number of bytes of a proof that are read at once.

@@ -1,7 +1,7 @@
 //! What a group pays at least.
 
 ghost use Rattle.std.specs.Prelude.{◌≡◌, ◌⊎◌, ◌+◌, ◌*◌, ◌^◌, ◌≤◌, ◌<◌, min, pos, false, length, All, Err, IfOk, IfSome, OnOk};
-ghost use Rattle.tt_stop.specs.Stops.{IfFault, is_read_failed};
+ghost use Rattle.tt_text.specs.Stops.{IfFault, is_read_failed};
 ghost use Rattle.tt_prices.specs.Limits.{IsWithin};
 ghost use Rattle.tt_prices.specs.Rows.{group_of};
 ghost use Rattle.tt_prices.specs.declared.price.TheConstants.{MAX_SCALE};
@@ -21,7 +21,7 @@ use tt_groups_week::Digits;
 use tt_instance::{Instance, MISSING_DAY_COST};
 use tt_prices::PricedGroup;
 use tt_prices_day::Shape;
-use tt_stop::Stop;
+use tt_text::Stop;
 
 /// Returns what every week pays: the days that a course lacks even if it has one lecture a day.
 fn base_paid(instance: &Instance<'_>, group: &PricedGroup, scale: u32) -> i64

@@ -15,7 +15,7 @@ use tt_groups_week::Digits;
 use tt_instance::Instance;
 use tt_prices::PricedGroup;
 use tt_prices_day::{Shape, list_days};
-use tt_stop::Stop;
+use tt_text::Stop;
 
 /// Adds the moves of a day at the end.
 fn add_day(week: &mut Vec<Vec<PricedMove>>, moves: Vec<PricedMove>) -> Result<(), AllocError>

@@ -24,10 +24,10 @@ use Rattle.tt_proof_check.specs.FailedReads.{HoldsOfGiven}
 use Rattle.tt_proof_check.specs.Streams.{sizes_of, stream_of}
 use Rattle.tt_proof_check.proofs.FailedReads.{of_given}
 use Rattle.tt_proof_check.proofs.Sizes.{sizes_are}
-use Rattle.tt_stop.specs.Stops as stops
-use Rattle.tt_stop.specs.Stops.{OnFault, IfFault}
-use Rattle.tt_stop.specs.declared.stop.Stop.{Stop}
-use Rattle.tt_stop.specs.declared.stop.Stop.TheVariants.{Fault, ReadFailed, OutOfMemory}
+use Rattle.tt_text.specs.Stops as stops
+use Rattle.tt_text.specs.Stops.{OnFault, IfFault}
+use Rattle.tt_text.specs.declared.stop.Stop.{Stop}
+use Rattle.tt_text.specs.declared.stop.Stop.TheVariants.{Fault, ReadFailed, OutOfMemory}
 use Rattle.tt_prices.specs.Prices.{PricedGroup}
 use Rattle.tt_prices.specs.Rows.{row_of, price_in, group_of}
 use Rattle.tt_prices.specs.declared.group.PricedGroup as program

@@ -1,8 +1,8 @@
 -- The meaning of the refusals of a file of groups with prices.
 use Rattle.std.specs.Prelude.{◌≡◌, ◌⊎◌, ℕ, ◌<◌, ◌*◌, ℤ, pos, ◌+ℤ◌, ◌≤ℤ◌, true, false, List, length, All, Contains, Some, None, Ok, Err, if◌then◌else◌}
 use Rattle.tt_list_laws.specs.Words.{are_distinct, has_number}
-use Rattle.tt_stop.specs.declared.stop.Stop.{Stop}
-use Rattle.tt_stop.specs.declared.stop.Stop.TheVariants.{Fault, ReadFailed, OutOfMemory}
+use Rattle.tt_text.specs.declared.stop.Stop.{Stop}
+use Rattle.tt_text.specs.declared.stop.Stop.TheVariants.{Fault, ReadFailed, OutOfMemory}
 use Rattle.tt_text.specs.Feeds.{Stream}
 use Rattle.tt_instance.specs.Problem.{Problem}
 use Rattle.tt_instance.specs.Courses.{lectures}

@@ -10,7 +10,7 @@ use tt_instance::Instance;
 use tt_prices::PricedGroup;
 use tt_prices_check::PricedWork;
 use tt_prices_read::Rent;
-use tt_stop::Stop;
+use tt_text::Stop;
 
 /// What the groups and the rents of a file so far claim and pay.
 #[derive(Drop)]
@@ -28,7 +28,7 @@ pub struct Account {
 
 impl Account {
     ghost use Rattle.std.specs.Prelude.{◌≡◌, ◌<◌, ◌≤◌, ◌++◌, ◌∷◌, [], List, true, false, IfOk, OnOk};
-    ghost use Rattle.tt_stop.specs.Stops.{IfFault, is_read_failed};
+    ghost use Rattle.tt_text.specs.Stops.{IfFault, is_read_failed};
     ghost use Rattle.tt_prices.specs.Rows.{group_of};
     ghost use Rattle.tt_prices.specs.declared.price.TheConstants.{MAX_SCALE};
     ghost use Rattle.tt_prices_read.specs.Parts as parts;

@@ -6,7 +6,7 @@ ghost use Rattle.tt_prices_read.specs.Readers.{IsHeader};
 ghost use Rattle.tt_prices_read.specs.Reading.{Part};
 ghost use Rattle.tt_proof_check.specs.FailedReads.{HoldsOfGiven};
 ghost use Rattle.tt_proof_check.specs.Streams.{sizes_of, stream_of};
-ghost use Rattle.tt_stop.specs.Stops.{IfFault, is_read_failed};
+ghost use Rattle.tt_text.specs.Stops.{IfFault, is_read_failed};
 ghost use Rattle.tt_prices_file.specs.Claims.{IsClaimOf};
 ghost use Rattle.tt_prices_file.specs.Faults.{ExplainsPrices, HoldsNoStop};
 ghost use Rattle.tt_prices_file.specs.Files.{room_scale};
@@ -21,8 +21,7 @@ use crate::total::finish;
 use std::alloc::Global;
 use tt_instance::Instance;
 use tt_prices_read::{Header, Item, PricesReader};
-use tt_stop::Stop;
-use tt_text::Source;
+use tt_text::{Source, Stop};
 
 /// Returns the units that a point of the rooms' costs has: those of the scale if the file claims the rooms, and otherwise none.
 fn room_scale(header: Header) -> u32

@@ -8,8 +8,7 @@ use thiserror::Error;
 use tt_prices_check::PricedFault;
 use tt_prices_read::PricesTextFault;
 use tt_proof_read::TextFault;
-use tt_stop::Stop;
-use tt_text::FeedFault;
+use tt_text::{FeedFault, Stop};
 
 /// Why a file of groups with prices is refused. Groups are counted from 0 in the order of the file, rooms and courses in that of the instance.
 #[derive(Clone, Copy, Debug, PartialEq, Eq, Error)]

@@ -1,7 +1,7 @@
 //! What a group of a file pays at least.
 
 ghost use Rattle.std.specs.Prelude.{◌≡◌, ◌+◌, ◌<◌, ◌≤◌, ◌^◌, true, false, Some, None, IfOk, OnOk};
-ghost use Rattle.tt_stop.specs.Stops.{IfFault, is_read_failed};
+ghost use Rattle.tt_text.specs.Stops.{IfFault, is_read_failed};
 ghost use Rattle.tt_prices.specs.Limits.{IsWithin};
 ghost use Rattle.tt_prices.specs.Rows.{group_of};
 ghost use Rattle.tt_prices.specs.declared.price.TheConstants.{MAX_SCALE};
@@ -13,7 +13,7 @@ use std::alloc::Global;
 use tt_instance::Instance;
 use tt_prices::PricedGroup;
 use tt_prices_check::{PricedFault, PricedWork, least_of_group};
-use tt_stop::Stop;
+use tt_text::Stop;
 
 /// Each group counts as at least so many steps, also if it has no day to try, so that a file of many small groups ends soon.
 const GROUP_STEPS: u64 = 4_096;

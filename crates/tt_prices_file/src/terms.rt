@@ -2,7 +2,7 @@
 
 ghost use Rattle.std.specs.Prelude.{◌≡◌, ◌≤◌, ◌^◌, List, IfOk, length, false};
 ghost use Rattle.tt_prices.specs.Limits.{IsWithin};
-ghost use Rattle.tt_stop.specs.Stops.{IfFault, is_read_failed};
+ghost use Rattle.tt_text.specs.Stops.{IfFault, is_read_failed};
 ghost use Rattle.tt_prices.specs.Prices.{PricedGroup};
 ghost use Rattle.tt_prices.specs.declared.price.TheConstants.{MAX_SCALE};
 ghost use Rattle.tt_prices_read.specs.Reading.{RoomRents};
@@ -16,7 +16,7 @@ use crate::rents::RentTable;
 use std::alloc::Global;
 use tt_instance::Instance;
 use tt_prices_rooms::{TermBuffers, term_of};
-use tt_stop::Stop;
+use tt_text::Stop;
 
 /// Returns the terms of all courses, added up.
 pub fn sum_of_terms(

@@ -1,7 +1,7 @@
 //! The total of a file, compared with its bound.
 
 ghost use Rattle.std.specs.Prelude.{◌≡◌, ◌↔◌, ◌<◌, ◌^◌, List, false, length, IfOk, IsTrue};
-ghost use Rattle.tt_stop.specs.Stops.{IfFault, is_read_failed};
+ghost use Rattle.tt_text.specs.Stops.{IfFault, is_read_failed};
 ghost use Rattle.tt_prices.specs.Limits.{IsWithin};
 ghost use Rattle.tt_prices_read.specs.Readers.{IsHeader};
 ghost use Rattle.tt_prices_read.specs.Reading.{Part};
@@ -18,7 +18,7 @@ use crate::terms::sum_of_terms;
 use std::alloc::Global;
 use tt_instance::Instance;
 use tt_prices_read::Header;
-use tt_stop::Stop;
+use tt_text::Stop;
 
 /// Returns whether a total reaches a bound: whether the bound is at most the total, divided by the scale and rounded up.
 fn reaches(header: Header, total: i128) -> bool

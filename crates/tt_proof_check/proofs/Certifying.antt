@@ -1,10 +1,10 @@
 -- The result of `certify`, from the results of its steps.
 use Rattle.std.proofs.Common.{◌≡◌, ℕ, zero, suc, ◌+◌, ◌<◌, ◌≤◌, Bool, true, false, List, [], Option, Some, None, Result, Ok, Err, IfOk, refl, sym, ap, subst, ◌∙◌, arith}
 use Rattle.std.specs.Prelude.{IfSome, ◌↔◌, IsTrue}
-use Rattle.tt_stop.proofs.Stops.{OnFault-weaker, OnFault-each, at_mapped}
-use Rattle.tt_stop.specs.Stops.{OnFault, is_failed_read}
-use Rattle.tt_stop.specs.declared.stop.Stop.{Stop}
-use Rattle.tt_stop.specs.declared.stop.Stop.TheVariants.{Fault, ReadFailed, OutOfMemory}
+use Rattle.tt_text.proofs.Stops.{OnFault-weaker, OnFault-each, at_mapped}
+use Rattle.tt_text.specs.Stops.{OnFault, is_failed_read}
+use Rattle.tt_text.specs.declared.stop.Stop.{Stop}
+use Rattle.tt_text.specs.declared.stop.Stop.TheVariants.{Fault, ReadFailed, OutOfMemory}
 use Rattle.tt_instance.specs.Problem.{Problem}
 use Rattle.tt_instance.specs.Spelling.{Spells}
 use Rattle.tt_instance_read.specs.Reading.{instance_of, Fails as FailsInstance}

@@ -12,7 +12,7 @@ use Rattle.tt_table.specs.Spelling.{SpellsBoth, SpellsTable}
 use Rattle.tt_table.specs.declared.fault.SolutionFault.{SolutionFault}
 use Rattle.tt_table.specs.declared.fault.SolutionFault.TheVariants as solution
 use Rattle.tt_table.proofs.EntryLaws.{solution_read}
-use Rattle.tt_stop.specs.Stops.{OnFault}
+use Rattle.tt_text.specs.Stops.{OnFault}
 use Rattle.tt_proof_check.specs.Verdicts.{stop_from_instance, stop_from_solution, FailsSolution}
 use Rattle.tt_proof_check.specs.declared.fault.CertifyFault.{CertifyFault}
 use Rattle.tt_proof_check.specs.declared.fault.CertifyFault.TheVariants as fault

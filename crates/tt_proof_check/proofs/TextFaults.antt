@@ -5,9 +5,9 @@ use Rattle.std.specs.Bool.{OnFalse}
 use Rattle.tt_text.specs.Failures.{is_err_and}
 use Rattle.tt_text.specs.Reading.{FailsUnless}
 use Rattle.tt_text.specs.declared.feed.FeedFault.TheVariants as feed
-use Rattle.tt_stop.specs.Stops.{OnFault, is_failed_read}
-use Rattle.tt_stop.specs.declared.stop.Stop.{Stop}
-use Rattle.tt_stop.specs.declared.stop.Stop.TheVariants.{Fault, ReadFailed, OutOfMemory}
+use Rattle.tt_text.specs.Stops.{OnFault, is_failed_read}
+use Rattle.tt_text.specs.declared.stop.Stop.{Stop}
+use Rattle.tt_text.specs.declared.stop.Stop.TheVariants.{Fault, ReadFailed, OutOfMemory}
 use Rattle.tt_proof_read.specs.Faults as read
 use Rattle.tt_proof_read.specs.Faults.{is_environmental, read_failed}
 use Rattle.tt_proof_read.specs.declared.fault.TextFault.{TextFault}

@@ -1,9 +1,9 @@
 -- The facts about the bytes that follow from a proof that was read whole, or from an error of it.
 use Rattle.std.proofs.Common.{◌≡◌, ℕ, ◌+◌, ◌<◌, Bool, true, List, [], ◌∷◌, ◌++◌, length, Some, Option, Result, Ok, Err, IfOk, refl, sym, ap, subst, ◌∙◌, arith, append_assoc, append-nil, ◌⊎◌, inl, inr, is_some}
 use Rattle.std.specs.Prelude.{slice_get}
-use Rattle.tt_stop.specs.Stops.{IfFault, UnlessStopped}
-use Rattle.tt_stop.specs.declared.stop.Stop.{Stop}
-use Rattle.tt_stop.specs.declared.stop.Stop.TheVariants.{Fault, ReadFailed, OutOfMemory}
+use Rattle.tt_text.specs.Stops.{IfFault, UnlessStopped}
+use Rattle.tt_text.specs.declared.stop.Stop.{Stop}
+use Rattle.tt_text.specs.declared.stop.Stop.TheVariants.{Fault, ReadFailed, OutOfMemory}
 use Rattle.tt_text.specs.Feeds.{Stream, stream_at, fresh}
 use Rattle.tt_instance.specs.Problem.{Problem}
 use Rattle.tt_instance.specs.Limits.{IsInstance}

@@ -1,7 +1,7 @@
 //! A checker of many proofs over one instance.
 
 ghost use Rattle.std.specs.Prelude.{◌≡◌, ℕ, List, true, if◌then◌else◌, Some, Ok, Err, IfOk};
-ghost use Rattle.tt_stop.specs.Stops.{IfFault, UnlessStopped, is_read_failed};
+ghost use Rattle.tt_text.specs.Stops.{IfFault, UnlessStopped, is_read_failed};
 ghost use Rattle.tt_leaf.specs.declared.leaf.Bound.{Bound};
 ghost use Rattle.tt_proof_check.specs.Derives.{HoldsOn};
 ghost use Rattle.tt_proof_check.specs.FailedReads.{IsCheckedUpToFailedRead};
@@ -18,8 +18,7 @@ use tt_instance::Instance;
 use tt_leaf::Bound;
 use tt_path::{Fact, Path};
 use tt_path_trail::TrailPath;
-use tt_stop::Stop;
-use tt_text::Source;
+use tt_text::{Source, Stop};
 
 /// An instance, and the path along which proofs over it are checked. The first check makes the path's tables, which depend on the instance
 /// alone, and the later ones use them again.

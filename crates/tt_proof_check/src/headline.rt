@@ -3,7 +3,7 @@
 ghost use Rattle.std.specs.Prelude.{◌≡◌, ◌↔◌, ℕ, List, [], Some, Ok, Err, true, if◌then◌else◌, IfOk};
 ghost use Rattle.tt_rules.specs.Score.{IsFeasible};
 ghost use Rattle.tt_leaf.specs.declared.leaf.Bound.TheVariants.{AtLeast};
-ghost use Rattle.tt_stop.specs.Stops.{IfFault, UnlessStopped, is_read_failed};
+ghost use Rattle.tt_text.specs.Stops.{IfFault, UnlessStopped, is_read_failed};
 ghost use Rattle.tt_proof_check.specs.Derives.{HoldsOfAll};
 ghost use Rattle.tt_proof_check.specs.FailedReads.{IsCheckedUpToFailedRead, IsSpelledAndCheckedUpToFailedRead};
 ghost use Rattle.tt_proof_check.specs.Faults as checks;
@@ -21,9 +21,8 @@ use tt_instance::Instance;
 use tt_instance_read::read_instance;
 use tt_leaf::Bound;
 use tt_rules::score;
-use tt_stop::Stop;
+use tt_text::{Source, Stop};
 use tt_table::{Timetable, read_solution};
-use tt_text::Source;
 
 /// Returns the bound of a proof, if some timetable breaks no hard rule: so the bound is a number.
 fn proved_bound<R: Source>(

@@ -1,7 +1,7 @@
 //! Lists of nodes: checks that they are a tree that derives a bound.
 
 ghost use Rattle.std.specs.Prelude.{◌≡◌, [], false, Err, IsOkUnless, OnOk, All};
-ghost use Rattle.tt_stop.specs.Stops.{IfFault, is_read_failed};
+ghost use Rattle.tt_text.specs.Stops.{IfFault, is_read_failed};
 ghost use Rattle.tt_proof_check.specs.Derives.{Proves, HoldsOfAll};
 ghost use Rattle.tt_proof_read.specs.Trees.{IsPreorder};
 ghost use Rattle.tt_proof_check.specs.Nodes.{IsNodeOf};
@@ -15,7 +15,7 @@ use tt_leaf::Bound;
 use tt_path::Path;
 use tt_path_trail::TrailPath;
 use tt_proof_read::{Node, is_tree};
-use tt_stop::Stop;
+use tt_text::Stop;
 
 /// Checks the nodes of a tree, each on its path. The facts of the path are those of the root.
 fn check_each<'i, P: Path<'i>>(

@@ -1,7 +1,7 @@
 //! Proofs that are checked as they are read.
 
 ghost use Rattle.std.specs.Prelude.{◌≡◌, ◌<◌, ◌≤◌, ℕ, List, [], length, true, if◌then◌else◌, is_some, Some, None, Ok, Err, OnOk, IfOk, IfErr};
-ghost use Rattle.tt_stop.specs.Stops.{OnFault, IfFault, UnlessStopped, is_failed_read, is_read_failed};
+ghost use Rattle.tt_text.specs.Stops.{OnFault, IfFault, UnlessStopped, is_failed_read, is_read_failed};
 ghost use Rattle.tt_path.specs.declared.facts.Fact.{Fact};
 ghost use Rattle.tt_path.specs.declared.path.TheConstants.{MAX_FACTS};
 ghost use Rattle.tt_leaf.specs.declared.leaf.Bound.{Bound};
@@ -29,8 +29,7 @@ use tt_instance::Instance;
 use tt_leaf::Bound;
 use tt_path::{Fact, Path, PathFault};
 use tt_proof_read::{Node, NodeReader};
-use tt_stop::Stop;
-use tt_text::Source;
+use tt_text::{Source, Stop};
 
 /// Takes a node and drops it. The root has so many facts.
 #[inline(always)]

@@ -19,9 +19,9 @@ use Rattle.tt_leaf.specs.declared.leaf.Bound.TheVariants.{AtLeast, Nothing}
 use Rattle.tt_proof_read.specs.Trees.{Tree, preorder}
 use Rattle.tt_proof_read.specs.declared.node.Node.{Node}
 use Rattle.tt_proof_check.proofs.Texts.{proved_faultless, spelled_once}
-use Rattle.tt_stop.specs.Stops.{OnFault}
-use Rattle.tt_stop.specs.declared.stop.Stop.{Stop}
-use Rattle.tt_stop.proofs.Stops.{OnFault-weaker}
+use Rattle.tt_text.specs.Stops.{OnFault}
+use Rattle.tt_text.specs.declared.stop.Stop.{Stop}
+use Rattle.tt_text.proofs.Stops.{OnFault-weaker}
 use Rattle.tt_proof_sum.specs.declared.fault.FileFault.{FileFault}
 use Rattle.tt_proof_sum.specs.declared.fault.FileFault.TheVariants.{Proof, Groups, Prices, ClaimedElsewhere, TargetClaimedElsewhere, TooLarge}
 use Rattle.tt_proof_sum.specs.declared.claimed.ClaimedTarget.{ClaimedTarget}

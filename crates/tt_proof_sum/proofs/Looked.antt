@@ -18,9 +18,9 @@ use Rattle.tt_prices_read.specs.declared.fault.PricesTextFault.TheVariants as pr
 use Rattle.tt_text_peek.specs.Fronts.{kind_of, BreaksOff}
 use Rattle.tt_text_peek.specs.declared.kind.FileKind.{FileKind}
 use Rattle.tt_text_peek.proofs.Fronts.{broken_kinds}
-use Rattle.tt_stop.proofs.Stops.{OnFault-weaker}
-use Rattle.tt_stop.specs.Stops.{IfFault}
-use Rattle.tt_stop.specs.declared.stop.Stop.{Stop}
+use Rattle.tt_text.proofs.Stops.{OnFault-weaker}
+use Rattle.tt_text.specs.Stops.{IfFault}
+use Rattle.tt_text.specs.declared.stop.Stop.{Stop}
 use Rattle.tt_proof_sum.specs.declared.fault.FileFault.{FileFault}
 use Rattle.tt_proof_sum.specs.Added.{IsPartOf, IsOfKind, Joins}
 use Rattle.tt_proof_sum.specs.Faults.{ExplainsAddedOn}

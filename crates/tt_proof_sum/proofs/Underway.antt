@@ -37,9 +37,9 @@ use Rattle.tt_groups_read.specs.declared.fault.GroupTextFault.TheVariants as gro
 use Rattle.tt_groups_read.proofs.FileLaws.{reads_spelled}
 use Rattle.tt_text_peek.specs.Fronts.{kind_of}
 use Rattle.tt_text_peek.specs.declared.kind.FileKind.TheVariants as kind
-use Rattle.tt_stop.specs.Stops.{OnFault, IfFault}
-use Rattle.tt_stop.specs.declared.stop.Stop.{Stop}
-use Rattle.tt_stop.specs.declared.stop.Stop.TheVariants.{Fault, ReadFailed, OutOfMemory}
+use Rattle.tt_text.specs.Stops.{OnFault, IfFault}
+use Rattle.tt_text.specs.declared.stop.Stop.{Stop}
+use Rattle.tt_text.specs.declared.stop.Stop.TheVariants.{Fault, ReadFailed, OutOfMemory}
 use Rattle.tt_proof_sum.specs.declared.fault.FileFault.{FileFault}
 use Rattle.tt_proof_sum.specs.declared.fault.FileFault.TheVariants as fault
 use Rattle.tt_proof_sum.specs.declared.groups_fault.GroupsFault.{GroupsFault}

@@ -13,8 +13,7 @@ use tt_groups_read::GroupTextFault;
 use tt_prices_file::PricesFault;
 use tt_proof_check::CheckFault;
 use tt_proof_read::TextFault;
-use tt_stop::Stop;
-use tt_text::FeedFault;
+use tt_text::{FeedFault, Stop};
 
 /// Why a file can't be added to others. Nodes and groups are counted from 0 in the order of the file, and files from 1.
 #[derive(Clone, Copy, Debug, PartialEq, Eq)]
@@ -61,7 +60,7 @@ pub struct SumStop {
 
 impl From<AllocError> for SumStop {
     ghost use Rattle.std.specs.Prelude.{◌≡◌};
-    ghost use Rattle.tt_stop.specs.declared.stop.Stop.TheVariants.{OutOfMemory};
+    ghost use Rattle.tt_text.specs.declared.stop.Stop.TheVariants.{OutOfMemory};
 
     ghost from_gives = { λ _ e. e ≡ record { file = 0; stop = OutOfMemory } };
 

@@ -11,8 +11,8 @@ ghost use Rattle.tt_text_peek.specs.declared.kind.FileKind.TheVariants as kind;
 ghost use Rattle.tt_proof_check.specs.FailedReads.{HoldsOfGiven};
 ghost use Rattle.tt_proof_sum.specs.Added.{Joins, IsOfKind};
 ghost use Rattle.tt_proof_sum.specs.Inner.Claiming.{ExplainsClaim};
-ghost use Rattle.tt_stop.specs.Stops.{IfFault, is_read_failed};
-ghost use Rattle.tt_stop.specs.declared.stop.Stop.TheVariants.{Fault};
+ghost use Rattle.tt_text.specs.Stops.{IfFault, is_read_failed};
+ghost use Rattle.tt_text.specs.declared.stop.Stop.TheVariants.{Fault};
 ghost use Rattle.tt_path.specs.declared.facts.Fact.{Fact};
 ghost use Rattle.tt_proof_sum.specs.Faults.{ExplainsAddedOn, HoldsNoStop};
 ghost use Rattle.tt_proof_sum.specs.Sums.{Part};
@@ -29,8 +29,7 @@ use tt_groups_check::{GroupFault, Work, check_group};
 use tt_groups_read::{GroupClaim, GroupReader, GroupTextFault};
 use tt_instance::Instance;
 use tt_leaf::Bound;
-use tt_stop::Stop;
-use tt_text::Source;
+use tt_text::{Source, Stop};
 
 /// Returns the fault of a group that has a target which this file or an earlier one claims.
 fn claimed_before(file: u64, group: u32, owner: u64) -> GroupsFault

@@ -3,7 +3,7 @@
 ghost use Rattle.std.specs.Prelude.{◌≡◌, ◌+◌, ◌<◌, ℕ, List, Some, Err, true, false, if◌then◌else◌, IfOk, OnOk};
 ghost use Rattle.tt_text_peek.specs.Fronts.{kind_of};
 ghost use Rattle.tt_text_peek.specs.declared.kind.FileKind.TheVariants as kind;
-ghost use Rattle.tt_stop.specs.Stops.{IfFault, is_read_failed};
+ghost use Rattle.tt_text.specs.Stops.{IfFault, is_read_failed};
 ghost use Rattle.tt_proof_check.specs.FailedReads.{IsCheckedUpToFailedRead};
 ghost use Rattle.tt_proof_sum.specs.Added.{Joins};
 ghost use Rattle.tt_proof_sum.specs.Faults.{ExplainsAddedOn, HoldsNoStop};
@@ -19,8 +19,7 @@ use std::alloc::Global;
 use tt_leaf::Bound;
 use tt_path::Fact;
 use tt_proof_check::ProofChecker;
-use tt_stop::Stop;
-use tt_text::Source;
+use tt_text::{Source, Stop};
 use tt_text_peek::{FileKind, Peek, PeekFault};
 
 /// Checks a tree proof, as the file that has begun, and returns its bound if it claims no target that an earlier file claims. The facts are at

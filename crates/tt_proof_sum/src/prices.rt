@@ -8,7 +8,7 @@ ghost use Rattle.tt_text_peek.specs.declared.kind.FileKind.TheVariants as kind;
 ghost use Rattle.tt_proof_check.specs.FailedReads.{HoldsOfGiven};
 ghost use Rattle.tt_prices_file.specs.UpToFailedRead.{ArePricesCutOff};
 ghost use Rattle.tt_proof_sum.specs.Added.{Joins, IsOfKind};
-ghost use Rattle.tt_stop.specs.Stops.{IfFault, is_read_failed};
+ghost use Rattle.tt_text.specs.Stops.{IfFault, is_read_failed};
 ghost use Rattle.tt_path.specs.declared.facts.Fact.{Fact};
 ghost use Rattle.tt_proof_sum.specs.Faults.{ExplainsAddedOn, HoldsNoStop};
 ghost use Rattle.tt_proof_sum.specs.Sums.{Part};
@@ -20,8 +20,7 @@ use std::alloc::Global;
 use tt_instance::Instance;
 use tt_leaf::Bound;
 use tt_prices_file::check_prices;
-use tt_stop::Stop;
-use tt_text::Source;
+use tt_text::{Source, Stop};
 
 /// Checks a file of groups with prices, as the file that has begun, and returns its bound if it claims no target that an earlier file claims.
 /// The targets are compared with those of earlier files after the check.

@@ -2,7 +2,7 @@
 
 ghost use Rattle.std.specs.Prelude.{◌≡◌, ◌+◌, ◌<◌, ◌≤◌, ◌^◌, ℕ, List, [], ◌++◌, ◌∷◌, Some, Err, true, if◌then◌else◌, IfOk, MatchOption};
 ghost use Rattle.tt_proof_sum.specs.Added.{IsSumOf, Adds, due, problem_of};
-ghost use Rattle.tt_stop.specs.Stops.{IfFault, is_read_failed};
+ghost use Rattle.tt_text.specs.Stops.{IfFault, is_read_failed};
 ghost use Rattle.tt_proof_sum.specs.Faults.{ExplainsAddedOn, HoldsNoStop, IsLarge, IsSmall, IsUnfinished, all_points};
 ghost use Rattle.tt_proof_sum.specs.Sums.{Part, IsPartOn, AreApart, both_bounds, sum_of};
 ghost use Rattle.tt_proof_sum.specs.UpToFailedRead.{IsFileCheckedUpToFailedReadOn};
@@ -15,7 +15,7 @@ use tt_instance::Instance;
 use tt_leaf::Bound;
 use tt_path::Fact;
 use tt_proof_check::ProofChecker;
-use tt_stop::Stop;
+use tt_text::Stop;
 use tt_text_peek::Peek;
 
 /// Returns the sum of two bounds if it is below 2^64.

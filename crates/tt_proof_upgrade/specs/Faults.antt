@@ -1,7 +1,7 @@
 -- What becomes of the faults below.
 use Rattle.std.specs.Prelude.{◌≡◌, ◌<◌, ◌^◌, List, [], ⊤}
-use Rattle.tt_stop.specs.Stops.{mapped}
-use Rattle.tt_stop.specs.declared.stop.Stop.{Stop}
+use Rattle.tt_text.specs.Stops.{mapped}
+use Rattle.tt_text.specs.declared.stop.Stop.{Stop}
 use Rattle.tt_instance.specs.Problem.{Problem}
 use Rattle.tt_leaf.specs.declared.leaf.Bound.{Bound}
 use Rattle.tt_proof_read.specs.Trees.{Tree, preorder}

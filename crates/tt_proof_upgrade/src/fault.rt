@@ -6,7 +6,7 @@ ghost use Rattle.tt_proof_upgrade.specs.Faults.{IsOfNode, IsFaultOfNode, stop_fr
 use thiserror::Error;
 use tt_proof_check::{CheckFault, NodesFault};
 use tt_proof_read::TextFault;
-use tt_stop::Stop;
+use tt_text::Stop;
 
 /// Why a proof can't be written again.
 #[derive(Clone, Copy, Debug, PartialEq, Eq, Error)]

@@ -4,7 +4,7 @@ ghost use Rattle.std.specs.Prelude.{◌≡◌, ◌≤◌, List, [], ℕ, length,
 ghost use Rattle.tt_leaf.specs.declared.leaf.Bound.{Bound};
 ghost use Rattle.tt_proof_read.specs.declared.format.TheConstants.{MAX_PROOF_NODES};
 ghost use Rattle.tt_proof_check.specs.Derives.{HoldsOfAll, Proves};
-ghost use Rattle.tt_stop.specs.Stops.{IfFault, UnlessStopped, is_read_failed};
+ghost use Rattle.tt_text.specs.Stops.{IfFault, UnlessStopped, is_read_failed};
 ghost use Rattle.tt_proof_read.specs.Spelling.{IsNode, SpellsProof};
 ghost use Rattle.tt_proof_read.specs.Trees.{Tree, preorder, IsPreorder};
 ghost use Rattle.tt_proof_check.specs.Nodes.{IsNodeOf};
@@ -23,8 +23,7 @@ use tt_leaf::Bound;
 use tt_proof_check::check_nodes;
 use tt_proof_read::Node;
 use tt_proof_write::{WriteFault, write_proof};
-use tt_stop::Stop;
-use tt_text::Source;
+use tt_text::{Source, Stop};
 
 /// The bound that a proof derives, and the text of the same proof in version 2.
 #[derive(Debug, Drop)]

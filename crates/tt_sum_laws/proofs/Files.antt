@@ -12,7 +12,7 @@ use Rattle.tt_proof_sum.specs.Sums.{are_apart, Part, IsPartOn, claims_of, AreApa
 use Rattle.tt_proof_sum.specs.declared.fault.FileFault.{FileFault}
 use Rattle.tt_proof_sum.proofs.Added.{only_unfinished}
 use Rattle.tt_proof_sum.proofs.Lists.{same_parts, zip_split}
-use Rattle.tt_stop.specs.declared.stop.Stop.TheVariants.{Fault}
+use Rattle.tt_text.specs.declared.stop.Stop.TheVariants.{Fault}
 use Rattle.tt_sum_laws.proofs.Added.{one_added}
 
 -- two splits of one list: at the same place, or one of them earlier

@@ -9,9 +9,8 @@ use tt_proof_check::{NodesFault, check_nodes};
 use tt_proof_read::Node;
 use tt_proof_upgrade::parse_proof;
 use tt_proof_write::write_proof;
-use tt_stop::Stop;
+use tt_text::{Pieces, Stop};
 use tt_testing_samples::{GAP, GAP_PROOF, MINI};
-use tt_text::Pieces;
 
 #[test]
 fn a_proof_is_read_checked_and_written(rt: HostRuntime) -> Result<(), Fail> {

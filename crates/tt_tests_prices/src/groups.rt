@@ -8,8 +8,7 @@ use tt_instance::Instance;
 use tt_instance_read::read_instance;
 use tt_prices_check::{PricedFault, PricedWork, least_of_group};
 use tt_prices_read::{Item, PricesReader, PricesTextFault};
-use tt_stop::Stop;
-use tt_text::Pieces;
+use tt_text::{Pieces, Stop};
 
 /// The number of random groups.
 const GROUPS: u64 = 300;

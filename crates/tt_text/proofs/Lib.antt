@@ -7,11 +7,12 @@ pub mod Finding
 pub mod Giving
 pub mod Lines
 pub mod Parts
-pub mod Runs
 pub mod Places
+pub mod Runs
 pub mod Steps
+pub mod Stops
+pub mod TakenParts
 pub mod Texts
 pub mod Unlimited
 pub mod Windows
 pub mod Written
-pub mod TakenParts

@@ -6,10 +6,11 @@ pub mod Found
 pub mod Lines
 pub mod Numbers
 pub mod Pieces
+pub mod Places
 pub mod Plain
 pub mod Reading
+pub mod Sinks
 pub mod Sources
-pub mod Places
+pub mod Stops
 pub mod Texts
 pub mod Tokens
-pub mod Sinks

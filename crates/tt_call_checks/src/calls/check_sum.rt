@@ -6,7 +6,7 @@ ghost use Rattle.tt_path.specs.Facts.{Fits};
 ghost use Rattle.tt_leaf.specs.declared.leaf.Bound.TheVariants.{AtLeast};
 ghost use Rattle.tt_proof_check.specs.Derives.{HoldsOn};
 ghost use Rattle.tt_proof_sum.specs.UpToFailedRead.{IsFileCheckedUpToFailedReadOn};
-ghost use Rattle.tt_stop.specs.Stops.{OnFault};
+ghost use Rattle.tt_text.specs.Stops.{OnFault};
 ghost use Rattle.tt_text.specs.Failures.{is_err_and};
 ghost use Rattle.tt_proof_check.specs.Headline.{BreaksARule};
 ghost use Rattle.tt_proof_sum.specs.Added.{Give};

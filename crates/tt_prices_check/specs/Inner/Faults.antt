@@ -1,6 +1,6 @@
 -- Why a group with prices is stopped by the faults of its parts.
-use Rattle.tt_stop.specs.declared.stop.Stop.{Stop}
-use Rattle.tt_stop.specs.declared.stop.Stop.TheVariants.{Fault, OutOfMemory}
+use Rattle.tt_text.specs.declared.stop.Stop.{Stop}
+use Rattle.tt_text.specs.declared.stop.Stop.TheVariants.{Fault, OutOfMemory}
 use Rattle.tt_groups_day.specs.declared.fault.DaysFault.{DaysFault}
 use Rattle.tt_groups_day.specs.declared.fault.DaysFault.TheVariants as days
 use Rattle.tt_groups_day.specs.declared.sets.SetsFault.{SetsFault}

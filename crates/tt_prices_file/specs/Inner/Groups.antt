@@ -1,7 +1,7 @@
 -- The refusal of one group of a file.
 use Rattle.std.specs.Prelude.{◌≡◌, ℕ, None}
-use Rattle.tt_stop.specs.Stops.{mapped}
-use Rattle.tt_stop.specs.declared.stop.Stop.{Stop}
+use Rattle.tt_text.specs.Stops.{mapped}
+use Rattle.tt_text.specs.declared.stop.Stop.{Stop}
 use Rattle.tt_instance.specs.Problem.{Problem}
 use Rattle.tt_prices.specs.Prices.{PricedGroup}
 use Rattle.tt_prices_check.specs.Groups.{IsLeast, IsRefusal}

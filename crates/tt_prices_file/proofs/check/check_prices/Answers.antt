@@ -2,7 +2,7 @@ use Rattle.std.proofs.Common.{◌≡◌, ◌<◌, Bool, if◌then◌else◌, [],
 use Rattle.std.specs.Prelude.{IfOk, IfSome}
 use Rattle.std.proofs.lemmas.Result.{err_from_is_err_and}
 use Rattle.tt_text.specs.Feeds.{stream_at, room_of}
-use Rattle.tt_stop.proofs.Stops.{OnFault-weaker, unread, passed_reads}
+use Rattle.tt_text.proofs.Stops.{OnFault-weaker, unread, passed_reads}
 use Rattle.tt_prices_read.specs.Faults.{is_failed_read}
 use Rattle.tt_prices_read.specs.Parts.{IsItem, part_of}
 use Rattle.tt_prices_read.specs.Readers.{Reader, IsReaderAfter, IsReadingOf, ItemAgreesWhenCut}

@@ -1,6 +1,6 @@
 use Rattle.std.proofs.Common.{◌≡◌, Err, refl, sym, ap, subst, ◌∙◌}
-use Rattle.tt_stop.specs.declared.stop.Stop.TheVariants.{ReadFailed}
-use Rattle.tt_stop.proofs.Stops.{OnFault-each, unread, not_read, mapped_reads, mapped_read}
+use Rattle.tt_text.specs.declared.stop.Stop.TheVariants.{ReadFailed}
+use Rattle.tt_text.proofs.Stops.{OnFault-each, unread, not_read, mapped_reads, mapped_read}
 use Rattle.tt_proof_check.specs.Verdicts.{IsYes}
 use Rattle.tt_proof_check.specs.declared.fault.CertifyFault.TheVariants.{Proof}
 use Rattle.tt_proof_check.proofs.Certifying.{points, no_points, instance_told, solution_told, files_first, files_exactly, instance_broken, solution_broken, instance_lower, solution_lower, instance_reads, solution_reads, check_lower, check_file, check_exactly, not_certified, broken_found, is_feasible, not_broken, bound_tells, certified_proof, certified_cost, yes_found, exactly_certified, certified_bounds, ok_bound, solves_here}

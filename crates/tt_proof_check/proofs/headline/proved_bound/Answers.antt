@@ -1,7 +1,7 @@
 use Rattle.std.proofs.Common.{refl}
 use Rattle.tt_leaf.specs.declared.leaf.Bound.TheVariants.{AtLeast}
 use Rattle.std.proofs.lemmas.Result.{err_from_is_err_and}
-use Rattle.tt_stop.proofs.Stops.{passed_reads}
+use Rattle.tt_text.proofs.Stops.{passed_reads}
 use Rattle.tt_proof_check.proofs.Certifying.{only_bound}
 use Rattle.tt_proof_check.proofs.headline.proved_bound.Goals as goal
 

@@ -1,5 +1,5 @@
 use Rattle.std.proofs.Common.{[], OnOk}
-use Rattle.tt_stop.specs.Stops.{IfFault}
+use Rattle.tt_text.specs.Stops.{IfFault}
 use Rattle.tt_proof_check.specs.Derives.{Proves}
 use Rattle.tt_proof_check.specs.Explains.{Explains}
 use Rattle.tt_proof_check.proofs.InOrder.{checked_only, checked_holds}

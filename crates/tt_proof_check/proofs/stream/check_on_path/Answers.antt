@@ -2,8 +2,8 @@ use Rattle.std.proofs.Common.{◌≡◌, ◌∙◌, Err, inl, inr, refl, ap, sym
 use Rattle.tt_text.specs.Feeds.{stream_at, fresh}
 use Rattle.tt_proof_read.specs.Faults.{read_failed, is_failed_read}
 use Rattle.tt_leaf.specs.declared.leaf.Bound.{Bound}
-use Rattle.tt_stop.specs.declared.stop.Stop.TheVariants.{ReadFailed}
-use Rattle.tt_stop.proofs.Stops.{passed_reads}
+use Rattle.tt_text.specs.declared.stop.Stop.TheVariants.{ReadFailed}
+use Rattle.tt_text.proofs.Stops.{passed_reads}
 use Rattle.tt_proof_check.specs.Visited.{Visited}
 use Rattle.tt_proof_check.specs.Inner.CheckedPart.{Proved}
 use Rattle.tt_proof_check.specs.Streams.{IsProofFault}

@@ -1,7 +1,7 @@
 use Rattle.std.proofs.Common.{◌≡◌, ◌∙◌, true, is_some, refl, subst, IfOk}
 use Rattle.tt_instance.specs.Problem.{Problem}
-use Rattle.tt_stop.specs.Stops.{OnFault, IfFault}
-use Rattle.tt_stop.specs.declared.stop.Stop.TheVariants.{ReadFailed}
+use Rattle.tt_text.specs.Stops.{OnFault, IfFault}
+use Rattle.tt_text.specs.declared.stop.Stop.TheVariants.{ReadFailed}
 use Rattle.tt_text.specs.Feeds.{stream_at, fresh}
 use Rattle.tt_proof_check.specs.FailedReads.{IsCutOff, UpToFailure}
 use Rattle.tt_proof_check.specs.Visited.{Visited}

@@ -4,8 +4,8 @@ use Rattle.tt_text.specs.CutShort.{cut_at}
 use Rattle.tt_instance.specs.Problem.{Problem}
 use Rattle.tt_proof_read.specs.Faults.{read_failed, is_failed_read}
 use Rattle.tt_proof_read.specs.Readers.{Reader}
-use Rattle.tt_stop.specs.declared.stop.Stop.TheVariants.{ReadFailed}
-use Rattle.tt_stop.proofs.Stops.{OnFault-weaker}
+use Rattle.tt_text.specs.declared.stop.Stop.TheVariants.{ReadFailed}
+use Rattle.tt_text.proofs.Stops.{OnFault-weaker}
 use Rattle.tt_proof_check.specs.declared.fault.CheckFault.TheVariants.{Text}
 use Rattle.tt_proof_check.specs.declared.walk.NodeStop.TheVariants.{Rule, TooDeep}
 use Rattle.tt_proof_check.specs.Visited.{Visited, Unvisited}

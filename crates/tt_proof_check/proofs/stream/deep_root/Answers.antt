@@ -1,7 +1,7 @@
 use Rattle.std.proofs.Common.{◌≡◌, ◌∙◌, Err, inl, refl, ap}
 use Rattle.tt_text.specs.Feeds.{stream_at, fresh}
 use Rattle.tt_proof_read.specs.Faults.{read_failed, is_failed_read}
-use Rattle.tt_stop.proofs.Stops.{OnFault-weaker}
+use Rattle.tt_text.proofs.Stops.{OnFault-weaker}
 use Rattle.tt_proof_check.specs.declared.fault.CheckFault.TheVariants.{Text}
 use Rattle.tt_proof_check.specs.Streams.{IsProofFault}
 use Rattle.tt_proof_check.proofs.Streaming.{root_deep, nodes_fault}

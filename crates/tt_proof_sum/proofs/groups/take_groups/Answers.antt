@@ -8,8 +8,8 @@ use Rattle.tt_proof_check.proofs.TextFaults.{err_same}
 use Rattle.tt_groups_read.specs.Readers.{Reader, IsReaderAfter, IsReadingOf, GroupAgreesWhenCut, IsClaimAt}
 use Rattle.tt_groups_read.specs.declared.claim.GroupClaim.{GroupClaim}
 use Rattle.tt_groups_read.specs.declared.fault.GroupTextFault.TheVariants.{Text}
-use Rattle.tt_stop.proofs.Stops.{OnFault-weaker, not_read, unread, passed_reads}
-use Rattle.tt_stop.specs.declared.stop.Stop.TheVariants.{ReadFailed}
+use Rattle.tt_text.proofs.Stops.{OnFault-weaker, not_read, unread, passed_reads}
+use Rattle.tt_text.specs.declared.stop.Stop.TheVariants.{ReadFailed}
 use Rattle.tt_proof_sum.proofs.FailedReads.{reported_reads, result_reads, reached_read, reached_unread}
 use Rattle.tt_proof_sum.proofs.Underway.{underway_start, underway_more, claim_is, reading_claim, reading_end, joins, cheap_fault, claim_fault, header_fault, text_fault, claim_cut, header_cut, reached_ok, reached_err, reported_fault, reported_lower, reported_read}
 use Rattle.tt_proof_sum.proofs.groups.take_groups.Goals as goal

@@ -1,5 +1,5 @@
 use Rattle.std.proofs.Common.{Err, sym, ap, subst, ◌∙◌}
-use Rattle.tt_stop.proofs.Stops.{OnFault-weaker, at_mapped, mapped_reads, mapped_read}
+use Rattle.tt_text.proofs.Stops.{OnFault-weaker, at_mapped, mapped_reads, mapped_read}
 use Rattle.tt_proof_sum.specs.declared.fault.FileFault.TheVariants.{Proof}
 use Rattle.tt_instance.specs.Limits.{IsInstance}
 use Rattle.tt_proof_check.specs.Visited.{IsVisitedProof}

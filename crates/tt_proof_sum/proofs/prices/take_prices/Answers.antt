@@ -1,5 +1,5 @@
 use Rattle.std.proofs.Common.{◌≡◌, Err, None, ap, subst}
-use Rattle.tt_stop.proofs.Stops.{OnFault-weaker, at_mapped, mapped_reads, mapped_read}
+use Rattle.tt_text.proofs.Stops.{OnFault-weaker, at_mapped, mapped_reads, mapped_read}
 use Rattle.tt_proof_sum.specs.declared.fault.FileFault.TheVariants.{Prices}
 use Rattle.tt_proof_sum.specs.Inner.Owned.{FirstTarget}
 use Rattle.tt_proof_sum.specs.Sums.{targets_of_claim}

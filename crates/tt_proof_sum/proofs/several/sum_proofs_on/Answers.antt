@@ -1,7 +1,7 @@
 use Rattle.std.proofs.Common.{◌≡◌, ℕ, ◌+◌, ◌≤◌, Bool, true, if◌then◌else◌, length, get_or, Err, refl, sym, ap, subst, ◌∙◌, arith, length-set}
 use Rattle.std.proofs.lemmas.Option.{get_or_from_slice_get}
 use Rattle.std.proofs.lemmas.Result.{err_from_is_err_and}
-use Rattle.tt_stop.specs.declared.stop.Stop.{Stop}
+use Rattle.tt_text.specs.declared.stop.Stop.{Stop}
 use Rattle.tt_proof_check.specs.Derives.{HoldsOn}
 use Rattle.tt_proof_sum.specs.UpToFailedRead.{IsFileCheckedUpToFailedReadOn}
 use Rattle.tt_leaf.specs.declared.leaf.Bound.{Bound}

@@ -1,9 +1,9 @@
 use Rattle.std.proofs.Common.{[], true, if◌then◌else◌, Err, refl, ap, subst, sym, ◌∙◌}
 use Rattle.std.proofs.lemmas.Result.{err_from_is_err_and}
 use Rattle.std.specs.Prelude.{All}
-use Rattle.tt_stop.specs.declared.stop.Stop.TheVariants.{ReadFailed}
+use Rattle.tt_text.specs.declared.stop.Stop.TheVariants.{ReadFailed}
 use Rattle.tt_proof_read.specs.Spelling.{IsNode}
-use Rattle.tt_stop.proofs.Stops.{passed_reads, OnFault-weaker, not_read}
+use Rattle.tt_text.proofs.Stops.{passed_reads, OnFault-weaker, not_read}
 use Rattle.tt_proof_check.specs.Derives.{Proves}
 use Rattle.tt_proof_check.specs.Nodes.{IsNodeOf}
 use Rattle.tt_proof_check.specs.Streams.{stream_of}

@@ -1,7 +1,7 @@
 use Rattle.std.proofs.Common.{[], ◌∷◌, ◌++◌, refl, subst}
 use Rattle.std.proofs.lemmas.Result.{err_from_is_err_and}
 use Rattle.tt_instance.specs.Limits.{IsInstance}
-use Rattle.tt_stop.proofs.Stops.{OnFault-weaker, passed_reads}
+use Rattle.tt_text.proofs.Stops.{OnFault-weaker, passed_reads}
 use Rattle.tt_proof_sum.specs.declared.fault.FileFault.TheVariants.{TooLarge}
 use Rattle.tt_proof_sum.proofs.Added.{adds, small_points, too_large, only_unfinished}
 use Rattle.tt_proof_sum.proofs.summed.Sum.add.Goals as goal

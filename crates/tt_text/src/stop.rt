@@ -16,7 +16,7 @@ pub enum Stop<F> {
 }
 
 impl<F> Stop<F> {
-    ghost use Rattle.tt_stop.specs.Stops.{IsMapped};
+    ghost use Rattle.tt_text.specs.Stops.{IsMapped};
 
     /// Returns the same stop, with its fault in another type.
     pub fn map<G, W: FnOnce(F) -> G>(self, wrap: W) -> Stop<G>
@@ -32,7 +32,7 @@ impl<F> Stop<F> {
 }
 
 impl<F> From<AllocError> for Stop<F> {
-    ghost use Rattle.tt_stop.specs.declared.stop.Stop.TheVariants.{OutOfMemory};
+    ghost use Rattle.tt_text.specs.declared.stop.Stop.TheVariants.{OutOfMemory};
 
     ghost from_gives = { λ _ s. s ≡ OutOfMemory };
 
@@ -42,7 +42,7 @@ impl<F> From<AllocError> for Stop<F> {
 }
 
 impl<F, T: Drop> From<AllocFailed<T>> for Stop<F> {
-    ghost use Rattle.tt_stop.specs.declared.stop.Stop.TheVariants.{OutOfMemory};
+    ghost use Rattle.tt_text.specs.declared.stop.Stop.TheVariants.{OutOfMemory};
 
     ghost from_gives = { λ _ s. s ≡ OutOfMemory };
 

@@ -1,7 +1,7 @@
 -- What the result of a call says, if the call wasn't stopped by memory or a read.
 use Rattle.std.specs.Prelude.{Bool, true, false, Result, Ok, Err, IfErr, ⊤}
-use Rattle.tt_stop.specs.declared.stop.Stop.{Stop}
-use Rattle.tt_stop.specs.declared.stop.Stop.TheVariants.{Fault, ReadFailed, OutOfMemory}
+use Rattle.tt_text.specs.declared.stop.Stop.{Stop}
+use Rattle.tt_text.specs.declared.stop.Stop.TheVariants.{Fault, ReadFailed, OutOfMemory}
 
 -- P holds of the fault, if the stop is one.
 abbrev pub OnFault : {F : Type 0} → Stop F → (F → Type 0) → Type 0

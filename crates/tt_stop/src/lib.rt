@@ -1,6 +1,0 @@
-//! Why a call has no result.
-#![tactic(auto)]
-
-mod stop;
-
-pub use stop::Stop;
