@@ -1,8 +1,7 @@
 //! The data of an instance that the choices use.
 
 use std::alloc::{AllocError, Global};
-use tt_instance::Instance;
-use tt_instance_links::{Conflicts, Curricula};
+use tt_instance::{Conflicts, Curricula, Instance};
 
 /// The limit on the work of a round, which looks at the curricula of each lecture's course in each period.
 const WORK: usize = 500_000_000;

@@ -10,6 +10,7 @@ pub mod Flagging
 pub mod FreshLaws
 pub mod Getting
 pub mod Limits
+pub mod Linked
 pub mod MoreBarred
 pub mod Places
 pub mod Shared

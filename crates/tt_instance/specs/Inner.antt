@@ -1,3 +1,5 @@
 -- Definitions on which no part of the trusted statement rests.
 pub mod Flags
 pub mod Indexed
+pub mod Linked
+pub mod Links

@@ -1,7 +1,7 @@
 -- The properties of the fields of a plan.
 use Rattle.std.specs.Prelude.{◌≡◌, ◌≤◌, length, All}
 use Rattle.tt_instance.specs.Cells.{InRange}
-use Rattle.tt_instance_links.specs.Inner.Linked.{AreCurricula}
+use Rattle.tt_instance.specs.Inner.Linked.{AreCurricula}
 use Rattle.tt_table.specs.declared.groups.GroupBy.TheVariants as by
 use Rattle.tt_page_plan.specs.Membership.{AreMembers}
 use Rattle.tt_page_plan.specs.Ordered.{AreOrders}

@@ -15,8 +15,7 @@ use crate::members::Members;
 use crate::order::Orders;
 use std::alloc::{AllocError, Global};
 use std::marker::Model;
-use tt_instance::Instance;
-use tt_instance_links::Curricula;
+use tt_instance::{Curricula, Instance};
 use tt_table::{Entry, Group, Groups, Kind, Timetable};
 
 /// A timetable of an instance, its entries by period and by course, the curricula of each course, the courses of each week, and the order of names.

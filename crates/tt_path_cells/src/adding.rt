@@ -3,7 +3,7 @@
 ghost use Rattle.std.specs.Prelude.{◌≡◌, false, [], ◌∷◌, ◌++◌, OnOk, OnErr};
 ghost use Rattle.std.specs.List.{list_any};
 ghost use Rattle.tt_path.specs.Facts.{same_pattern};
-ghost use Rattle.tt_instance_links.specs.Inner.Linked.{AreConflicts};
+ghost use Rattle.tt_instance.specs.Inner.Linked.{AreConflicts};
 ghost use Rattle.tt_path_tables.specs.Inner.Tables.{IsTable};
 ghost use Rattle.tt_path_cells.specs.Inner.Shown.{Adds};
 
@@ -14,8 +14,7 @@ use crate::shelves::YesFacts;
 use crate::tables::Tables;
 use crate::watching::{NO_WATCH, Watches};
 use std::alloc::AllocError;
-use tt_instance::Instance;
-use tt_instance_links::Conflicts;
+use tt_instance::{Conflicts, Instance};
 use tt_path_tables::{Basis, remove_all, remove_matched};
 
 /// Changes the tables for a no-fact. `yes` has the patterns of the yes-facts; if one of them is the no-fact's, no cell is live.

@@ -13,8 +13,7 @@ use crate::watching::Watches;
 use std::alloc::{AllocError, Global};
 use std::marker::Model;
 use tt_bits::is_empty;
-use tt_instance::{Instance, Slot};
-use tt_instance_links::Conflicts;
+use tt_instance::{Conflicts, Instance, Slot};
 use tt_path::{Cell, Fact, Pattern};
 use tt_path_tables::{Spot, cells_word, first_table, has_cell, has_period, periods_of};
 
@@ -35,7 +34,7 @@ impl<'p, 'i> Model for Cells<'p, 'i> {
     ghost use Rattle.std.specs.Prelude.{◌≡◌, ◌≤◌, length};
     ghost use Rattle.tt_path.specs.Inner.Paths.{Facts};
     ghost use Rattle.tt_path.specs.declared.path.TheConstants.{MAX_FACTS};
-    ghost use Rattle.tt_instance_links.specs.Inner.Linked.{AreConflicts};
+    ghost use Rattle.tt_instance.specs.Inner.Linked.{AreConflicts};
     ghost use Rattle.tt_path_cells.specs.Inner.Order.{IsRoomOrder};
     ghost use Rattle.tt_path_cells.specs.Inner.Listing.{IsListing};
     ghost use Rattle.tt_path_cells.specs.Inner.Shown.{AreTables, AreEarlier};

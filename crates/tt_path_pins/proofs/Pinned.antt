@@ -10,8 +10,8 @@ use Rattle.tt_instance.specs.Problem.{Problem}
 use Rattle.tt_instance.specs.Courses.{members}
 use Rattle.tt_instance.specs.Limits.{IsInstance}
 use Rattle.tt_instance.proofs.Limits.{members_below}
-use Rattle.tt_instance_links.specs.Inner.Links.{curricula_of}
-use Rattle.tt_instance_links.proofs.Linked.{has-curricula_of}
+use Rattle.tt_instance.specs.Inner.Links.{curricula_of}
+use Rattle.tt_instance.proofs.Linked.{has-curricula_of}
 use Rattle.tt_path.specs.Facts.{IsWho}
 use Rattle.tt_path.specs.Live.{gives, is_pinned_by}
 use Rattle.tt_path.specs.declared.facts.Who.{Who}

@@ -1,7 +1,7 @@
 //! Adding a fact to the tables.
 
 ghost use Rattle.std.specs.Prelude.{◌≡◌, [], ◌∷◌, ◌++◌, length, OnOk, OnErr};
-ghost use Rattle.tt_instance_links.specs.Inner.Linked.{AreCurricula};
+ghost use Rattle.tt_instance.specs.Inner.Linked.{AreCurricula};
 ghost use Rattle.tt_path_pins.specs.Inner.Tables.{size, Pins};
 ghost use Rattle.tt_path_pins.specs.Inner.FactTable.{fact_table_size, AddsFact};
 
@@ -9,8 +9,7 @@ use crate::fact_table::add_fact;
 use crate::pinning::{pin_period, pin_room};
 use std::alloc::AllocError;
 use tt_bits::Trail;
-use tt_instance::Instance;
-use tt_instance_links::Curricula;
+use tt_instance::{Curricula, Instance};
 use tt_path::Fact;
 
 /// Writes the period and the room that a fact pins.

@@ -2,7 +2,7 @@
 
 ghost use Rattle.std.specs.Prelude.{◌≡◌, ◌<◌, ◌==◌, All, Some, length, OnOk};
 ghost use Rattle.tt_instance.specs.Limits.{IsInstance};
-ghost use Rattle.tt_instance_links.specs.Inner.Linked.{AreCurricula};
+ghost use Rattle.tt_instance.specs.Inner.Linked.{AreCurricula};
 ghost use Rattle.tt_path.specs.Facts.{IsWho};
 ghost use Rattle.tt_path_pins.specs.Inner.Tables.{size, row_of, day_place, is_day_of, Adds, PinsPeriods, PinsRooms};
 
@@ -10,8 +10,7 @@ use crate::places::{day_place, room_place};
 use crate::sets::put;
 use std::alloc::AllocError;
 use tt_bits::Trail;
-use tt_instance::Instance;
-use tt_instance_links::Curricula;
+use tt_instance::{Curricula, Instance};
 use tt_path::Who;
 
 /// Adds a period to the set of a course or a curriculum on a day.

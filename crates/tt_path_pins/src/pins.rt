@@ -14,8 +14,7 @@ use crate::places::{block_place, day_place, room_place, size};
 use std::alloc::{AllocError, Global};
 use std::marker::Model;
 use tt_bits::{Trail, has_bit};
-use tt_instance::Instance;
-use tt_instance_links::Curricula;
+use tt_instance::{Curricula, Instance};
 use tt_path::{Fact, Pattern, Who};
 
 /// The facts, with a table of the periods and rooms that they pin and a table of the facts themselves.
@@ -31,7 +30,7 @@ pub struct Pins<'p, 'i> {
 
 impl<'p, 'i> Model for Pins<'p, 'i> {
     ghost use Rattle.std.specs.Prelude.{◌≡◌, ◌≤◌, length};
-    ghost use Rattle.tt_instance_links.specs.Inner.Linked.{AreCurricula};
+    ghost use Rattle.tt_instance.specs.Inner.Linked.{AreCurricula};
     ghost use Rattle.tt_path.specs.Inner.Paths.{Facts};
     ghost use Rattle.tt_path.specs.declared.path.TheConstants.{MAX_FACTS};
     ghost use Rattle.tt_path_pins.specs.Inner.Tables.{ShowsPins};

@@ -12,8 +12,8 @@ use Rattle.tt_instance.specs.declared.cell.Cell.{Cell}
 use Rattle.tt_instance.proofs.Exclusion.{conflict-itself}
 use Rattle.tt_path.specs.Facts.{agrees}
 use Rattle.tt_path.specs.declared.facts.Pattern.{Pattern}
-use Rattle.tt_instance_links.specs.Inner.Links.{conflicts_of}
-use Rattle.tt_instance_links.proofs.Linked.{conflicts-has}
+use Rattle.tt_instance.specs.Inner.Links.{conflicts_of}
+use Rattle.tt_instance.proofs.Linked.{conflicts-has}
 use Rattle.tt_path_tables.specs.Inner.Tables.{has_cell, is_open, is_placed}
 use Rattle.tt_path_tables.specs.Inner.Struck.{is_lost_to, loses_room, is_struck}
 

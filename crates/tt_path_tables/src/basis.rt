@@ -1,8 +1,7 @@
 //! What the live cells depend on, besides the facts.
 
 use tt_bits::Trail;
-use tt_instance::Instance;
-use tt_instance_links::Conflicts;
+use tt_instance::{Conflicts, Instance};
 
 /// An instance, which of its courses conflict, and the table of the cells that are free: those that are not barred.
 #[derive(Clone, Copy)]

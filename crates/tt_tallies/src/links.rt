@@ -4,8 +4,7 @@ ghost use Rattle.std.specs.Prelude.{◌≡◌, ◌<◌, [], length, slice_index_
 ghost use Rattle.tt_tallies.specs.Inner.Links.{AreLinks};
 
 use std::alloc::{AllocError, Global};
-use tt_instance::Instance;
-use tt_instance_links::{Conflicts, Curricula};
+use tt_instance::{Conflicts, Curricula, Instance};
 
 /// The curricula and courses in whose rows an entry of each course is counted.
 #[derive(Drop)]

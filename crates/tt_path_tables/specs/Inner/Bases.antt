@@ -1,5 +1,5 @@
 -- What the live cells depend on.
-use Rattle.tt_instance_links.specs.Inner.Linked.{AreConflicts}
+use Rattle.tt_instance.specs.Inner.Linked.{AreConflicts}
 use Rattle.tt_path_tables.specs.declared.basis.Basis.{Basis}
 use Rattle.tt_path_tables.specs.Inner.Tables.{IsTable}
 

@@ -1,7 +1,7 @@
 use Rattle.std.proofs.Common.{◌≡◌, ◌∙◌}
 use Rattle.std.specs.Prelude.{◌==◌}
-use Rattle.tt_instance_links.specs.Inner.Links.{curricula_of}
-use Rattle.tt_instance_links.proofs.Linked.{curricula_below}
+use Rattle.tt_instance.specs.Inner.Links.{curricula_of}
+use Rattle.tt_instance.proofs.Linked.{curricula_below}
 use Rattle.tt_path_pins.specs.Inner.Tables.{day_place, is_day_of}
 use Rattle.tt_path_pins.proofs.Joined.{adds_both}
 use Rattle.tt_path_pins.proofs.Pinned.{course_pins}

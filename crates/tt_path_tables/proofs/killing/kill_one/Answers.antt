@@ -1,7 +1,7 @@
 use Rattle.std.proofs.Common.{refl, sym, ap, not, ◌&&◌, ◌||◌, [], ◌∷◌, ◌∙◌, subst}
 use Rattle.std.specs.Prelude.{◌==◌}
 use Rattle.tt_list_laws.specs.Words.{has_number}
-use Rattle.tt_instance_links.specs.Inner.Links.{conflicts_of}
+use Rattle.tt_instance.specs.Inner.Links.{conflicts_of}
 use Rattle.tt_path.specs.Facts.{agrees}
 use Rattle.tt_path_tables.specs.Inner.Rooms.{has_room}
 use Rattle.tt_path_tables.specs.Inner.Tables.{Loses, has_cell, is_placed}

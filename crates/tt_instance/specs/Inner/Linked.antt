@@ -1,7 +1,7 @@
 -- The links of an instance.
 use Rattle.std.specs.Prelude.{◌≡◌, ℕ, ◌<◌, List, [], length, slice_index_or}
 use Rattle.tt_instance.specs.Problem.{Problem}
-use Rattle.tt_instance_links.specs.Inner.Links.{curricula_of, conflicts_of}
+use Rattle.tt_instance.specs.Inner.Links.{curricula_of, conflicts_of}
 
 -- The list has, for each course, the list of its curricula.
 pub record AreCurricula (p : Problem) (k : List (List ℕ)) : Type 0 where

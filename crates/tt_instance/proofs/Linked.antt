@@ -16,7 +16,7 @@ use Rattle.tt_instance.specs.Problem.{Problem}
 use Rattle.tt_instance.specs.Cells.{all_courses}
 use Rattle.tt_instance.specs.Courses.{in_curriculum, conflict}
 use Rattle.tt_instance.proofs.Exclusion.{conflict-turn}
-use Rattle.tt_instance_links.specs.Inner.Links.{curricula_of, conflicts_of}
+use Rattle.tt_instance.specs.Inner.Links.{curricula_of, conflicts_of}
 
 -- the curricula are those that the course is in
 pub has-curricula_of : (p : Problem) (c q : ℕ) → q < length p.curricula → has_number (curricula_of p c) q ≡ in_curriculum p q c

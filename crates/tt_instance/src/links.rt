@@ -1,11 +1,11 @@
 //! The curricula of each course, and the courses that conflict with it.
 
 ghost use Rattle.std.specs.Prelude.{◌≡◌, ◌<◌, [], length, slice_index_or, IfOk};
-ghost use Rattle.tt_instance_links.specs.Inner.Links.{curricula_of, conflicts_of};
+ghost use Rattle.tt_instance.specs.Inner.Links.{curricula_of, conflicts_of};
 
 use std::alloc::{AllocError, Global};
 use std::marker::Model;
-use tt_instance::Instance;
+use crate::instance::Instance;
 
 /// Numbers in ascending order.
 #[derive(Drop)]
@@ -64,7 +64,7 @@ impl Model for Curricula {
 }
 
 impl Curricula {
-    ghost use Rattle.tt_instance_links.specs.Inner.Linked.{AreCurricula};
+    ghost use Rattle.tt_instance.specs.Inner.Linked.{AreCurricula};
 
     /// Computes the curricula of an instance's courses. The result doesn't borrow the instance.
     pub fn new(alloc: Global, instance: &Instance<'_>) -> Result<Curricula, AllocError>
@@ -101,7 +101,7 @@ impl Model for Conflicts {
 }
 
 impl Conflicts {
-    ghost use Rattle.tt_instance_links.specs.Inner.Linked.{AreConflicts};
+    ghost use Rattle.tt_instance.specs.Inner.Linked.{AreConflicts};
 
     /// Computes the conflicts of an instance's courses. The result doesn't borrow the instance.
     pub fn new(alloc: Global, instance: &Instance<'_>) -> Result<Conflicts, AllocError>

@@ -1,6 +1,6 @@
 use Rattle.std.proofs.Common.{◌≡◌, ℕ, ◌<◌, [], length, slice_index_or}
-use Rattle.tt_instance_links.specs.Inner.Links.{curricula_of}
-use Rattle.tt_instance_links.proofs.links.Curricula.new.Given as goal
+use Rattle.tt_instance.specs.Inner.Links.{curricula_of}
+use Rattle.tt_instance.proofs.links.Curricula.new.Given as goal
 
 abbrev pub invariant-loop-course : goal.invariant-loop-course
 invariant-loop-course l = record {

@@ -1,6 +1,0 @@
-//! Which curricula each course is in, and which courses conflict with it.
-#![tactic(auto)]
-
-mod links;
-
-pub use links::{Conflicts, Curricula};
