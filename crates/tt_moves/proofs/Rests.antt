@@ -8,9 +8,9 @@ use Rattle.tt_list_laws.proofs.Sums.{one_if, count_by-cons, sum_by-same}
 use Rattle.tt_list_laws.proofs.Tests.{same_test}
 use Rattle.tt_instance.specs.Cells.{slot_of, is_of, is_at}
 use Rattle.tt_instance.specs.declared.cell.Cell.{Cell}
-use Rattle.tt_tallies.specs.Weight.{repeats}
-use Rattle.tt_tallies.proofs.Chosen.{any_counted}
-use Rattle.tt_tallies.proofs.Spreads.{used_more}
+use Rattle.tt_occupancy.specs.Weight.{repeats}
+use Rattle.tt_occupancy.proofs.Chosen.{any_counted}
+use Rattle.tt_occupancy.proofs.Spreads.{used_more}
 use Rattle.tt_moves.specs.Inner.Rests.{IsRest}
 use Rattle.tt_moves.specs.declared.rest.WithoutEntry.{WithoutEntry}
 

@@ -3,10 +3,10 @@ use Rattle.std.proofs.Common.{◌≡◌, ◌+◌, List, ◌∷◌, arith}
 use Rattle.tt_instance.specs.Problem.{Problem}
 use Rattle.tt_instance.specs.Cells.{InRange}
 use Rattle.tt_instance.specs.declared.cell.Cell.{Cell}
-use Rattle.tt_tallies.specs.Bag.{SameBag}
-use Rattle.tt_tallies.proofs.Adding.{capacity_added}
-use Rattle.tt_tallies.proofs.Exchange.{days_exchanged, stability_exchanged}
-use Rattle.tt_tallies.proofs.Same.{capacity_same, days_same, stability_same}
+use Rattle.tt_occupancy.specs.Bag.{SameBag}
+use Rattle.tt_occupancy.proofs.Adding.{capacity_added}
+use Rattle.tt_occupancy.proofs.Exchange.{days_exchanged, stability_exchanged}
+use Rattle.tt_occupancy.proofs.Same.{capacity_same, days_same, stability_same}
 use Rattle.tt_moves.specs.Inner.RoomsAndDays.{room_and_day_cost, room_and_day_rise}
 
 pub room_and_day_exchanged : (p : Problem) (u : List Cell) (x y : Cell) → InRange p x → InRange p y → x.course ≡ y.course

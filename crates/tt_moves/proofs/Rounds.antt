@@ -10,8 +10,8 @@ use Rattle.tt_instance.specs.Cells.{slot, is_at}
 use Rattle.tt_instance.specs.Courses.{in_curriculum}
 use Rattle.tt_instance.specs.declared.cell.Cell.{Cell}
 use Rattle.tt_table.specs.Table.{IsTimetable}
-use Rattle.tt_tallies.specs.Inner.Neighbours.{entries_at, has_entry_at, has_neighbour, joined_before, joined_after}
-use Rattle.tt_tallies.proofs.Chosen.{any_counted}
+use Rattle.tt_occupancy.specs.Inner.Neighbours.{entries_at, has_entry_at, has_neighbour, joined_before, joined_after}
+use Rattle.tt_occupancy.proofs.Chosen.{any_counted}
 use Rattle.tt_occupancy.proofs.TakenPeriods.{none_taken}
 use Rattle.tt_moves.specs.Inner.Rests.{IsRest, IsStill}
 use Rattle.tt_moves.specs.Inner.Rounds.{has_next, OtherIsHandled}

@@ -3,8 +3,8 @@ use Rattle.std.proofs.Common.{◌≡◌, ℕ, ◌<◌, List, length, refl, subst
 use Rattle.std.specs.Prelude.{remove}
 use Rattle.tt_instance.specs.Problem.{Problem}
 use Rattle.tt_instance.specs.declared.cell.Cell.{Cell}
-use Rattle.tt_tallies.specs.Weight.{hard_weight}
-use Rattle.tt_tallies.proofs.Exchange.{hard_moved}
+use Rattle.tt_occupancy.specs.Weight.{hard_weight}
+use Rattle.tt_occupancy.proofs.Exchange.{hard_moved}
 use Rattle.tt_occupancy.specs.Filled.{Filled}
 use Rattle.tt_moves.specs.Changes.{IsBelow}
 use Rattle.tt_moves.specs.Inner.Rests.{IsRest, rest_without}

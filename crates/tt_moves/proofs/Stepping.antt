@@ -11,8 +11,8 @@ use Rattle.tt_instance.specs.Problem.{Problem}
 use Rattle.tt_instance.specs.Cells.{InRange, is_of}
 use Rattle.tt_instance.specs.declared.cell.Cell.{Cell}
 use Rattle.tt_table.specs.Table.{IsTimetable}
-use Rattle.tt_tallies.specs.Bag.{SameBag}
-use Rattle.tt_tallies.proofs.Bags.{bag_front, bag_set, bag_swap}
+use Rattle.tt_occupancy.specs.Bag.{SameBag}
+use Rattle.tt_occupancy.proofs.Bags.{bag_front, bag_set, bag_swap}
 use Rattle.tt_occupancy.specs.Filled.{Filled}
 use Rattle.tt_moves.specs.Inner.Exchanges.{IsExchange, IsFirst, Lead}
 use Rattle.tt_moves.specs.Inner.Rests.{IsRest, rest_without}

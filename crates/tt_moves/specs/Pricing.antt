@@ -2,7 +2,7 @@
 use Rattle.std.specs.Prelude.{◌≡◌, ℕ, List, remove}
 use Rattle.tt_instance.specs.Problem.{Problem}
 use Rattle.tt_instance.specs.declared.cell.Cell.{Cell}
-use Rattle.tt_tallies.specs.Weight.{cost_rise, cost_fall}
+use Rattle.tt_occupancy.specs.Weight.{cost_rise, cost_fall}
 use Rattle.tt_moves.specs.Steps.{entry_at}
 use Rattle.tt_moves.specs.declared.cost.EntryCost.{EntryCost}
 

@@ -4,7 +4,7 @@ ghost use Rattle.std.specs.Prelude.{◌≡◌, ◌+◌, ◌*◌, ◌<◌, ◌≤
 ghost use Rattle.tt_instance.specs.Cells.{InRange, all_curricula};
 ghost use Rattle.tt_instance.specs.Courses.{in_curriculum};
 ghost use Rattle.tt_instance.specs.declared.cell.Cell.{Cell};
-ghost use Rattle.tt_tallies.specs.Weight.{alone, all_joined};
+ghost use Rattle.tt_occupancy.specs.Weight.{alone, all_joined};
 ghost use Rattle.tt_moves.specs.Inner.Rests.{IsRest};
 ghost use Rattle.tt_table.specs.declared.table.TheConstants.{MAX_ENTRIES};
 

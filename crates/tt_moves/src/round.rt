@@ -5,7 +5,7 @@ ghost use Rattle.tt_bits.specs.Inner.Bits.{has_bit};
 ghost use Rattle.tt_instance.specs.Cells.{slot, is_at};
 ghost use Rattle.tt_instance.specs.Courses.{in_curriculum};
 ghost use Rattle.tt_instance.specs.declared.cell.Cell.{Cell};
-ghost use Rattle.tt_tallies.specs.Inner.Neighbours.{entries_at, joined_before, joined_after};
+ghost use Rattle.tt_occupancy.specs.Inner.Neighbours.{entries_at, joined_before, joined_after};
 ghost use Rattle.tt_occupancy.specs.Inner.NeighbourCounts.{IsIsolationChange};
 ghost use Rattle.tt_moves.specs.Inner.Rests.{IsRest, IsStill};
 ghost use Rattle.tt_moves.specs.Inner.Rounds.{AreTaken, AreIsolated, OtherIsHandled};
@@ -15,9 +15,8 @@ use crate::neighbours::neighbours;
 use crate::rest::WithoutEntry;
 use tt_bits::{has_bit, next, previous, without};
 use tt_instance::MAX_PERIODS;
-use tt_occupancy::{IsolationChange, one_if};
+use tt_occupancy::{IsolationChange, one_if, put};
 use tt_table::Entry;
-use tt_tallies::put;
 
 impl WithoutEntry<'_, '_, '_> {
     /// Checks whether the moved entry has to be counted again in a curriculum.

@@ -3,7 +3,7 @@
 ghost use Rattle.std.specs.Prelude.{◌≡◌, ◌<◌, ◌≤◌, ℕ, true, List, length};
 ghost use Rattle.tt_instance.specs.Cells.{InRange};
 ghost use Rattle.tt_instance.specs.declared.cell.Cell.{Cell};
-ghost use Rattle.tt_tallies.specs.Weight.{shares};
+ghost use Rattle.tt_occupancy.specs.Weight.{shares};
 ghost use Rattle.tt_moves.specs.Changes.{IsBelow};
 ghost use Rattle.tt_moves.specs.Inner.Rests.{IsRest};
 ghost use Rattle.tt_moves.specs.Inner.SlotWeights.{in_room};

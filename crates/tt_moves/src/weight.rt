@@ -4,7 +4,7 @@ ghost use Rattle.std.specs.Prelude.{◌≡◌, ◌+◌, ◌-◌, ◌*◌, ◌≤
 ghost use Rattle.tt_instance.specs.Cells.{InRange};
 ghost use Rattle.tt_instance.specs.declared.cell.Cell.{Cell};
 ghost use Rattle.tt_rules.specs.Soft.{days_cost, stability_cost};
-ghost use Rattle.tt_tallies.specs.Weight.{hard_weight};
+ghost use Rattle.tt_occupancy.specs.Weight.{hard_weight};
 ghost use Rattle.tt_moves.specs.Pricing.{IsCost};
 ghost use Rattle.tt_moves.specs.Inner.Rests.{IsRest};
 ghost use Rattle.tt_moves.specs.Inner.RoomsAndDays.{room_and_day_rise};

@@ -8,13 +8,13 @@ use Rattle.tt_instance.specs.Courses.{in_curriculum, excess, min_days}
 use Rattle.tt_instance.specs.declared.cell.Cell.{Cell}
 use Rattle.tt_rules.specs.Soft.{capacity_count, days_cost, days_count, is_isolated, compactness_cost, stability_cost, stability_count}
 use Rattle.tt_list_laws.proofs.Sums.{one_if, sum_by-same}
-use Rattle.tt_tallies.specs.Bag.{SameBag}
-use Rattle.tt_tallies.proofs.Adding.{capacity_added, places_kept}
-use Rattle.tt_tallies.proofs.Bags.{bag_any, bag_front, bag_set}
-use Rattle.tt_tallies.proofs.Compact.{curriculum_added}
-use Rattle.tt_tallies.proofs.Exchange.{days_exchanged, stability_exchanged}
-use Rattle.tt_tallies.proofs.Same.{capacity_same, days_same, stability_same}
-use Rattle.tt_tallies.specs.Weight.{joined}
+use Rattle.tt_occupancy.specs.Bag.{SameBag}
+use Rattle.tt_occupancy.proofs.Adding.{capacity_added, places_kept}
+use Rattle.tt_occupancy.proofs.Bags.{bag_any, bag_front, bag_set}
+use Rattle.tt_occupancy.proofs.Compact.{curriculum_added}
+use Rattle.tt_occupancy.proofs.Exchange.{days_exchanged, stability_exchanged}
+use Rattle.tt_occupancy.proofs.Same.{capacity_same, days_same, stability_same}
+use Rattle.tt_occupancy.specs.Weight.{joined}
 
 -- ---- lists with the same entries
 

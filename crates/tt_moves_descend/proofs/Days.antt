@@ -13,9 +13,9 @@ use Rattle.tt_instance.specs.Courses.{in_curriculum}
 use Rattle.tt_instance.specs.declared.cell.Cell.{Cell}
 use Rattle.tt_table.specs.Table.{IsTimetable}
 use Rattle.tt_rules.specs.Soft.{is_isolated, compactness_cost}
-use Rattle.tt_tallies.specs.Inner.Neighbours.{entries_at, has_neighbour}
-use Rattle.tt_tallies.proofs.Chosen.{any_counted}
-use Rattle.tt_tallies.proofs.Neighbours.{isolated_by_periods}
+use Rattle.tt_occupancy.specs.Inner.Neighbours.{entries_at, has_neighbour}
+use Rattle.tt_occupancy.proofs.Chosen.{any_counted}
+use Rattle.tt_occupancy.proofs.Neighbours.{isolated_by_periods}
 use Rattle.tt_occupancy.proofs.TakenPeriods.{none_taken}
 use Rattle.tt_moves.proofs.Rounds.{isolated_stand}
 use Rattle.tt_moves_descend.specs.Inner.Days.{IsCompactOn}

@@ -13,7 +13,7 @@ use Rattle.tt_table.specs.Table.{IsTimetable}
 use Rattle.tt_rules.specs.Soft.{days_cost, compactness_cost, compactness_count, stability_cost}
 use Rattle.tt_rules.specs.Score.{hard, cost}
 use Rattle.tt_list_laws.proofs.Sums.{sum_by-le, each_weaker, each_both}
-use Rattle.tt_tallies.proofs.Same.{cost_same}
+use Rattle.tt_occupancy.proofs.Same.{cost_same}
 use Rattle.tt_moves.specs.Changes.{IsBelow}
 use Rattle.tt_moves.specs.Steps.{CanStep, no_entry, entry_at, in_place_of, stepped}
 use Rattle.tt_moves.specs.declared.step.Step.TheVariants.{Move, Swap}

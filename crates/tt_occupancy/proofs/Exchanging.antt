@@ -8,12 +8,12 @@ use Rattle.tt_instance.specs.declared.cell.Cell.{Cell}
 use Rattle.tt_rules.specs.Hard.{lectures_count, conflicts_count, availability_count, occupancy_count}
 use Rattle.tt_rules.specs.Soft.{capacity_count, days_count, compactness_count, stability_count}
 use Rattle.tt_rules.specs.declared.counts.Score.{Score}
-use Rattle.tt_tallies.specs.Weight.{repeats, barred, shares}
-use Rattle.tt_tallies.proofs.Adding.{conflicts_added, availability_added, occupancy_added, capacity_added}
-use Rattle.tt_tallies.proofs.Compact.{compactness_added}
-use Rattle.tt_tallies.proofs.Exchange.{lectures_exchanged, days_exchanged, stability_exchanged}
-use Rattle.tt_tallies.proofs.Sizes.{lectures_few, conflicts_few, availability_few, occupancy_few, capacity_few, days_few, days_cost_few, compactness_few, stability_few, stability_cost_few}
-use Rattle.tt_tallies.specs.declared.tables.Tables.{Tables}
+use Rattle.tt_occupancy.specs.Weight.{repeats, barred, shares}
+use Rattle.tt_occupancy.proofs.Adding.{conflicts_added, availability_added, occupancy_added, capacity_added}
+use Rattle.tt_occupancy.proofs.Compact.{compactness_added}
+use Rattle.tt_occupancy.proofs.Exchange.{lectures_exchanged, days_exchanged, stability_exchanged}
+use Rattle.tt_occupancy.proofs.Sizes.{lectures_few, conflicts_few, availability_few, occupancy_few, capacity_few, days_few, days_cost_few, compactness_few, stability_few, stability_cost_few}
+use Rattle.tt_occupancy.specs.declared.tables.Tables.{Tables}
 use Rattle.tt_occupancy.specs.Inner.Counted.{IsCounted}
 use Rattle.tt_occupancy.specs.Inner.Weights.{IsWeight, IsExchange, IsExchanged}
 use Rattle.tt_occupancy.specs.declared.weight.Weight.{Weight}

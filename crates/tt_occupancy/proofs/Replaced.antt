@@ -17,14 +17,14 @@ use Rattle.tt_instance.specs.declared.cell.Cell.{Cell}
 use Rattle.tt_table.specs.Table.{IsTimetable}
 use Rattle.tt_rules.specs.Score.{IsScore}
 use Rattle.tt_rules.specs.declared.counts.Score.{Score}
-use Rattle.tt_tallies.specs.Bag.{SameBag}
-use Rattle.tt_tallies.proofs.Bags.{bag_any, bag_front, bag_set}
-use Rattle.tt_tallies.proofs.Same.{lectures_same, conflicts_same, availability_same, occupancy_same, capacity_same, days_same, compactness_same, stability_same}
-use Rattle.tt_tallies.specs.Inner.Tables.{AreTables}
-use Rattle.tt_tallies.specs.Tallies.{IsTally, IsSpread, of_curriculum, of_teacher, opposes}
-use Rattle.tt_tallies.specs.declared.spread.Spread.{Spread}
-use Rattle.tt_tallies.specs.declared.tables.Tables.{Tables}
-use Rattle.tt_tallies.specs.declared.week.Week.{Week}
+use Rattle.tt_occupancy.specs.Bag.{SameBag}
+use Rattle.tt_occupancy.proofs.Bags.{bag_any, bag_front, bag_set}
+use Rattle.tt_occupancy.proofs.Same.{lectures_same, conflicts_same, availability_same, occupancy_same, capacity_same, days_same, compactness_same, stability_same}
+use Rattle.tt_occupancy.specs.Inner.Tables.{AreTables}
+use Rattle.tt_occupancy.specs.Tallies.{IsTally, IsSpread, of_curriculum, of_teacher, opposes}
+use Rattle.tt_occupancy.specs.declared.spread.Spread.{Spread}
+use Rattle.tt_occupancy.specs.declared.tables.Tables.{Tables}
+use Rattle.tt_occupancy.specs.declared.week.Week.{Week}
 use Rattle.tt_occupancy.specs.Inner.Counted.{IsCounted}
 
 -- ---- lists with the same entries have the same tables and scores

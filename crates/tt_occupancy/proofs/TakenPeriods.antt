@@ -11,13 +11,13 @@ use Rattle.tt_instance.specs.Courses.{in_curriculum}
 use Rattle.tt_instance.specs.declared.cell.Cell.{Cell}
 use Rattle.tt_table.specs.Table.{IsTimetable}
 use Rattle.tt_rules.specs.Soft.{is_isolated}
-use Rattle.tt_tallies.specs.Inner.Neighbours.{entries_at, has_entry_at, has_neighbour, joined_before, joined_after}
-use Rattle.tt_tallies.specs.Weight.{alone, joined, all_joined}
-use Rattle.tt_tallies.proofs.Chosen.{any_counted}
-use Rattle.tt_tallies.proofs.Neighbours.{isolated_by_periods, joined_by_periods}
-use Rattle.tt_tallies.specs.Inner.Counts.{in_period}
-use Rattle.tt_tallies.specs.Tallies.{IsTally, of_curriculum}
-use Rattle.tt_tallies.specs.declared.week.Week.{Week}
+use Rattle.tt_occupancy.specs.Inner.Neighbours.{entries_at, has_entry_at, has_neighbour, joined_before, joined_after}
+use Rattle.tt_occupancy.specs.Weight.{alone, joined, all_joined}
+use Rattle.tt_occupancy.proofs.Chosen.{any_counted}
+use Rattle.tt_occupancy.proofs.Neighbours.{isolated_by_periods, joined_by_periods}
+use Rattle.tt_occupancy.specs.Inner.Counts.{in_period}
+use Rattle.tt_occupancy.specs.Tallies.{IsTally, of_curriculum}
+use Rattle.tt_occupancy.specs.declared.week.Week.{Week}
 use Rattle.tt_occupancy.specs.Inner.NeighbourCounts.{AreNeighbourCounts, IsIsolationChange}
 use Rattle.tt_occupancy.specs.declared.neighbour_counts.NeighbourCounts.{NeighbourCounts}
 use Rattle.tt_occupancy.specs.declared.isolation_change.IsolationChange.{IsolationChange}

@@ -4,12 +4,12 @@ ghost use Rattle.std.specs.Prelude.{◌≤◌, length, IfOk};
 ghost use Rattle.tt_instance.specs.Limits.{IsInstance};
 ghost use Rattle.tt_table.specs.Table.{IsTimetable};
 ghost use Rattle.tt_table.specs.declared.table.TheConstants.{MAX_ENTRIES};
-ghost use Rattle.tt_tallies.specs.Inner.Tables.{AreTables};
+ghost use Rattle.tt_occupancy.specs.Inner.Tables.{AreTables};
 
 use std::alloc::{AllocError, Global};
 use tt_instance::Instance;
 use tt_table::Entry;
-use tt_tallies::Tables;
+use crate::tables::Tables;
 
 /// Returns the tables of the entries.
 pub fn tables_of(

@@ -6,7 +6,7 @@ ghost use Rattle.tt_instance.specs.Cells.{all_curricula, slot, is_of, is_at, is_
 ghost use Rattle.tt_instance.specs.Courses.{teachers, in_curriculum, conflict};
 ghost use Rattle.tt_table.specs.declared.table.TheConstants.{MAX_ENTRIES};
 ghost use Rattle.tt_rules.specs.Soft.{days_of};
-ghost use Rattle.tt_tallies.specs.Tallies.{teaches, rooms_of};
+ghost use Rattle.tt_occupancy.specs.Tallies.{teaches, rooms_of};
 ghost use Rattle.tt_instance.specs.declared.limit.TheConstants.{MAX_DAYS, MAX_ROOMS};
 
 use crate::occupied::Occupied;

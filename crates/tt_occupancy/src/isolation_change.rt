@@ -4,14 +4,14 @@ ghost use Rattle.std.specs.Prelude.{◌≡◌, ℕ, ◌+◌, ◌-◌, ◌*◌, �
 ghost use Rattle.tt_instance.specs.Problem.{Problem};
 ghost use Rattle.tt_instance.specs.declared.cell.Cell.{Cell};
 ghost use Rattle.tt_table.specs.Table.{IsTimetable};
-ghost use Rattle.tt_tallies.specs.Inner.Neighbours.{entries_at};
-ghost use Rattle.tt_tallies.specs.Tallies.{IsTally, of_curriculum};
+ghost use Rattle.tt_occupancy.specs.Inner.Neighbours.{entries_at};
+ghost use Rattle.tt_occupancy.specs.Tallies.{IsTally, of_curriculum};
 ghost use Rattle.tt_occupancy.specs.Inner.NeighbourCounts.{AreNeighbourCounts, IsIsolationChange};
 ghost use Rattle.tt_instance.specs.declared.limit.TheConstants.{MAX_CURRICULA};
 
 use crate::neighbour_counts::NeighbourCounts;
 use crate::weighing::one_if;
-use tt_tallies::Week;
+use crate::week::Week;
 
 /// The changes that an entry would make to the isolated entries of its curricula.
 #[derive(Clone, Copy)]

@@ -3,7 +3,7 @@
 ghost use Rattle.std.specs.Prelude.{◌≡◌, ℕ, ◌+◌, ◌^◌, ◌<◌, ◌≤◌, not, List};
 ghost use Rattle.tt_instance.specs.Problem.{Problem};
 ghost use Rattle.tt_instance.specs.declared.cell.Cell.{Cell};
-ghost use Rattle.tt_tallies.specs.Inner.Neighbours.{has_neighbour, joined_before, joined_after};
+ghost use Rattle.tt_occupancy.specs.Inner.Neighbours.{has_neighbour, joined_before, joined_after};
 ghost use Rattle.tt_occupancy.specs.Inner.NeighbourCounts.{AreNeighbourCounts};
 
 /// The number of entries in a period, in each of the two periods before it and in each of the two after it.

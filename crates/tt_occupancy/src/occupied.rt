@@ -14,7 +14,7 @@ use std::marker::Model;
 use tt_instance::Instance;
 use tt_rules::Score;
 use tt_table::{Entry, Timetable};
-use tt_tallies::Tables;
+use crate::tables::Tables;
 
 /// A timetable for whose tables memory ran out.
 #[derive(Drop)]

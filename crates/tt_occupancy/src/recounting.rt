@@ -10,7 +10,7 @@ use crate::weighing::weigh;
 use tt_instance::Instance;
 use tt_rules::Score;
 use tt_table::Entry;
-use tt_tallies::Tables;
+use crate::tables::Tables;
 
 /// Updates the tables for an entry that is replaced by another of its course, and returns the new score.
 pub fn recount(

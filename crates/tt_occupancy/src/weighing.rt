@@ -5,14 +5,14 @@ ghost use Rattle.tt_instance.specs.Cells.{InRange};
 ghost use Rattle.tt_instance.specs.declared.cell.Cell.{Cell};
 ghost use Rattle.tt_table.specs.Table.{IsTimetable};
 ghost use Rattle.tt_rules.specs.Soft.{days_cost, stability_cost};
-ghost use Rattle.tt_tallies.specs.Inner.Tables.{AreTables};
+ghost use Rattle.tt_occupancy.specs.Inner.Tables.{AreTables};
 ghost use Rattle.tt_occupancy.specs.Inner.Weights.{IsWeight};
 
 use crate::isolation_change::isolation_change_at;
 use crate::weight::Weight;
 use tt_instance::{Instance, MISSING_DAY_COST};
 use tt_table::Entry;
-use tt_tallies::Tables;
+use crate::tables::Tables;
 
 /// Returns 1 if the test passes, else 0.
 pub fn one_if(test: bool) -> u32

@@ -3,8 +3,8 @@ use Rattle.std.proofs.Common.{◌≡◌, ℕ, ◌<◌, ◌≤◌, List, length, 
 use Rattle.tt_instance.specs.Problem.{Problem}
 use Rattle.tt_instance.specs.Cells.{slot, cell}
 use Rattle.tt_instance.specs.declared.cell.Cell.{Cell}
-use Rattle.tt_tallies.specs.Inner.Tables.{AreTables}
-use Rattle.tt_tallies.specs.declared.tables.Tables.{Tables}
+use Rattle.tt_occupancy.specs.Inner.Tables.{AreTables}
+use Rattle.tt_occupancy.specs.declared.tables.Tables.{Tables}
 use Rattle.tt_search_complete.specs.Inner.Places.{clashes_in, IsOpen, IsPlace, IsBest}
 use Rattle.tt_search_complete.specs.Suiting.{clashes, IsFree, Suits}
 use Rattle.tt_search_complete.specs.declared.suiting.Place.{Place}

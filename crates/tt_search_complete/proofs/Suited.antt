@@ -8,9 +8,9 @@ use Rattle.std.proofs.Math.Seq.{get_or-append_seam, take-append_seam}
 use Rattle.tt_instance.specs.Problem.{Problem}
 use Rattle.tt_instance.specs.declared.cell.Cell.{Cell}
 use Rattle.tt_occupancy.proofs.Replaced.{tables_same}
-use Rattle.tt_tallies.specs.Bag.{SameBag}
-use Rattle.tt_tallies.specs.Inner.Tables.{AreTables}
-use Rattle.tt_tallies.specs.declared.tables.Tables.{Tables}
+use Rattle.tt_occupancy.specs.Bag.{SameBag}
+use Rattle.tt_occupancy.specs.Inner.Tables.{AreTables}
+use Rattle.tt_occupancy.specs.declared.tables.Tables.{Tables}
 use Rattle.tt_search_complete.specs.Suiting.{Suits, AreSuited}
 
 same_last : (t : List Cell) (e : Cell) → SameBag (e ∷ t) (t ++ e ∷ [])

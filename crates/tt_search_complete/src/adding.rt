@@ -4,7 +4,7 @@ ghost use Rattle.std.specs.Prelude.{ℕ, ◌+◌, ◌<◌, ◌≤◌, length, On
 ghost use Rattle.tt_table.specs.Table.{IsTimetable};
 ghost use Rattle.tt_table.specs.declared.table.TheConstants.{MAX_ENTRIES};
 ghost use Rattle.tt_construct.specs.Inner.Filled.{HasMore};
-ghost use Rattle.tt_tallies.specs.Inner.Tables.{AreTables};
+ghost use Rattle.tt_occupancy.specs.Inner.Tables.{AreTables};
 ghost use Rattle.tt_search_complete.specs.Inner.Progress.{Begins};
 ghost use Rattle.tt_search_complete.specs.Suiting.{AreSuited};
 
@@ -12,7 +12,7 @@ use crate::suiting::best_entry;
 use std::alloc::AllocError;
 use tt_instance::Instance;
 use tt_table::Timetable;
-use tt_tallies::Tables;
+use tt_occupancy::Tables;
 
 /// Adds lectures of a course at the places that suit it best, in turn.
 pub fn add_lectures(

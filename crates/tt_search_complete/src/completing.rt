@@ -3,7 +3,7 @@
 ghost use Rattle.std.specs.Prelude.{◌≡◌, ◌+◌, ◌<◌, ◌≤◌, ◌↔◌, [], length, Err, IfOk, OnOk};
 ghost use Rattle.tt_table.specs.Table.{IsTimetable};
 ghost use Rattle.tt_table.specs.declared.table.TheConstants.{MAX_ENTRIES};
-ghost use Rattle.tt_tallies.specs.Inner.Tables.{AreTables};
+ghost use Rattle.tt_occupancy.specs.Inner.Tables.{AreTables};
 ghost use Rattle.tt_search_complete.specs.Completed.{IsCompleted};
 ghost use Rattle.tt_search_complete.specs.Inner.Progress.{AreMissing, IsCompletedTo};
 ghost use Rattle.tt_search_complete.specs.declared.completing.TheConstants.{MOST_ENTRIES};
@@ -15,7 +15,7 @@ use crate::missing::{count_missing, missing_at};
 use std::alloc::{AllocError, Global};
 use tt_instance::{Instance, MAX_LECTURES};
 use tt_table::{MAX_ENTRIES, Timetable};
-use tt_tallies::Tables;
+use tt_occupancy::Tables;
 
 /// The maximum number of entries of a timetable that is completed: all lectures of an instance may be missing.
 pub const MOST_ENTRIES: usize = MAX_ENTRIES - MAX_LECTURES as usize;

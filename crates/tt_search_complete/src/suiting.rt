@@ -3,13 +3,13 @@
 ghost use Rattle.std.specs.Prelude.{◌≡◌, ℕ, ◌+◌, ◌<◌, ◌≤◌, List, length, MatchOption, IfSome};
 ghost use Rattle.tt_instance.specs.Cells.{InRange};
 ghost use Rattle.tt_instance.specs.declared.cell.Cell.{Cell};
-ghost use Rattle.tt_tallies.specs.Inner.Tables.{AreTables};
+ghost use Rattle.tt_occupancy.specs.Inner.Tables.{AreTables};
 ghost use Rattle.tt_search_complete.specs.Inner.Places.{IsOpen, clashes_in, IsBest};
 ghost use Rattle.tt_search_complete.specs.Suiting.{Suits};
 
 use tt_instance::Instance;
 use tt_table::Entry;
-use tt_tallies::Tables;
+use tt_occupancy::Tables;
 
 /// The number of conflicts for which a period counts if the course is unavailable in it.
 pub const UNAVAILABLE: u32 = 1_000;

@@ -3,7 +3,7 @@ use Rattle.std.specs.Prelude.{◌≡◌, List, ◌∷◌, remove}
 use Rattle.tt_instance.specs.Problem.{Problem}
 use Rattle.tt_instance.specs.Cells.{InRange}
 use Rattle.tt_instance.specs.declared.cell.Cell.{Cell}
-use Rattle.tt_tallies.specs.Bag.{SameBag}
+use Rattle.tt_occupancy.specs.Bag.{SameBag}
 use Rattle.tt_occupancy.specs.Filled.{Filled}
 use Rattle.tt_moves.specs.Inner.Rests.{IsRest}
 use Rattle.tt_moves.specs.Steps.{entry_at, first_of, stepped}

@@ -4,7 +4,7 @@ use Rattle.tt_instance.specs.Cells.{slot, is_at}
 use Rattle.tt_instance.specs.Courses.{in_curriculum}
 use Rattle.tt_instance.specs.declared.cell.Cell.{Cell}
 use Rattle.tt_bits.specs.Inner.Bits.{has_bit}
-use Rattle.tt_tallies.specs.Inner.Neighbours.{entries_at, has_neighbour}
+use Rattle.tt_occupancy.specs.Inner.Neighbours.{entries_at, has_neighbour}
 use Rattle.tt_moves.specs.Inner.Rests.{IsRest}
 use Rattle.tt_moves.specs.declared.rest.WithoutEntry.{WithoutEntry}
 

@@ -2,7 +2,7 @@
 use Rattle.std.specs.Prelude.{ℕ, ◌+◌, cond, List}
 use Rattle.tt_instance.specs.Problem.{Problem}
 use Rattle.tt_instance.specs.declared.cell.Cell.{Cell}
-use Rattle.tt_tallies.specs.Weight.{repeats, against, barred}
+use Rattle.tt_occupancy.specs.Weight.{repeats, against, barred}
 
 -- the entry's violations of the hard rules next to the entries u, without a room that it shares
 abbrev pub slot_weight : Problem → List Cell → Cell → ℕ

@@ -2,7 +2,7 @@
 use Rattle.std.specs.Prelude.{◌≡◌, ℕ, ◌&&◌, false, not, List, nat_lt}
 use Rattle.tt_instance.specs.Problem.{Problem}
 use Rattle.tt_instance.specs.declared.cell.Cell.{Cell}
-use Rattle.tt_tallies.specs.Inner.Neighbours.{entries_at, has_neighbour}
+use Rattle.tt_occupancy.specs.Inner.Neighbours.{entries_at, has_neighbour}
 
 -- On the day each period with an entry of the curriculum has another such period next to it.
 abbrev pub IsCompactOn : Problem → List Cell → ℕ → ℕ → Type 0

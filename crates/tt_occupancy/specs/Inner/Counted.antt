@@ -6,8 +6,8 @@ use Rattle.tt_instance.specs.declared.cell.Cell.{Cell}
 use Rattle.tt_table.specs.Table.{IsTimetable}
 use Rattle.tt_rules.specs.Score.{IsScore}
 use Rattle.tt_rules.specs.declared.counts.Score.{Score}
-use Rattle.tt_tallies.specs.Inner.Tables.{AreTables}
-use Rattle.tt_tallies.specs.declared.tables.Tables.{Tables}
+use Rattle.tt_occupancy.specs.Inner.Tables.{AreTables}
+use Rattle.tt_occupancy.specs.declared.tables.Tables.{Tables}
 use Rattle.tt_table.specs.declared.table.TheConstants.{MAX_ENTRIES}
 
 -- the tables and the score of a timetable of an instance

@@ -2,7 +2,7 @@
 use Rattle.std.specs.Prelude.{◌≡◌, ℕ, ◌+◌, ◌-◌, cond, not, List, sum_by, count_by, nat_le}
 use Rattle.tt_instance.specs.Problem.{Problem}
 use Rattle.tt_instance.specs.declared.cell.Cell.{Cell}
-use Rattle.tt_tallies.specs.Inner.Neighbours.{entries_at, has_neighbour, joined_before, joined_after}
+use Rattle.tt_occupancy.specs.Inner.Neighbours.{entries_at, has_neighbour, joined_before, joined_after}
 use Rattle.tt_occupancy.specs.declared.neighbour_counts.NeighbourCounts.{NeighbourCounts}
 use Rattle.tt_occupancy.specs.declared.isolation_change.IsolationChange.{IsolationChange}
 

@@ -9,7 +9,7 @@ use Rattle.tt_rules.specs.Soft.{days_cost, stability_cost}
 use Rattle.tt_rules.specs.Score.{IsScore}
 use Rattle.tt_rules.specs.declared.counts.Score.{Score}
 use Rattle.tt_rules.specs.declared.limit.TheConstants.{MAX_COUNT}
-use Rattle.tt_tallies.specs.Weight.{repeats, against, barred, shares, alone, all_joined}
+use Rattle.tt_occupancy.specs.Weight.{repeats, against, barred, shares, alone, all_joined}
 use Rattle.tt_occupancy.specs.declared.weight.Weight.{Weight}
 use Rattle.tt_table.specs.declared.table.TheConstants.{MAX_ENTRIES}
 

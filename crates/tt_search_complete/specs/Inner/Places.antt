@@ -2,8 +2,8 @@
 use Rattle.std.specs.Prelude.{◌≡◌, ℕ, ◌+◌, ◌<◌, ◌≤◌, ◌⊎◌, cond, length, Option, IfSome, IsSomeAnd}
 use Rattle.tt_instance.specs.Problem.{Problem}
 use Rattle.tt_instance.specs.Courses.{unavailable}
-use Rattle.tt_tallies.specs.Inner.Counts.{in_period}
-use Rattle.tt_tallies.specs.declared.tables.Tables.{Tables}
+use Rattle.tt_occupancy.specs.Inner.Counts.{in_period}
+use Rattle.tt_occupancy.specs.declared.tables.Tables.{Tables}
 use Rattle.tt_search_complete.specs.declared.suiting.Place.{Place}
 use Rattle.tt_search_complete.specs.declared.suiting.TheConstants.{UNAVAILABLE}
 

@@ -1,7 +1,7 @@
 use Rattle.std.proofs.Common.{sym, subst, arith}
 use Rattle.std.specs.Prelude.{remove}
 use Rattle.std.proofs.lemmas.Int.{ints}
-use Rattle.tt_tallies.proofs.Same.{cost_same}
+use Rattle.tt_occupancy.proofs.Same.{cost_same}
 use Rattle.tt_moves.specs.Pricing.{IsCost}
 use Rattle.tt_moves.specs.Steps.{first_of, stepped}
 use Rattle.tt_moves.proofs.pricing.cost_change.Goals as goal

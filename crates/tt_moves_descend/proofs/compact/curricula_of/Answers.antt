@@ -1,6 +1,6 @@
 use Rattle.std.proofs.Common.{length}
 use Rattle.tt_instance.specs.Courses.{in_curriculum}
-use Rattle.tt_tallies.proofs.Rows.{passing_below}
+use Rattle.tt_occupancy.proofs.Rows.{passing_below}
 use Rattle.tt_moves_descend.proofs.compact.curricula_of.Goals as goal
 
 pub returns-clause-below : goal.returns-clause-below

@@ -1,5 +1,5 @@
 use Rattle.std.proofs.Common.{take}
-use Rattle.tt_tallies.specs.Inner.Tables.{AreTables}
+use Rattle.tt_occupancy.specs.Inner.Tables.{AreTables}
 use Rattle.tt_occupancy.proofs.counting.tables_of.Given as goal
 
 abbrev pub invariant-loop-entry : goal.invariant-loop-entry

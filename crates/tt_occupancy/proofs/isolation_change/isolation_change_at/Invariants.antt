@@ -2,7 +2,7 @@ use Rattle.std.proofs.Common.{◌*◌, ◌≤◌, List, length, take}
 use Rattle.tt_instance.specs.Problem.{Problem}
 use Rattle.tt_instance.specs.declared.cell.Cell.{Cell}
 use Rattle.tt_table.specs.Table.{IsTimetable}
-use Rattle.tt_tallies.specs.Tallies.{IsTally, of_curriculum}
+use Rattle.tt_occupancy.specs.Tallies.{IsTally, of_curriculum}
 use Rattle.tt_occupancy.specs.Inner.NeighbourCounts.{IsIsolationChange}
 use Rattle.tt_occupancy.proofs.isolation_change.isolation_change_at.Given as goal
 

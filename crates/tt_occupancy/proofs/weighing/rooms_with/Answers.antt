@@ -1,7 +1,7 @@
 use Rattle.std.proofs.Common.{length, arith, ap}
 use Rattle.std.specs.Prelude.{◌==◌}
 use Rattle.tt_list_laws.proofs.Sums.{one_if}
-use Rattle.tt_tallies.proofs.Spreads.{used_with}
+use Rattle.tt_occupancy.proofs.Spreads.{used_with}
 use Rattle.tt_occupancy.proofs.weighing.rooms_with.Goals as goal
 
 pub returns : goal.returns

@@ -3,11 +3,11 @@ use Rattle.std.specs.Prelude.{nat_lt}
 use Rattle.tt_list_laws.proofs.Sums.{one_if}
 use Rattle.tt_instance.specs.Cells.{slot_of, is_of, is_at, is_in}
 use Rattle.tt_instance.specs.Courses.{in_curriculum}
-use Rattle.tt_tallies.specs.Tallies.{of_curriculum}
-use Rattle.tt_tallies.proofs.Rows.{rows_below, passing_few}
+use Rattle.tt_occupancy.specs.Tallies.{of_curriculum}
+use Rattle.tt_occupancy.proofs.Rows.{rows_below, passing_few}
 use Rattle.tt_occupancy.proofs.TakenPeriods.{gaps_alone, gaps_joined}
-use Rattle.tt_tallies.proofs.Against.{against_is}
-use Rattle.tt_tallies.proofs.Chosen.{any_counted}
+use Rattle.tt_occupancy.proofs.Against.{against_is}
+use Rattle.tt_occupancy.proofs.Chosen.{any_counted}
 use Rattle.tt_occupancy.proofs.weighing.weigh.Goals as goal
 
 pub isolation_change_at-isolation_change-requires-clause-rows : goal.isolation_change_at-isolation_change-requires-clause-rows

@@ -1,6 +1,6 @@
 use Rattle.std.proofs.Common.{ℕ}
 use Rattle.tt_construct.specs.Inner.Filled.{HasMore}
-use Rattle.tt_tallies.specs.Inner.Tables.{AreTables}
+use Rattle.tt_occupancy.specs.Inner.Tables.{AreTables}
 use Rattle.tt_search_complete.specs.Inner.Progress.{Begins}
 use Rattle.tt_search_complete.specs.Suiting.{AreSuited}
 use Rattle.tt_search_complete.proofs.adding.add_lectures.Given as goal

@@ -1,4 +1,4 @@
-use Rattle.tt_tallies.specs.Inner.Tables.{AreTables}
+use Rattle.tt_occupancy.specs.Inner.Tables.{AreTables}
 use Rattle.tt_search_complete.specs.Inner.Progress.{IsCompletedTo}
 use Rattle.tt_search_complete.proofs.completing.add_all.Given as goal
 

@@ -1,6 +1,6 @@
 use Rattle.std.proofs.Common.{length}
 use Rattle.tt_instance.specs.Courses.{in_curriculum}
-use Rattle.tt_tallies.proofs.Rows.{passing_below}
+use Rattle.tt_occupancy.proofs.Rows.{passing_below}
 use Rattle.tt_walk.proofs.violations.is_isolated.Goals as goal
 
 pub has_neighbour-requires-clause-curriculum : goal.has_neighbour-requires-clause-curriculum

@@ -1,7 +1,7 @@
 use Rattle.std.proofs.Common.{subst, arith}
 use Rattle.std.specs.Prelude.{remove}
 use Rattle.std.proofs.lemmas.Int.{ints}
-use Rattle.tt_tallies.proofs.Same.{hard_same}
+use Rattle.tt_occupancy.proofs.Same.{hard_same}
 use Rattle.tt_moves.specs.Inner.Exchanges.{Lead}
 use Rattle.tt_moves.specs.Steps.{first_of, stepped}
 use Rattle.tt_moves.proofs.exchanges.Exchanges.hard_change.Goals as goal

@@ -1,9 +1,9 @@
 use Rattle.std.proofs.Common.{◌∷◌, sym, ap, arith}
 use Rattle.std.proofs.lemmas.Int.{ints}
 use Rattle.tt_rules.specs.Score.{cost}
-use Rattle.tt_tallies.specs.Weight.{cost_rise, cost_fall}
-use Rattle.tt_tallies.proofs.Exchange.{cost_exchanged}
-use Rattle.tt_tallies.proofs.Same.{cost_same}
+use Rattle.tt_occupancy.specs.Weight.{cost_rise, cost_fall}
+use Rattle.tt_occupancy.proofs.Exchange.{cost_exchanged}
+use Rattle.tt_occupancy.proofs.Same.{cost_same}
 use Rattle.tt_moves.proofs.exchanging.Exchange.cost_change.Goals as goal
 
 pub returns-clause-value : goal.returns-clause-value

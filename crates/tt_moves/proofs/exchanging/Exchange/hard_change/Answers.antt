@@ -1,8 +1,8 @@
 use Rattle.std.proofs.Common.{◌∷◌, refl, sym, ap, arith}
 use Rattle.std.proofs.lemmas.Int.{ints}
 use Rattle.tt_rules.specs.Score.{hard}
-use Rattle.tt_tallies.proofs.Exchange.{hard_exchanged}
-use Rattle.tt_tallies.proofs.Same.{hard_same}
+use Rattle.tt_occupancy.proofs.Exchange.{hard_exchanged}
+use Rattle.tt_occupancy.proofs.Same.{hard_same}
 use Rattle.tt_moves.proofs.exchanging.Exchange.hard_change.Goals as goal
 
 pub hard_weight-before-requires : goal.hard_weight-before-requires

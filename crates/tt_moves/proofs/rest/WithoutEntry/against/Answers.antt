@@ -5,7 +5,7 @@ use Rattle.tt_instance.specs.Problem.{Problem}
 use Rattle.tt_instance.specs.Cells.{slot_of, is_at}
 use Rattle.tt_instance.specs.Courses.{conflict}
 use Rattle.tt_instance.specs.declared.cell.Cell.{Cell}
-use Rattle.tt_tallies.proofs.Against.{against_is}
+use Rattle.tt_occupancy.proofs.Against.{against_is}
 use Rattle.tt_moves.proofs.rest.WithoutEntry.against.Goals as goal
 
 pub returns-clause-value : goal.returns-clause-value

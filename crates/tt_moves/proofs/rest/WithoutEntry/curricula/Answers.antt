@@ -3,7 +3,7 @@ use Rattle.std.specs.Prelude.{All}
 use Rattle.std.proofs.lemmas.List.Elements.{filter_passes}
 use Rattle.tt_instance.specs.Cells.{all_curricula}
 use Rattle.tt_instance.specs.Courses.{in_curriculum}
-use Rattle.tt_tallies.proofs.Rows.{passing_below, passing_few}
+use Rattle.tt_occupancy.proofs.Rows.{passing_below, passing_few}
 use Rattle.tt_moves.proofs.rest.WithoutEntry.curricula.Goals as goal
 
 pub returns-clause-below : goal.returns-clause-below

@@ -3,7 +3,7 @@ use Rattle.std.specs.Prelude.{nat_lt, count_by}
 use Rattle.tt_list_laws.proofs.Sums.{one_if}
 use Rattle.tt_instance.specs.Cells.{slot_of, is_at, is_in}
 use Rattle.tt_instance.specs.declared.cell.Cell.{Cell}
-use Rattle.tt_tallies.proofs.Chosen.{any_counted}
+use Rattle.tt_occupancy.proofs.Chosen.{any_counted}
 use Rattle.tt_moves.proofs.rest.WithoutEntry.has_shared_room.Goals as goal
 
 pub returns : goal.returns

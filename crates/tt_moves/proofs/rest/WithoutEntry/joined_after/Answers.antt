@@ -1,7 +1,7 @@
 use Rattle.std.proofs.Common.{◌≡◌, ◌≤◌, ◌+◌, true, false, cond, ◌&&◌, sym, ap, ◌∙◌, arith}
 use Rattle.std.specs.Prelude.{nat_lt}
 use Rattle.tt_bits.specs.Inner.Bits.{has_bit}
-use Rattle.tt_tallies.specs.Inner.Neighbours.{entries_at}
+use Rattle.tt_occupancy.specs.Inner.Neighbours.{entries_at}
 use Rattle.tt_moves.proofs.Rounds.{after_joined}
 use Rattle.tt_moves.proofs.rest.WithoutEntry.joined_after.Goals as goal
 

@@ -1,6 +1,6 @@
 use Rattle.std.proofs.Common.{◌≡◌, ℕ, ◌<◌, ◌≤◌, true, List}
 use Rattle.tt_instance.specs.declared.cell.Cell.{Cell}
-use Rattle.tt_tallies.specs.Weight.{shares}
+use Rattle.tt_occupancy.specs.Weight.{shares}
 use Rattle.tt_moves.specs.Inner.Rests.{IsRest}
 use Rattle.tt_moves.specs.Inner.SlotWeights.{in_room}
 use Rattle.tt_moves.proofs.rest.WithoutEntry.next_unshared.Given as goal

@@ -1,7 +1,7 @@
 use Rattle.std.proofs.Common.{cond, ap, ◌∙◌}
 use Rattle.std.specs.Prelude.{◌==◌, nat_lt}
 use Rattle.tt_bits.specs.Inner.Bits.{has_bit}
-use Rattle.tt_tallies.specs.Inner.Neighbours.{entries_at}
+use Rattle.tt_occupancy.specs.Inner.Neighbours.{entries_at}
 use Rattle.tt_moves.proofs.Rounds.{put_anew}
 use Rattle.tt_moves.proofs.rest.WithoutEntry.recounted.Goals as goal
 

@@ -1,7 +1,7 @@
 use Rattle.std.proofs.Common.{cond, ◌&&◌, ap, ◌∙◌}
 use Rattle.std.specs.Prelude.{nat_lt}
 use Rattle.tt_instance.specs.Cells.{slot, is_at}
-use Rattle.tt_tallies.specs.Inner.Neighbours.{entries_at}
+use Rattle.tt_occupancy.specs.Inner.Neighbours.{entries_at}
 use Rattle.tt_moves.proofs.Rounds.{one_anew, three_anew, standing_same}
 use Rattle.tt_moves.proofs.rest.WithoutEntry.taken_on.Goals as goal
 

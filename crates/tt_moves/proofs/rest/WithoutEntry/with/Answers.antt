@@ -2,7 +2,7 @@ use Rattle.std.proofs.Common.{◌+◌, ◌<◌, ◌≤◌, not, ◌&&◌, ap, �
 use Rattle.std.proofs.lemmas.List.Sums.{sum_by_push}
 use Rattle.tt_list_laws.proofs.Sums.{one_if}
 use Rattle.tt_bits.specs.Inner.Bits.{has_bit}
-use Rattle.tt_tallies.specs.Inner.Neighbours.{has_neighbour, joined_before, joined_after}
+use Rattle.tt_occupancy.specs.Inner.Neighbours.{has_neighbour, joined_before, joined_after}
 use Rattle.tt_moves.proofs.Rounds.{isolated_stand, beside_stands}
 use Rattle.tt_moves.proofs.rest.WithoutEntry.with.Goals as goal
 

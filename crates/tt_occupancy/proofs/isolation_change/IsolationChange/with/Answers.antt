@@ -1,7 +1,7 @@
 use Rattle.std.proofs.Common.{◌+◌, not, ap, arith}
 use Rattle.std.proofs.lemmas.List.Sums.{sum_by_push}
 use Rattle.tt_list_laws.proofs.Sums.{one_if}
-use Rattle.tt_tallies.specs.Inner.Neighbours.{has_neighbour, joined_before, joined_after}
+use Rattle.tt_occupancy.specs.Inner.Neighbours.{has_neighbour, joined_before, joined_after}
 use Rattle.tt_occupancy.proofs.isolation_change.IsolationChange.with.Goals as goal
 
 pub returns-clause-isolation_change : goal.returns-clause-isolation_change

@@ -1,6 +1,6 @@
 use Rattle.std.proofs.Common.{◌<◌, length, sym, ap, ◌∙◌, subst}
 use Rattle.std.specs.Prelude.{nat_lt}
-use Rattle.tt_tallies.specs.Inner.Neighbours.{entries_at}
+use Rattle.tt_occupancy.specs.Inner.Neighbours.{entries_at}
 use Rattle.tt_occupancy.specs.Filled.{Filled}
 use Rattle.tt_occupancy.proofs.TakenPeriods.{some_taken}
 use Rattle.tt_occupancy.proofs.occupied.Occupied.curriculum_on.Goals as goal

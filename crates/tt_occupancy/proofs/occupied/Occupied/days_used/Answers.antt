@@ -1,6 +1,6 @@
 use Rattle.std.proofs.Common.{◌<◌, length, sym, ap, ◌∙◌, subst, arith}
 use Rattle.tt_rules.specs.Soft.{days_of}
-use Rattle.tt_tallies.proofs.Spreads.{spread_free}
+use Rattle.tt_occupancy.proofs.Spreads.{spread_free}
 use Rattle.tt_occupancy.specs.Filled.{Filled}
 use Rattle.tt_occupancy.proofs.occupied.Occupied.days_used.Goals as goal
 

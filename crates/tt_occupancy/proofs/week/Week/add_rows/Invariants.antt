@@ -1,0 +1,8 @@
+use Rattle.std.proofs.Common.{◌&&◌, cond, take}
+use Rattle.std.specs.Prelude.{count_by, ◌==◌}
+use Rattle.tt_occupancy.specs.Inner.Counts.{IsMore}
+use Rattle.tt_occupancy.proofs.week.Week.add_rows.Given as goal
+
+abbrev pub invariant-loop-row : goal.invariant-loop-row
+invariant-loop-row l =
+    IsMore l.fn.self l.self (λ i d s. cond ((l.day == d) && (l.period == s)) (count_by (λ r. r == i) (take l.row-index l.rows)) 0)

@@ -1,8 +1,0 @@
-use Rattle.std.proofs.Common.{◌&&◌, cond, take}
-use Rattle.std.specs.Prelude.{count_by, ◌==◌}
-use Rattle.tt_tallies.specs.Inner.Counts.{IsMore}
-use Rattle.tt_tallies.proofs.week.Week.take_rows.Given as goal
-
-abbrev pub invariant-loop-row : goal.invariant-loop-row
-invariant-loop-row l =
-    IsMore l.self l.fn.self (λ i d s. cond ((l.day == d) && (l.period == s)) (count_by (λ r. r == i) (take l.row-index l.rows)) 0)

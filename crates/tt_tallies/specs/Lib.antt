@@ -1,4 +1,0 @@
-pub mod Bag
-pub mod Inner
-pub mod Tallies
-pub mod Weight
