@@ -1,4 +1,6 @@
 pub mod Changes
+pub mod Descent
+pub mod Idle
 pub mod Inner
 pub mod Pricing
 pub mod Steps

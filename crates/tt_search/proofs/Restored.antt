@@ -2,7 +2,7 @@
 use Rattle.std.proofs.Common.{◌≡◌, ℕ, ◌+◌, ◌<◌, List, ◌∷◌, [], ◌++◌, length, get_or, take, sym, ap, ◌∙◌, arith}
 use Rattle.std.proofs.lemmas.List.{take_more, take_more_set, length-map, get_or-map}
 use Rattle.tt_instance.specs.declared.cell.Cell.{Cell}
-use Rattle.tt_moves_descend.proofs.Descents.{courses-stepped}
+use Rattle.tt_moves.proofs.Descents.{courses-stepped}
 use Rattle.tt_moves.specs.Steps.{no_entry, entry_at, stepped}
 use Rattle.tt_moves.specs.declared.step.Step.TheVariants.{Move}
 use Rattle.tt_walk.specs.Improved.{courses_of}

@@ -1,4 +1,4 @@
 pub mod Runs
 pub use Rattle.tt_walk.specs.Improved
 pub use Rattle.tt_construct.specs.Constructed
-pub use Rattle.tt_moves_descend.specs.Descent
+pub use Rattle.tt_moves.specs.Descent

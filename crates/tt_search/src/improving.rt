@@ -13,7 +13,7 @@ use crate::restoring::return_to_best;
 use rand_pcg::Pcg32;
 use std::alloc::{AllocError, Global};
 use tt_instance::Instance;
-use tt_moves_descend::descend_in;
+use tt_moves::descend_in;
 use tt_occupancy::Occupied;
 use tt_plans_anneal::{Annealing, can_anneal};
 use tt_replan::{Replanner, can_replan};

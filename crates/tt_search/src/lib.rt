@@ -10,5 +10,5 @@ mod runs;
 pub use improving::improve;
 pub use runs::{Search, improve_in_runs};
 pub use tt_construct::construct;
-pub use tt_moves_descend::{Descent, descend};
+pub use tt_moves::{Descent, descend};
 pub use tt_watch::{Pair, Progress, Unit, Unwatched, Watch};

@@ -6,7 +6,7 @@ use Rattle.tt_instance.specs.declared.cell.Cell.{Cell}
 use Rattle.tt_instance.proofs.Examples.{at, mini}
 use Rattle.tt_table.specs.Table.{IsTimetable}
 use Rattle.tt_moves.specs.Changes.{IsBelow}
-use Rattle.tt_moves_descend.proofs.Descents.{IsBelow-asym}
+use Rattle.tt_moves.proofs.Descents.{IsBelow-asym}
 use Rattle.tt_walk.specs.Improved.{IsNoWorse}
 use Rattle.tt_walk.proofs.Improvements.{IsNoWorse-refl}
 

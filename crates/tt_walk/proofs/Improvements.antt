@@ -5,8 +5,8 @@ use Rattle.tt_instance.specs.declared.cell.Cell.{Cell}
 use Rattle.tt_table.specs.Table.{IsTimetable}
 use Rattle.tt_moves.specs.Changes.{IsBelow}
 use Rattle.tt_occupancy.specs.Filled.{Filled}
-use Rattle.tt_moves_descend.specs.Descent.{Descends, IsDescent}
-use Rattle.tt_moves_descend.proofs.Descents.{IsTimetable-descends, courses-descends, descends_lower, IsBelow-irrefl, IsBelow-trans}
+use Rattle.tt_moves.specs.Descent.{Descends, IsDescent}
+use Rattle.tt_moves.proofs.Descents.{IsTimetable-descends, courses-descends, descends_lower, IsBelow-irrefl, IsBelow-trans}
 use Rattle.tt_moves.specs.Steps.{CanStep, stepped}
 use Rattle.tt_moves.specs.declared.step.Step.{Step}
 use Rattle.tt_walk.specs.Improved.{IsNoWorse, IsDescended, Leads, LeadsWithin}

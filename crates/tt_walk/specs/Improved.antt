@@ -3,7 +3,7 @@ use Rattle.std.specs.Prelude.{◌≡◌, ◌≤◌, ℕ, ◌+◌, Bool, List, ma
 use Rattle.tt_instance.specs.Problem.{Problem}
 use Rattle.tt_instance.specs.declared.cell.Cell.{Cell}
 use Rattle.tt_table.specs.Table.{IsTimetable}
-use Rattle.tt_moves_descend.specs.Descent.{IsDescent}
+use Rattle.tt_moves.specs.Descent.{IsDescent}
 use Rattle.tt_moves.specs.Changes.{IsBelow}
 use Rattle.tt_moves.specs.Steps.{CanStep, stepped}
 use Rattle.tt_moves.specs.declared.step.Step.{Step}

@@ -1,5 +1,5 @@
 use Rattle.std.proofs.Common.{ap, ◌∙◌, rules}
-use Rattle.tt_moves_descend.proofs.Descents.{courses-stepped}
+use Rattle.tt_moves.proofs.Descents.{courses-stepped}
 use Rattle.tt_walk.specs.Improved.{courses_of}
 use Rattle.tt_walk.proofs.Improvements.{leads_on}
 use Rattle.tt_search.proofs.planning.try_step.Goals as goal

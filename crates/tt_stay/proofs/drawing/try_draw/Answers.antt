@@ -1,4 +1,4 @@
-use Rattle.tt_moves_descend.proofs.Descents.{courses-stepped}
+use Rattle.tt_moves.proofs.Descents.{courses-stepped}
 use Rattle.tt_stay.proofs.drawing.try_draw.Goals as goal
 
 pub returns-clause-courses : goal.returns-clause-courses

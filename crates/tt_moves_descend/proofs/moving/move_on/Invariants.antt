@@ -1,7 +1,0 @@
-use Rattle.std.proofs.Common.{ℕ, ◌<◌}
-use Rattle.tt_moves_descend.specs.Inner.Scan.{NoMoveTo, IsScan}
-use Rattle.tt_moves_descend.proofs.moving.move_on.Given as goal
-
-abbrev pub invariant-loop-period : goal.invariant-loop-period
-invariant-loop-period l =
-    IsScan (λ o. (s : ℕ) → s < l.period → NoMoveTo l.entry l.day s o) l.initial.occupied l.occupied l.initial.left l.left

@@ -1,7 +1,0 @@
-use Rattle.std.proofs.Common.{ℕ, ◌<◌}
-use Rattle.tt_moves_descend.specs.Inner.Scan.{NoSwapBy, IsScan}
-use Rattle.tt_moves_descend.proofs.swapping.try_swaps.Given as goal
-
-abbrev pub invariant-loop-first : goal.invariant-loop-first
-invariant-loop-first l =
-    IsScan (λ o. (i : ℕ) → i < l.first → NoSwapBy i o) l.initial.occupied l.occupied l.initial.left l.left

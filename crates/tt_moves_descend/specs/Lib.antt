@@ -1,3 +1,0 @@
-pub mod Descent
-pub mod Idle
-pub mod Inner
