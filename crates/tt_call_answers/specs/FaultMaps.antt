@@ -12,8 +12,8 @@ use Rattle.tt_proof_check.specs.declared.fault.CertifyFault.{CertifyFault}
 use Rattle.tt_proof_check.specs.declared.fault.CertifyFault.TheVariants as certify
 use Rattle.tt_proof_upgrade.specs.declared.fault.UpgradeFault.{UpgradeFault}
 use Rattle.tt_proof_upgrade.specs.declared.fault.UpgradeFault.TheVariants as upgrade
-use Rattle.tt_search_complete.specs.declared.fault.CompleteFault.{CompleteFault}
-use Rattle.tt_search_complete.specs.declared.fault.CompleteFault.TheVariants as completion
+use Rattle.tt_construct.specs.declared.fault.CompleteFault.{CompleteFault}
+use Rattle.tt_construct.specs.declared.fault.CompleteFault.TheVariants as completion
 use Rattle.tt_page.specs.declared.fault.PageFault.{PageFault}
 use Rattle.tt_page.specs.declared.fault.PageFault.TheVariants as page
 use Rattle.tt_page_text.specs.declared.fault.LabelsFault.{LabelsFault}

@@ -3,8 +3,8 @@ use Rattle.std.proofs.Common.{◌≡◌, ℕ, Bool, false, List, refl}
 use Rattle.tt_instance.specs.Problem.{Problem}
 use Rattle.tt_instance.specs.declared.cell.Cell.{Cell}
 use Rattle.tt_table.specs.Spelling.{SpellsBoth}
-use Rattle.tt_search_complete.specs.declared.fault.CompleteFault.{CompleteFault}
-use Rattle.tt_search_complete.specs.declared.fault.CompleteFault.TheVariants as completion
+use Rattle.tt_construct.specs.declared.fault.CompleteFault.{CompleteFault}
+use Rattle.tt_construct.specs.declared.fault.CompleteFault.TheVariants as completion
 use Rattle.tt_call_answers.specs.FaultMaps.{fault_from_completion}
 use Rattle.tt_call_answers.specs.declared.fault.AppFault.TheVariants as fault
 use Rattle.tt_call_searches.specs.Improved.{FailsToStart, IsImproveRefusal}

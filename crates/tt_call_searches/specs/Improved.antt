@@ -7,10 +7,10 @@ use Rattle.tt_table.specs.Spelling.{SpellsBoth, solution_text}
 use Rattle.tt_rules.specs.Score.{hard, cost}
 use Rattle.tt_search.specs.Improved.{IsNoWorse}
 use Rattle.tt_search.specs.Runs.{RunsUntil}
-use Rattle.tt_search_complete.specs.Completed.{IsCompleted}
-use Rattle.tt_search_complete.specs.declared.completing.TheConstants.{MOST_ENTRIES}
-use Rattle.tt_search_complete.specs.declared.fault.CompleteFault.{CompleteFault}
-use Rattle.tt_search_complete.specs.declared.fault.CompleteFault.TheVariants as completion
+use Rattle.tt_construct.specs.Completed.{IsCompleted}
+use Rattle.tt_construct.specs.declared.completing.TheConstants.{MOST_ENTRIES}
+use Rattle.tt_construct.specs.declared.fault.CompleteFault.{CompleteFault}
+use Rattle.tt_construct.specs.declared.fault.CompleteFault.TheVariants as completion
 use Rattle.tt_proof_check.specs.Verdicts.{FailsSolution}
 use Rattle.tt_call_answers.specs.Lines.{pair_line}
 use Rattle.tt_call_answers.specs.declared.answer.Answer.{Answer}

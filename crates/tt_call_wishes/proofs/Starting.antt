@@ -1,6 +1,6 @@
 -- Faults of completing.
-use Rattle.tt_search_complete.specs.declared.fault.CompleteFault.{CompleteFault}
-use Rattle.tt_search_complete.specs.declared.fault.CompleteFault.TheVariants as completion
+use Rattle.tt_construct.specs.declared.fault.CompleteFault.{CompleteFault}
+use Rattle.tt_construct.specs.declared.fault.CompleteFault.TheVariants as completion
 use Rattle.tt_call_wishes.specs.declared.fault.ValidateFault.TheVariants as files
 use Rattle.tt_call_wishes.specs.Improved.{IsStartFault, IsWishedRefusal, fault_from_complete}
 use Rattle.tt_call_wishes.specs.declared.improving_fault.WishedFault.{WishedFault}

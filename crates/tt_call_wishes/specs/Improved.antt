@@ -5,9 +5,9 @@ use Rattle.tt_text.specs.Lines.{line_text}
 use Rattle.tt_instance.specs.Problem.{Problem}
 use Rattle.tt_instance.specs.declared.cell.Cell.{Cell}
 use Rattle.tt_table.specs.Spelling.{SpellsBoth, solution_text}
-use Rattle.tt_search_complete.specs.Completed.{IsCompleted}
-use Rattle.tt_search_complete.specs.declared.fault.CompleteFault.{CompleteFault}
-use Rattle.tt_search_complete.specs.declared.fault.CompleteFault.TheVariants as completion
+use Rattle.tt_construct.specs.Completed.{IsCompleted}
+use Rattle.tt_construct.specs.declared.fault.CompleteFault.{CompleteFault}
+use Rattle.tt_construct.specs.declared.fault.CompleteFault.TheVariants as completion
 use Rattle.tt_wishes.specs.Spelling.{SpellsWishes}
 use Rattle.tt_wishes.specs.declared.wish.Wish.{Wish}
 use Rattle.tt_stay.specs.Rearranged.{IsRearranged}

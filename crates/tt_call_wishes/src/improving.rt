@@ -10,7 +10,7 @@ use std::alloc::Global;
 use tt_call_answers::Answer;
 use tt_instance::Instance;
 use tt_instance_read::read_instance;
-use tt_search_complete::complete;
+use tt_construct::complete;
 use tt_table::{Timetable, read_solution};
 use tt_watch::Watch;
 use tt_wishes::read_wishes;

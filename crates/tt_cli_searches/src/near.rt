@@ -8,7 +8,7 @@ use tt_call_answers::{Answer, AppFault};
 use tt_cli_arguments::Search as Asked;
 use tt_instance::Instance;
 use tt_instance_read::read_instance;
-use tt_search_complete::complete;
+use tt_construct::complete;
 use tt_stay::{Search, Stay, improve_near, write_weight};
 use tt_table::{Timetable, read_solution, write_solution};
 use tt_watch::Watch;

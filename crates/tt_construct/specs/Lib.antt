@@ -1,2 +1,4 @@
+pub mod Completed
 pub mod Constructed
 pub mod Inner
+pub mod Suiting

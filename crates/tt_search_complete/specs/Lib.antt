@@ -1,3 +1,0 @@
-pub mod Completed
-pub mod Inner
-pub mod Suiting
