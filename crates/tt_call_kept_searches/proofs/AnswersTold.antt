@@ -17,8 +17,8 @@ use Rattle.tt_call_kept.specs.Kept.{IsFileRefusal}
 use Rattle.tt_call_kept.specs.declared.fault.KeptFault.{KeptFault}
 use Rattle.tt_call_kept.specs.declared.fault.KeptFault.TheVariants as fault
 use Rattle.tt_call_kept.specs.declared.files.KeptFiles.{KeptFiles}
-use Rattle.tt_wishes_best.specs.Kept.{IsNarrowing}
-use Rattle.tt_wishes_best.specs.declared.wishing.Wishing.{Wishing}
+use Rattle.tt_best.specs.Kept.{IsNarrowing}
+use Rattle.tt_best.specs.declared.wishing.Wishing.{Wishing}
 use Rattle.tt_call_kept_searches.specs.SolvedKept.{IsKeptTable, IsSolveKeptRefusal}
 
 -- a timetable that is kept is one of the instance

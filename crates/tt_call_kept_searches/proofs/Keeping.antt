@@ -5,8 +5,8 @@ use Rattle.tt_leaf.specs.declared.leaf.Bound.{Bound}
 use Rattle.tt_leaf.specs.declared.leaf.Bound.TheVariants as bound
 use Rattle.tt_proof_check.specs.Derives.{HoldsOn}
 use Rattle.tt_proof_sum.specs.Sums.{IsSumOn}
-use Rattle.tt_wishes_best.specs.Kept.{IsNarrowing}
-use Rattle.tt_wishes_best.specs.declared.wishing.Wishing.{Wishing}
+use Rattle.tt_best.specs.Kept.{IsNarrowing}
+use Rattle.tt_best.specs.declared.wishing.Wishing.{Wishing}
 use Rattle.tt_call_kept.specs.Kept.{HoldsOfKept, IsSumKept}
 use Rattle.tt_call_kept.proofs.Summed.{made_holds, made_sum}
 use Rattle.tt_call_kept_searches.specs.BestKept.{BreaksNothing}

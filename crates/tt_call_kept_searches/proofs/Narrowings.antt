@@ -1,7 +1,7 @@
 -- What was read makes a search under wishes.
 use Rattle.std.proofs.Common.{◌≡◌, List}
-use Rattle.tt_wishes_best.specs.Kept.{IsNarrowing}
-use Rattle.tt_wishes_best.specs.declared.wishing.Wishing.{Wishing}
+use Rattle.tt_best.specs.Kept.{IsNarrowing}
+use Rattle.tt_best.specs.declared.wishing.Wishing.{Wishing}
 use Rattle.tt_call_kept.specs.declared.files.KeptFiles.{KeptFiles}
 use Rattle.tt_call_kept_searches.specs.Inner.Steps.{IsRead}
 use Rattle.tt_call_kept_searches.specs.declared.reading.Read.{Read}

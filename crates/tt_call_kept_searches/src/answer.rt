@@ -7,7 +7,7 @@ ghost use Rattle.tt_page.specs.Pages.{page_text};
 ghost use Rattle.tt_page.specs.Proofs.{kept_of};
 ghost use Rattle.tt_parts.specs.Found.{AreFoundOn};
 ghost use Rattle.tt_best.specs.Weeks.{IsWeekOn};
-ghost use Rattle.tt_wishes_best.specs.Kept.{IsNarrowing};
+ghost use Rattle.tt_best.specs.Kept.{IsNarrowing};
 ghost use Rattle.tt_call_answers.specs.Lines.{best_line, none_line};
 ghost use Rattle.tt_call_searches.specs.Best.{ShowsPage};
 ghost use Rattle.tt_call_kept_searches.specs.BestKept.{BreaksNothing, IsBestKeptFound, IsBestKeptOf, IsNoneKept};
@@ -23,7 +23,7 @@ use tt_parts::{Parts, copy_texts};
 use tt_rules::score;
 use tt_table::{Timetable, write_solution};
 use tt_wishes::{Wish, broken_wishes};
-use tt_wishes_best::{Week, Wishing};
+use tt_best::{Week, Wishing};
 
 /// Writes the line of the number of wishes.
 pub fn put_wishes(out: &mut Vec<u8>, wishes: &[Wish]) -> Result<(), AllocError>
@@ -134,7 +134,7 @@ fn missing_answer(
 }
 
 /// Returns the answer for what a search found.
-#[tactic(auto, using(tt_wishes_best::proofs::Narrowing::table_of_instance))]
+#[tactic(auto, using(tt_best::proofs::Narrowing::table_of_instance))]
 pub fn answer_of(
     alloc: Global,
     wishing: Wishing<'_, '_>,

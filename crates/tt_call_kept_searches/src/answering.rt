@@ -6,7 +6,7 @@ use tt_call_searches::WatchBest;
 use tt_page::Look;
 use tt_table::Entry;
 use tt_watch::{Progress, Watch};
-use tt_wishes_best::{WatchKept, Week, Wishing};
+use tt_best::{WatchKept, Week, Wishing};
 
 /// Gives the results on the way to a watch as answers.
 pub struct Answering<'w, W: WatchBest> {

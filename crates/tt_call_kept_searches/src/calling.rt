@@ -12,7 +12,7 @@ use tt_call_answers::PageNames;
 use tt_call_kept::{KeptFault, KeptFiles};
 use tt_call_searches::{BestAnswer, BestSearch, WatchBest};
 use tt_page::Look;
-use tt_wishes_best::{Rounds, Start, Wishing, find_best_kept};
+use tt_best::{Rounds, Start, Wishing, find_best_kept};
 
 /// Searches for a best timetable that keeps wishes, and for proofs of a lower bound for those that do, in rounds, until they meet or the watch ends
 /// the search. It starts from a solution and from proofs of an earlier search, if there are any. The page that shows the results has names and a

@@ -2,8 +2,8 @@
 
 ghost use Rattle.std.specs.Prelude.{◌≤◌, min, IfOk, IfErr};
 ghost use Rattle.tt_branch.specs.declared.limit.TheConstants.{MAX_OPENED};
-ghost use Rattle.tt_wishes_best.specs.Kept.{IsNarrowing};
-ghost use Rattle.tt_wishes_best.specs.declared.limit.TheConstants.{MAX_KEPT};
+ghost use Rattle.tt_best.specs.Kept.{IsNarrowing};
+ghost use Rattle.tt_best.specs.declared.limit.TheConstants.{MAX_KEPT};
 ghost use Rattle.tt_call_kept_searches.specs.Inner.Stops.{IsStop};
 ghost use Rattle.tt_call_kept_searches.specs.SolvedKept.{IsSolvedKeptOf};
 
@@ -13,7 +13,7 @@ use tt_call_answers::{Answer, AppFault};
 use tt_call_kept::KeptFault;
 use tt_call_searches::{TreeEffort, least_text};
 use tt_watch::Watch;
-use tt_wishes_best::{MAX_KEPT, Wishing, solve_kept};
+use tt_best::{MAX_KEPT, Wishing, solve_kept};
 
 /// Searches by a tree under wishes, and returns the answer.
 pub fn search_kept<W: Watch>(

@@ -12,7 +12,7 @@ use tt_call_answers::Answer;
 use tt_call_searches::line_of;
 use tt_leaf::Bound;
 use tt_table::{Timetable, write_solution};
-use tt_wishes_best::{Solved, Wishing};
+use tt_best::{Solved, Wishing};
 
 /// The end of a search by a tree: its bound, and whether each node is closed.
 #[derive(Clone, Copy, Debug)]

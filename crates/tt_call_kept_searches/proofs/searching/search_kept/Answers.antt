@@ -1,5 +1,5 @@
 use Rattle.std.specs.Prelude.{min}
-use Rattle.tt_wishes_best.specs.declared.limit.TheConstants.{MAX_KEPT}
+use Rattle.tt_best.specs.declared.limit.TheConstants.{MAX_KEPT}
 use Rattle.tt_call_kept_searches.proofs.Keeping.{kept_holds}
 use Rattle.tt_call_kept_searches.proofs.AnswersTold.{outcome_there, over_long, proof_given}
 use Rattle.tt_call_kept_searches.proofs.searching.search_kept.Goals as goal

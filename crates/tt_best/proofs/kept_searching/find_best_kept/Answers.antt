@@ -1,5 +1,5 @@
-use Rattle.tt_wishes_best.proofs.Worse.{given_then}
-use Rattle.tt_wishes_best.proofs.searching.find_best_kept.Goals as goal
+use Rattle.tt_best.proofs.Worse.{given_then}
+use Rattle.tt_best.proofs.kept_searching.find_best_kept.Goals as goal
 
 pub loop-round-preserved : goal.loop-round-preserved
 loop-round-preserved g c = record {

@@ -5,8 +5,8 @@ use Rattle.tt_table.specs.Table.{IsTimetable}
 use Rattle.tt_leaf.specs.declared.leaf.Bound.{Bound}
 use Rattle.tt_proof_read.specs.declared.node.Node.{Node}
 use Rattle.tt_branch.specs.Outcomes.{IsOutcomeUntil}
-use Rattle.tt_wishes_best.specs.Kept.{IsNoWorse}
-use Rattle.tt_wishes_best.specs.declared.wishing.Wishing.{Wishing}
+use Rattle.tt_best.specs.Kept.{IsNoWorse}
+use Rattle.tt_best.specs.declared.wishing.Wishing.{Wishing}
 
 -- A tree was searched in the narrowed instance below the root of the wishes, beginning with a timetable. The result is no worse than the best one of the
 -- tree, if there is one.

@@ -3,7 +3,7 @@
 ghost use Rattle.std.specs.Prelude.{◌≡◌, ◌↔◌, IsTrue};
 ghost use Rattle.tt_table.specs.Table.{IsTimetable};
 ghost use Rattle.tt_rules.specs.Score as score;
-ghost use Rattle.tt_wishes_best.specs.Kept.{IsNoWorse, breaks_in_all, IsLighter};
+ghost use Rattle.tt_best.specs.Kept.{IsNoWorse, breaks_in_all, IsLighter};
 
 use crate::wishing::Wishing;
 use tt_rules::score;

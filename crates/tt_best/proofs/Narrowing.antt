@@ -18,8 +18,8 @@ use Rattle.tt_wishes.specs.declared.wish.Wish.{Wish}
 use Rattle.tt_wishes.specs.declared.wish.Wish.TheVariants.{Hold, Rooms, Closed}
 use Rattle.tt_wishes.proofs.Roots.{root_inside}
 use Rattle.tt_wishes_narrow.specs.Narrowed.{narrowed}
-use Rattle.tt_wishes_best.specs.Kept.{IsNarrowing}
-use Rattle.tt_wishes_best.specs.declared.wishing.Wishing.{Wishing}
+use Rattle.tt_best.specs.Kept.{IsNarrowing}
+use Rattle.tt_best.specs.declared.wishing.Wishing.{Wishing}
 
 -- the sizes are the same
 range_there : (p : Problem) (ws : List Wish) (e : Cell) → InRange p e → InRange (narrowed p ws) e

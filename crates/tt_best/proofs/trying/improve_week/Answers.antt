@@ -1,5 +1,5 @@
-use Rattle.tt_wishes_best.proofs.Worse.{no_worse_then}
-use Rattle.tt_wishes_best.proofs.trying.improve_week.Goals as goal
+use Rattle.tt_best.proofs.Worse.{no_worse_then}
+use Rattle.tt_best.proofs.trying.improve_week.Goals as goal
 
 pub returns-clause-no_worse : goal.returns-clause-no_worse
 returns-clause-no_worse g c =

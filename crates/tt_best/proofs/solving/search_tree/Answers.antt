@@ -1,6 +1,6 @@
 use Rattle.std.proofs.Common.{arith}
-use Rattle.tt_wishes_best.proofs.Narrowing.{found_of_instance, root_inside_narrow, root_short}
-use Rattle.tt_wishes_best.proofs.solving.search_tree.Goals as goal
+use Rattle.tt_best.proofs.Narrowing.{found_of_instance, root_inside_narrow, root_short}
+use Rattle.tt_best.proofs.solving.search_tree.Goals as goal
 
 pub solve-requires-clause-patterns : goal.solve-requires-clause-patterns
 solve-requires-clause-patterns g c = root_inside_narrow c.args.wishing c.requires.narrow

@@ -1,5 +1,5 @@
-use Rattle.tt_wishes_best.proofs.Narrowing.{table_of_narrowed}
-use Rattle.tt_wishes_best.proofs.searching.first_week.Goals as goal
+use Rattle.tt_best.proofs.Narrowing.{table_of_narrowed}
+use Rattle.tt_best.proofs.kept_searching.first_week.Goals as goal
 
 pub returns-then-is_over : goal.returns-then-is_over
 returns-then-is_over g c = record {

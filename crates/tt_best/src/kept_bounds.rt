@@ -2,12 +2,12 @@
 
 ghost use Rattle.tt_table.specs.Table.{IsTimetable};
 ghost use Rattle.tt_best.specs.Weeks.{IsWeekOn};
-ghost use Rattle.tt_wishes_best.specs.Kept.{IsNarrowing};
+ghost use Rattle.tt_best.specs.Kept.{IsNarrowing};
 
 use crate::comparing::weigh;
-use crate::watch::WatchKept;
+use crate::kept_watch::WatchKept;
 use crate::wishing::Wishing;
-use tt_best::Week;
+use crate::week::Week;
 use tt_leaf::Bound;
 use tt_table::Timetable;
 use tt_watch::Watch;

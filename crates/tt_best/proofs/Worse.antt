@@ -7,7 +7,7 @@ use Rattle.tt_rules.specs.Score.{cost}
 use Rattle.tt_wishes.specs.Wishes.{is_kept}
 use Rattle.tt_wishes.specs.declared.wish.Wish.{Wish}
 use Rattle.tt_wishes_search.specs.Wished.{stays_kept}
-use Rattle.tt_wishes_best.specs.Kept.{IsLighter, IsNoWorse, IsNoWorseThan, breaks_in_all}
+use Rattle.tt_best.specs.Kept.{IsLighter, IsNoWorse, IsNoWorseThan, breaks_in_all}
 
 -- a wish that is kept stays kept
 kept_self : (a : Bool) → (not a || a) ≡ true

@@ -1,8 +1,8 @@
 use Rattle.std.proofs.Common.{◌≡◌, List, sym, subst}
 use Rattle.std.proofs.lemmas.Result.{IfOk-weaker}
 use Rattle.tt_instance.specs.declared.cell.Cell.{Cell}
-use Rattle.tt_wishes_best.specs.Kept.{IsNoWorseThan}
-use Rattle.tt_wishes_best.proofs.searching.begin.Goals as goal
+use Rattle.tt_best.specs.Kept.{IsNoWorseThan}
+use Rattle.tt_best.proofs.kept_searching.begin.Goals as goal
 
 pub returns-clause-no_worse : goal.returns-clause-no_worse
 returns-clause-no_worse g c =

@@ -1,6 +1,6 @@
 use Rattle.tt_best.specs.Weeks.{IsWeekOn}
-use Rattle.tt_wishes_best.specs.Kept.{IsNoWorseThan}
-use Rattle.tt_wishes_best.proofs.searching.find_best_kept.Given as goal
+use Rattle.tt_best.specs.Kept.{IsNoWorseThan}
+use Rattle.tt_best.proofs.kept_searching.find_best_kept.Given as goal
 
 abbrev pub invariant-loop-round : goal.invariant-loop-round
 invariant-loop-round g l = record {

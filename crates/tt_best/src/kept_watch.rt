@@ -1,13 +1,13 @@
 //! Watches of a search under wishes.
 
 use crate::wishing::Wishing;
-use tt_best::Week;
+use crate::week::Week;
 use tt_watch::{Unwatched, Watch};
 
 /// Watches a search in rounds under wishes, and may take its results on the way. Nothing is promised about when it is asked.
 pub trait WatchKept: Watch {
     ghost use Rattle.tt_best.specs.Weeks.{IsWeekOn};
-    ghost use Rattle.tt_wishes_best.specs.Kept.{IsNarrowing};
+    ghost use Rattle.tt_best.specs.Kept.{IsNarrowing};
 
     /// Sees that a round begins. The first one is round 1; `most` is the maximum number of rounds.
     fn see_round(&mut self, round: u64, most: u64);

@@ -2,9 +2,9 @@
 
 ghost use Rattle.std.specs.Prelude.{◌≡◌, ◌≤◌, IfOk, IfSome};
 ghost use Rattle.tt_table.specs.Table.{IsTimetable};
-ghost use Rattle.tt_wishes_best.specs.Kept.{IsNarrowing, IsNoWorse};
-ghost use Rattle.tt_wishes_best.specs.Solved.{IsSolvedUntil};
-ghost use Rattle.tt_wishes_best.specs.declared.limit.TheConstants.{MAX_KEPT};
+ghost use Rattle.tt_best.specs.Kept.{IsNarrowing, IsNoWorse};
+ghost use Rattle.tt_best.specs.Solved.{IsSolvedUntil};
+ghost use Rattle.tt_best.specs.declared.limit.TheConstants.{MAX_KEPT};
 
 use crate::comparing::better_of;
 use crate::trying::first_table;

@@ -3,12 +3,13 @@
 ghost use Rattle.std.specs.Prelude.{IfOk, IfSome};
 ghost use Rattle.tt_table.specs.Table.{IsTimetable};
 ghost use Rattle.tt_best.specs.Weeks.{IsWeekOn};
-ghost use Rattle.tt_wishes_best.specs.Kept.{IsNarrowing, IsNoWorse};
+ghost use Rattle.tt_best.specs.Kept.{IsNarrowing, IsNoWorse};
 
 use crate::comparing::better_of;
 use crate::wishing::Wishing;
 use std::alloc::{AllocError, Global};
-use tt_best::{Aiming, Week};
+use crate::watch::Aiming;
+use crate::week::Week;
 use tt_leaf::Bound;
 use tt_search::{Search, construct, improve};
 use tt_table::Timetable;

@@ -3,19 +3,19 @@
 ghost use Rattle.std.specs.Prelude.{IfOk, IfSome, ◌≡◌};
 ghost use Rattle.tt_table.specs.Table.{IsTimetable};
 ghost use Rattle.tt_best.specs.Weeks.{IsWeekOn};
-ghost use Rattle.tt_wishes_best.specs.Kept.{IsNarrowing, IsNoWorse, IsNoWorseThan};
+ghost use Rattle.tt_best.specs.Kept.{IsNarrowing, IsNoWorse, IsNoWorseThan};
 
-use crate::bounds::{is_over, keep_if_asked};
+use crate::kept_bounds::{is_over, keep_if_asked};
 use crate::comparing::{better_of, weigh};
 use crate::solving::{Solved, search_tree};
 use crate::trying::{first_table, improve_week};
-use crate::watch::WatchKept;
+use crate::kept_watch::WatchKept;
 use crate::wishing::Wishing;
 use std::alloc::{AllocError, Global};
-use tt_best::{
-    FIRST_NODES, Rounds, Start, Week, nodes_of, parts_of_tree, search_bounds, seed_of, steps_of,
-    tree_nodes,
-};
+use crate::searching::{FIRST_NODES, Rounds, nodes_of, seed_of, steps_of};
+use crate::start::{Start, parts_of_tree, tree_nodes};
+use crate::week::Week;
+use crate::bounds::search_bounds;
 use tt_parts::{Effort, Parts, add_up_or_best};
 use tt_search::Search;
 use tt_table::Timetable;

@@ -1,2 +1,0 @@
-pub mod Narrowing
-pub mod Worse
