@@ -1,5 +1,9 @@
+pub mod AnswersTold
 pub mod Certified
 pub mod Given
 pub mod GivenNames
 pub mod Improving
+pub mod Keeping
+pub mod Narrowings
+pub mod Refused
 pub mod Searching

@@ -3,7 +3,7 @@
 use std::alloc::{AllocError, Global};
 use std::io::Write;
 use tt_call_answers::{Answer, AppFault, UNNAMED};
-use tt_call_kept_searches::KeptFiles;
+use tt_call_searches::KeptFiles;
 use tt_call_texts::{PageTexts, ProvedTexts, kept_page, proved_page};
 use tt_cli_files::{Batch, Role};
 use tt_cli_progress::World;

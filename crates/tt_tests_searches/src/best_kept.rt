@@ -5,7 +5,7 @@ use crate::weeks::WEEK;
 use std::alloc::Global;
 use std::test::Fail;
 use tt_app::{BestAnswer, BestSearch, UNNAMED};
-use tt_call_kept_searches::{KeptFault, KeptFiles, best_kept};
+use tt_call_searches::{KeptFault, KeptFiles, best_kept};
 use tt_testing_samples::{MINI, MINI_SOLUTION};
 
 /// A number of questions that no search in this file reaches.

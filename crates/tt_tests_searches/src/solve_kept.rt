@@ -5,7 +5,7 @@ use crate::weeks::WEEK;
 use std::alloc::Global;
 use std::test::Fail;
 use tt_app::{Answer, TreeEffort, solve_kept};
-use tt_call_kept_searches::{KeptFault, KeptFiles};
+use tt_call_searches::{KeptFault, KeptFiles};
 
 /// A number of questions that no search in this file reaches.
 const PATIENT: u64 = u64::MAX;

@@ -1,4 +1,0 @@
-pub mod AnswersTold
-pub mod Keeping
-pub mod Narrowings
-pub mod Refused

@@ -1,3 +1,0 @@
-pub mod BestKept
-pub mod Inner
-pub mod SolvedKept
