@@ -4,8 +4,8 @@ use Rattle.tt_instance.specs.Problem.{Problem}
 use Rattle.tt_instance.specs.declared.cell.Cell.{Cell}
 use Rattle.tt_changes.specs.declared.change.Changes.{Changes}
 use Rattle.tt_page_text.specs.Labelled.{Labelled}
-use Rattle.tt_page_changes.specs.Changed.{changes_text}
-use Rattle.tt_page_changes.specs.Marks.{marks_text}
+use Rattle.tt_page_lists.specs.Changed.{changes_text}
+use Rattle.tt_page_lists.specs.Marks.{marks_text}
 use Rattle.tt_page_lists.specs.Lists.{hard_table, cost_table, lists_text}
 use Rattle.tt_page.specs.Heading.{head_text, header_text, legend_text}
 use Rattle.tt_page.specs.Proofs.{courses_of}

@@ -4,7 +4,7 @@ ghost use Rattle.std.specs.Prelude.{◌≡◌, ◌++◌};
 ghost use Rattle.tt_rules.specs.Score.{IsScore};
 ghost use Rattle.tt_changes.specs.Lists.{ChangesInRange};
 ghost use Rattle.tt_page_text.specs.Puts.{put_text};
-ghost use Rattle.tt_page_changes.specs.Marks.{marks_text};
+ghost use Rattle.tt_page_lists.specs.Marks.{marks_text};
 ghost use Rattle.tt_page.specs.Changed.{changed_head, changed_counts};
 ghost use Rattle.tt_page.specs.Proofs.{IsProvedOf};
 
@@ -12,8 +12,7 @@ use crate::heading::{BEFORE_TITLE, put_header, put_legend};
 use crate::proved::Proved;
 use tt_changes::Changes;
 use tt_instance::Instance;
-use tt_page_changes::{put_changes, put_marks};
-use tt_page_lists::{put_cost_table, put_hard_table, put_lists};
+use tt_page_lists::{put_changes, put_cost_table, put_hard_table, put_lists, put_marks};
 use tt_page_plan::{Plan, put_name};
 use tt_page_text::{Labels, Names, PageText, put_token};
 use tt_rules::Score;

@@ -1,6 +1,6 @@
-use Rattle.tt_page_changes.specs.Changed.{changes_text}
+use Rattle.tt_page_lists.specs.Changed.{changes_text}
 use Rattle.tt_page_text.proofs.Growing.{then_put}
-use Rattle.tt_page_changes.proofs.list.put_changes.Goals as goal
+use Rattle.tt_page_lists.proofs.list.put_changes.Goals as goal
 
 pub returns : goal.returns
 unfolding changes_text

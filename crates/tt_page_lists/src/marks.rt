@@ -3,7 +3,7 @@
 ghost use Rattle.std.specs.Prelude.{◌≡◌, All, flat_map};
 ghost use Rattle.tt_changes.specs.Lists.{ChangeInRange, ChangesInRange};
 ghost use Rattle.tt_page_text.specs.Puts.{put_text};
-ghost use Rattle.tt_page_changes.specs.Marks.{fixed_rules, selector, mark_rule, marks_text};
+ghost use Rattle.tt_page_lists.specs.Marks.{fixed_rules, selector, mark_rule, marks_text};
 
 use tt_changes::{Change, Changes};
 use tt_instance::Instance;

@@ -1,6 +1,6 @@
-use Rattle.tt_page_changes.specs.Marks.{mark_rule}
+use Rattle.tt_page_lists.specs.Marks.{mark_rule}
 use Rattle.tt_page_text.proofs.Growing.{then_put}
-use Rattle.tt_page_changes.proofs.marks.put_mark.Goals as goal
+use Rattle.tt_page_lists.proofs.marks.put_mark.Goals as goal
 
 pub returns : goal.returns
 unfolding mark_rule

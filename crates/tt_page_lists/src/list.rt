@@ -4,7 +4,7 @@ ghost use Rattle.std.specs.Prelude.{◌≡◌, All, flat_map, length};
 ghost use Rattle.tt_instance.specs.Cells.{InRange};
 ghost use Rattle.tt_changes.specs.Lists.{ChangeInRange, ChangesInRange};
 ghost use Rattle.tt_page_text.specs.Puts.{put_text};
-ghost use Rattle.tt_page_changes.specs.Changed.{older_place, newer_place, change_item, gone_item, added_item, change_items, is_unchanged, changes_head, changes_list, changes_text};
+ghost use Rattle.tt_page_lists.specs.Changed.{older_place, newer_place, change_item, gone_item, added_item, change_items, is_unchanged, changes_head, changes_list, changes_text};
 
 use tt_changes::{Change, Changes};
 use tt_instance::Instance;

@@ -1,7 +1,7 @@
 use Rattle.std.proofs.Common.{◌≡◌, false, sym, ◌∙◌}
-use Rattle.tt_page_changes.specs.Changed.{changes_list, is_unchanged}
+use Rattle.tt_page_lists.specs.Changed.{changes_list, is_unchanged}
 use Rattle.tt_page_text.proofs.Growing.{then_put}
-use Rattle.tt_page_changes.proofs.list.put_list.Goals as goal
+use Rattle.tt_page_lists.proofs.list.put_list.Goals as goal
 
 pub returns : goal.returns
 unfolding changes_list

@@ -1,6 +1,6 @@
-use Rattle.tt_page_changes.specs.Changed.{gone_item}
+use Rattle.tt_page_lists.specs.Changed.{gone_item}
 use Rattle.tt_page_text.proofs.Growing.{then_put}
-use Rattle.tt_page_changes.proofs.list.put_gone_one.Goals as goal
+use Rattle.tt_page_lists.proofs.list.put_gone_one.Goals as goal
 
 pub returns : goal.returns
 unfolding gone_item
