@@ -6,7 +6,7 @@ use crate::racing::{climbs_of, race};
 use crate::rents::rents_of;
 use std::alloc::{AllocError, Global};
 use tt_instance::Instance;
-use tt_parts_climb::{Climb, End};
+use crate::climb::{Climb, End};
 use tt_parts_drafts::{Aim, ONE, SCALE};
 use tt_parts_least::Allowance;
 use tt_parts_priced::Terms;

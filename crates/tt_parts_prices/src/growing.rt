@@ -2,7 +2,10 @@
 
 use std::alloc::AllocError;
 use std::mem;
-use tt_parts_climb::{Climb, Room, Size, Trial, list_candidates, try_change};
+use crate::climb::Climb;
+use crate::trial::{Room, Trial, try_change};
+use crate::size::Size;
+use crate::candidates::list_candidates;
 use tt_parts_drafts::{Aim, Group, SCALE};
 use tt_parts_least::Allowance;
 use tt_watch::Watch;
