@@ -1,1 +1,16 @@
+pub mod Asked
+pub mod Confined
+pub mod Contrary
+pub mod Earlier
 pub mod Halving
+pub mod Heeded
+pub mod Listed
+pub mod More
+pub mod OneLeft
+pub mod Ranked
+pub mod Recomputed
+pub mod Renewed
+pub mod Rows
+pub mod Settled
+pub mod Shelved
+pub mod Struck

@@ -6,7 +6,7 @@ ghost use Rattle.tt_path_trail.specs.Inner.Halves.{AreHalves};
 
 use std::alloc::AllocError;
 use tt_path::Fact;
-use tt_path_cells::Cells;
+use crate::cells::Cells;
 use tt_path_pins::Pins;
 
 /// Adds a fact to the cells and, if it is a yes-fact, to the pins; or to neither.

@@ -1,10 +1,19 @@
 //! Paths that answer from tables and undo changes by trails.
 #![tactic(auto)]
 
+mod added;
+mod adding;
+mod again;
 mod both;
+mod cells;
+mod listing;
+mod order;
+mod settling;
+mod shelves;
+mod tables;
 mod trail_path;
+mod watching;
 
+pub use cells::Cells;
 pub use trail_path::TrailPath;
-pub use tt_path::{
-    Cell, Fact, MAX_FACTS, Path, PathFault, Pattern, PlainPath, Who, is_none_or_equal,
-};
+pub use tt_path::{Cell, Fact, MAX_FACTS, Path, PathFault, Pattern, PlainPath, Who, is_none_or_equal};
