@@ -1,4 +1,0 @@
-mod Entries
-mod Lines
-mod Reading
-mod Sifted
