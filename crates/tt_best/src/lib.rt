@@ -1,4 +1,4 @@
-//! A search for the best timetable, together with proofs of a lower bound.
+//! Searches for the best timetable, also of those that keep wishes, together with proofs of a lower bound.
 #![tactic(auto)]
 
 mod bounds;
@@ -15,14 +15,12 @@ mod watch;
 mod week;
 mod wishing;
 
-pub use bounds::search_bounds;
 pub use kept_searching::find_best_kept;
 pub use kept_watch::WatchKept;
 pub use limit::MAX_KEPT;
-pub use searching::{FIRST_NODES, Rounds, find_best, nodes_of, seed_of, steps_of};
+pub use searching::{Rounds, find_best};
 pub use solving::{Solved, solve_kept};
-pub use start::{MOST_TREE_NODES, Start, parts_of_tree, tree_nodes};
-pub use crate::{Rounds, Start, Week};
-pub use watch::{Aiming, WatchRounds};
+pub use start::Start;
+pub use watch::WatchRounds;
 pub use week::Week;
 pub use wishing::Wishing;

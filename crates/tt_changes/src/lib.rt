@@ -1,4 +1,4 @@
-//! Which lectures moved from an older timetable to a newer one.
+//! Which lectures moved from an older timetable to a newer one, and solutions of an older instance without what doesn't fit.
 #![tactic(auto)]
 
 mod change;

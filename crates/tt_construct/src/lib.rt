@@ -1,4 +1,4 @@
-//! A first timetable of an instance.
+//! A first timetable of an instance, and the lectures that a timetable lacks.
 #![tactic(auto)]
 
 mod adding;

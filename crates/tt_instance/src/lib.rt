@@ -1,4 +1,4 @@
-//! Instances of curriculum-based course timetabling.
+//! Instances of curriculum-based course timetabling, with the curricula and the conflicts of each course.
 #![tactic(auto)]
 
 mod barred;

@@ -1,4 +1,5 @@
-//! Steps, and their changes of the score.
+//! Steps, their changes of the score, and descents: sequences of steps that each lower the pair of hard count and cost, until no such step
+//! is left.
 #![tactic(auto)]
 
 mod changing;
@@ -29,6 +30,5 @@ pub use cost::EntryCost;
 pub use descending::{Descent, descend, descend_in};
 pub use exchanging::Change;
 pub use pricing::{cost_change, entry_cost};
-pub use slot::next_room;
 pub use step::{Step, apply, can_step, undo};
 pub use within::{change_within, hard_change};

@@ -1,4 +1,5 @@
-//! A timetable with the counts of its entries and its score, which are updated with each change.
+//! A timetable with the counts of its entries and its score, which are updated with each change, and laws of what one entry adds to each
+//! count.
 #![tactic(auto)]
 
 mod counting;
@@ -20,11 +21,8 @@ mod weight;
 
 pub use isolation_change::IsolationChange;
 pub use laws::{exchanged_entries_change_by_weights, order_does_not_count};
-pub use links::Links;
-pub use marked::{Marked, put};
+pub use marked::put;
 pub use neighbour_counts::NeighbourCounts;
 pub use occupied::{Occupied, Refused};
-pub use spread::Spread;
 pub use tables::Tables;
-pub use week::Week;
 pub use weighing::one_if;

@@ -1,4 +1,5 @@
-//! Searches for prices between groups that share courses, and for rents of rooms.
+//! Searches for prices between groups that share courses, and for rents of rooms: steps that make prices better, and changes of groups that
+//! are tried at them.
 #![tactic(auto)]
 
 mod candidates;
@@ -16,12 +17,8 @@ mod rents_proof;
 mod size;
 mod trial;
 
-pub use candidates::list_candidates;
-pub use climb::{Climb, End};
 pub use finding::{PricesSearch, find_prices};
 pub use found::PricesFound;
-pub use limit::limits_of;
 pub use rents::{Rents, rents_of};
-pub use rents_proof::{RentsProof, find_rents};
+pub use rents_proof::find_rents;
 pub use size::{Size, is_too_much};
-pub use trial::{Room, Trial, try_change};

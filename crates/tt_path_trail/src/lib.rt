@@ -1,4 +1,4 @@
-//! Paths that answer from tables and undo changes by trails.
+//! Paths that answer from tables of live cells and of pinned days, and undo each fact by trails.
 #![tactic(auto)]
 
 mod added;
@@ -14,6 +14,5 @@ mod tables;
 mod trail_path;
 mod watching;
 
-pub use cells::Cells;
 pub use trail_path::TrailPath;
 pub use tt_path::{Cell, Fact, MAX_FACTS, Path, PathFault, Pattern, PlainPath, Who, is_none_or_equal};
