@@ -7,10 +7,9 @@ pub use tt_call_changes::{
 };
 pub use tt_call_checks::{bound, check, check_sum, sum, upgrade, validate};
 pub use tt_call_kept::{KeptFault, KeptFiles, check_kept, sum_kept};
-pub use tt_call_searches::{best_kept, solve_kept};
 pub use tt_call_searches::{
     BestAnswer, BestSearch, Effort, ImproveSearch, PartsAnswer, TreeEffort, WatchBest, best,
-    improve, parts, solve,
+    best_kept, improve, parts, solve, solve_kept,
 };
 pub use tt_call_texts::{
     PageForm, PageTexts, ProvedTexts, WeekTimes, calendar, inspect, inspect_json, kept_page, page,

@@ -6,8 +6,8 @@ ghost use Rattle.tt_best.specs.Kept.{IsNarrowing};
 
 use crate::comparing::weigh;
 use crate::kept_watch::WatchKept;
-use crate::wishing::Wishing;
 use crate::week::Week;
+use crate::wishing::Wishing;
 use tt_leaf::Bound;
 use tt_table::Timetable;
 use tt_watch::Watch;

@@ -1,7 +1,7 @@
 //! Watches of a search under wishes.
 
-use crate::wishing::Wishing;
 use crate::week::Week;
+use crate::wishing::Wishing;
 use tt_watch::{Unwatched, Watch};
 
 /// Watches a search in rounds under wishes, and may take its results on the way. Nothing is promised about when it is asked.

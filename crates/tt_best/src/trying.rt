@@ -6,10 +6,10 @@ ghost use Rattle.tt_best.specs.Weeks.{IsWeekOn};
 ghost use Rattle.tt_best.specs.Kept.{IsNarrowing, IsNoWorse};
 
 use crate::comparing::better_of;
-use crate::wishing::Wishing;
-use std::alloc::{AllocError, Global};
 use crate::watch::Aiming;
 use crate::week::Week;
+use crate::wishing::Wishing;
+use std::alloc::{AllocError, Global};
 use tt_leaf::Bound;
 use tt_search::{Search, construct, improve};
 use tt_table::Timetable;

@@ -2,6 +2,7 @@
 
 use std::alloc::AllocError;
 use thiserror::Error;
+use tt_construct::CompleteFault;
 use tt_instance_read::InstanceFault;
 use tt_page::PageFault;
 use tt_page_text::LabelsFault;
@@ -9,9 +10,8 @@ use tt_proof_check::{CertifyFault, CheckFault};
 use tt_proof_sum::{FileFault, SumStop};
 use tt_proof_upgrade::UpgradeFault;
 use tt_report_export::TermFault;
-use tt_construct::CompleteFault;
-use tt_text::{Stop, WriteFailed};
 use tt_table::SolutionFault;
+use tt_text::{Stop, WriteFailed};
 
 /// The reason why a call was refused.
 #[derive(Clone, Copy, Debug, PartialEq, Eq, Error)]

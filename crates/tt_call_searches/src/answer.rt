@@ -13,9 +13,10 @@ ghost use Rattle.tt_call_searches.specs.Best.{ShowsPage};
 ghost use Rattle.tt_call_searches.specs.BestKept.{BreaksNothing, IsBestKeptFound, IsBestKeptOf, IsNoneKept};
 ghost use Rattle.tt_call_kept.specs.Kept.{kept_line};
 
-use std::alloc::{AllocError, Global};
-use tt_call_checks::put_count;
 use crate::calls::best::{BestAnswer, found_line, missing_line, page_of};
+use std::alloc::{AllocError, Global};
+use tt_best::{Week, Wishing};
+use tt_call_checks::put_count;
 use tt_instance::Instance;
 use tt_leaf::Bound;
 use tt_page::{Look, Proved};
@@ -23,7 +24,6 @@ use tt_parts::{Parts, copy_texts};
 use tt_rules::score;
 use tt_table::{Timetable, write_solution};
 use tt_wishes::{Wish, broken_wishes};
-use tt_best::{Week, Wishing};
 
 /// Writes the line of the number of wishes.
 pub fn put_wishes(out: &mut Vec<u8>, wishes: &[Wish]) -> Result<(), AllocError>

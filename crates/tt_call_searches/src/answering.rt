@@ -1,12 +1,12 @@
 //! The answers on the way.
 
 use crate::answer::answer_of;
-use std::alloc::Global;
 use crate::calls::best::WatchBest;
+use std::alloc::Global;
+use tt_best::{WatchKept, Week, Wishing};
 use tt_page::Look;
 use tt_table::Entry;
 use tt_watch::{Progress, Watch};
-use tt_best::{WatchKept, Week, Wishing};
 
 /// Gives the results on the way to a watch as answers.
 pub struct Answering<'w, W: WatchBest> {

@@ -6,13 +6,13 @@ ghost use Rattle.tt_call_searches.specs.BestKept.{IsBestKept, IsBestKeptRefusal}
 
 use crate::answer::answer_of;
 use crate::answering::Answering;
+use crate::calls::best::{BestAnswer, BestSearch, WatchBest};
 use crate::reading::{Read, read_kept, read_labels, read_start};
 use std::alloc::Global;
+use tt_best::{Rounds, Start, Wishing, find_best_kept};
 use tt_call_answers::PageNames;
 use tt_call_kept::{KeptFault, KeptFiles};
-use crate::calls::best::{BestAnswer, BestSearch, WatchBest};
 use tt_page::Look;
-use tt_best::{Rounds, Start, Wishing, find_best_kept};
 
 /// Searches for a best timetable that keeps wishes, and for proofs of a lower bound for those that do, in rounds, until they meet or the watch ends
 /// the search. It starts from a solution and from proofs of an earlier search, if there are any. The page that shows the results has names and a

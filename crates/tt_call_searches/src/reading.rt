@@ -7,10 +7,10 @@ ghost use Rattle.tt_call_kept.specs.Kept.{IsFileRefusal};
 ghost use Rattle.tt_call_searches.specs.Given.{IsGiven};
 ghost use Rattle.tt_call_searches.specs.Inner.Steps.{IsRead, IsStartFault, IsNamesFault};
 
+use crate::calls::given::read_given;
 use std::alloc::Global;
 use tt_call_answers::{AppFault, PageNames, labels_for};
 use tt_call_kept::{KeptFault, KeptFiles};
-use crate::calls::given::read_given;
 use tt_instance::Instance;
 use tt_instance_read::read_instance;
 use tt_page_text::Labels;

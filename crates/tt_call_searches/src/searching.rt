@@ -7,13 +7,13 @@ ghost use Rattle.tt_best.specs.declared.limit.TheConstants.{MAX_KEPT};
 ghost use Rattle.tt_call_searches.specs.Inner.Stops.{IsStop};
 ghost use Rattle.tt_call_searches.specs.SolvedKept.{IsSolvedKeptOf};
 
+use crate::calls::solve::{TreeEffort, least_text};
 use crate::solve_answer::answer_of;
 use std::alloc::Global;
+use tt_best::{MAX_KEPT, Wishing, solve_kept};
 use tt_call_answers::{Answer, AppFault};
 use tt_call_kept::KeptFault;
-use crate::calls::solve::{TreeEffort, least_text};
 use tt_watch::Watch;
-use tt_best::{MAX_KEPT, Wishing, solve_kept};
 
 /// Searches by a tree under wishes, and returns the answer.
 pub fn search_kept<W: Watch>(

@@ -7,12 +7,12 @@ ghost use Rattle.tt_call_kept.specs.Kept.{kept_line};
 ghost use Rattle.tt_call_searches.specs.SolvedKept.{IsKeptTable, IsShown};
 
 use crate::answer::{breaks_nothing, put_wishes};
-use std::alloc::{AllocError, Global};
-use tt_call_answers::Answer;
 use crate::calls::solve::line_of;
+use std::alloc::{AllocError, Global};
+use tt_best::{Solved, Wishing};
+use tt_call_answers::Answer;
 use tt_leaf::Bound;
 use tt_table::{Timetable, write_solution};
-use tt_best::{Solved, Wishing};
 
 /// The end of a search by a tree: its bound, and whether each node is closed.
 #[derive(Clone, Copy, Debug)]

@@ -5,14 +5,14 @@ ghost use Rattle.tt_branch.specs.declared.limit.TheConstants.{MAX_OPENED};
 ghost use Rattle.tt_best.specs.declared.limit.TheConstants.{MAX_KEPT};
 ghost use Rattle.tt_call_searches.specs.SolvedKept.{IsSolvedKept, IsSolveKeptRefusal};
 
+use crate::calls::solve::TreeEffort;
 use crate::reading::{Read, read_kept};
 use crate::searching::search_kept;
 use std::alloc::Global;
+use tt_best::Wishing;
 use tt_call_answers::Answer;
 use tt_call_kept::{KeptFault, KeptFiles};
-use crate::calls::solve::TreeEffort;
 use tt_watch::Watch;
-use tt_best::Wishing;
 
 /// Searches by a tree for a best timetable that keeps wishes, and returns it with a proof of a lower bound for those that do. If it found none that
 /// breaks neither a hard rule nor a wish, it returns one that breaks some, and the status is 1. The watch may end the search of the tree. Nothing is

@@ -3,8 +3,8 @@
 use crate::fault::ValidateFault;
 use std::alloc::AllocError;
 use thiserror::Error;
-use tt_instance_read::InstanceFault;
 use tt_construct::CompleteFault;
+use tt_instance_read::InstanceFault;
 use tt_table::SolutionFault;
 use tt_wishes::WishesFault;
 

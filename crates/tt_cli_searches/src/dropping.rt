@@ -3,9 +3,9 @@
 use std::alloc::Global;
 use std::io::Write;
 use tt_call_answers::AppFault;
+use tt_changes::{drop_misfits, write_left_out};
 use tt_cli_progress::ShownLines;
 use tt_instance_read::read_instance;
-use tt_changes::{drop_misfits, write_left_out};
 
 /// Returns the text of a solution without the entries for which an instance has no place, and lists these on standard error. A failed write
 /// has no effect.

@@ -11,8 +11,8 @@ ghost use Rattle.tt_construct.specs.Suiting.{AreSuited};
 use crate::suiting::best_entry;
 use std::alloc::AllocError;
 use tt_instance::Instance;
-use tt_table::Timetable;
 use tt_occupancy::Tables;
+use tt_table::Timetable;
 
 /// Adds lectures of a course at the places that suit it best, in turn.
 pub fn add_lectures(

@@ -14,8 +14,8 @@ use crate::fault::CompleteFault;
 use crate::missing::{count_missing, missing_at};
 use std::alloc::{AllocError, Global};
 use tt_instance::{Instance, MAX_LECTURES};
-use tt_table::{MAX_ENTRIES, Timetable};
 use tt_occupancy::Tables;
+use tt_table::{MAX_ENTRIES, Timetable};
 
 /// The maximum number of entries of a timetable that is completed: all lectures of an instance may be missing.
 pub const MOST_ENTRIES: usize = MAX_ENTRIES - MAX_LECTURES as usize;

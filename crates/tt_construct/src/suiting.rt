@@ -8,8 +8,8 @@ ghost use Rattle.tt_construct.specs.Inner.Places.{IsOpen, clashes_in, IsBest};
 ghost use Rattle.tt_construct.specs.Suiting.{Suits};
 
 use tt_instance::Instance;
-use tt_table::Entry;
 use tt_occupancy::Tables;
+use tt_table::Entry;
 
 /// The number of conflicts for which a period counts if the course is unavailable in it.
 pub const UNAVAILABLE: u32 = 1_000;

@@ -14,9 +14,16 @@ mod rows;
 pub use barred::{is_barred, mark_place};
 pub use cell::{Cell, Slot};
 pub use instance::Instance;
-pub use limit::{ISOLATED_COST, MAX_CELLS, MAX_COURSES, MAX_CURRICULA, MAX_DAYS, MAX_LECTURES, MAX_MEMBERS, MAX_MIN_DAYS, MAX_PERIODS, MAX_ROOMS, MAX_SEATS, MAX_SLOTS, MAX_UNAVAILABILITIES, MISSING_DAY_COST};
+pub use limit::{
+    ISOLATED_COST, MAX_CELLS, MAX_COURSES, MAX_CURRICULA, MAX_DAYS, MAX_LECTURES, MAX_MEMBERS,
+    MAX_MIN_DAYS, MAX_PERIODS, MAX_ROOMS, MAX_SEATS, MAX_SLOTS, MAX_UNAVAILABILITIES,
+    MISSING_DAY_COST,
+};
 pub use links::{Conflicts, Curricula};
 pub use marks::Marks;
 pub use name_list::NameList;
 pub use parts::Parts;
-pub use rows::{CourseList, CourseRow, CurriculumRow, MemberList, RoomRow, UnavailabilityList, UnavailabilityRow};
+pub use rows::{
+    CourseList, CourseRow, CurriculumRow, MemberList, RoomRow, UnavailabilityList,
+    UnavailabilityRow,
+};

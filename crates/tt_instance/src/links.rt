@@ -3,9 +3,9 @@
 ghost use Rattle.std.specs.Prelude.{◌≡◌, ◌<◌, [], length, slice_index_or, IfOk};
 ghost use Rattle.tt_instance.specs.Inner.Links.{curricula_of, conflicts_of};
 
+use crate::instance::Instance;
 use std::alloc::{AllocError, Global};
 use std::marker::Model;
-use crate::instance::Instance;
 
 /// Numbers in ascending order.
 #[derive(Drop)]

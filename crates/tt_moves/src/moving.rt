@@ -4,10 +4,10 @@ ghost use Rattle.std.specs.Prelude.{◌<◌, length, OnOk, OnErr};
 ghost use Rattle.tt_moves.specs.Inner.Scan.{IsScan, IsSpent, NoMoveOn, NoMoveTo, NoMoveOf, NoMove};
 
 use crate::resting::is_at_rest;
+use crate::slot::next_room;
+use crate::step::Step;
 use crate::trying::{Spent, try_step};
 use tt_instance::Slot;
-use crate::step::Step;
-use crate::slot::next_room;
 use tt_occupancy::Occupied;
 
 /// Tries the Moves of an entry to a slot, and makes each that lowers the pair.

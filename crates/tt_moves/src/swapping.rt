@@ -4,8 +4,8 @@ ghost use Rattle.std.specs.Prelude.{◌<◌, length, OnOk, OnErr};
 ghost use Rattle.tt_moves.specs.Inner.Scan.{IsScan, IsSpent, NoSwapBefore, NoSwapBy, NoSwapOf, NoSwap};
 
 use crate::resting::is_at_rest;
-use crate::trying::{Spent, try_step};
 use crate::step::Step;
+use crate::trying::{Spent, try_step};
 use tt_occupancy::Occupied;
 
 /// Tries the Swaps of an entry with each before it, and makes each that lowers the pair.

@@ -4,8 +4,8 @@ ghost use Rattle.std.specs.Prelude.{OnOk, OnErr};
 ghost use Rattle.tt_moves.specs.Steps.{CanStep};
 ghost use Rattle.tt_moves.specs.Inner.Scan.{Lowers, IsScan, IsSpent};
 
-use crate::step::{Step, apply};
 use crate::changing::lowers;
+use crate::step::{Step, apply};
 use tt_occupancy::Occupied;
 
 /// A step lowers the pair, but no more may be made.

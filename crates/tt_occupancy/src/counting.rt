@@ -6,10 +6,10 @@ ghost use Rattle.tt_table.specs.Table.{IsTimetable};
 ghost use Rattle.tt_table.specs.declared.table.TheConstants.{MAX_ENTRIES};
 ghost use Rattle.tt_occupancy.specs.Inner.Tables.{AreTables};
 
+use crate::tables::Tables;
 use std::alloc::{AllocError, Global};
 use tt_instance::Instance;
 use tt_table::Entry;
-use crate::tables::Tables;
 
 /// Returns the tables of the entries.
 pub fn tables_of(

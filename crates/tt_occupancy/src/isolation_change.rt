@@ -10,8 +10,8 @@ ghost use Rattle.tt_occupancy.specs.Inner.NeighbourCounts.{AreNeighbourCounts, I
 ghost use Rattle.tt_instance.specs.declared.limit.TheConstants.{MAX_CURRICULA};
 
 use crate::neighbour_counts::NeighbourCounts;
-use crate::weighing::one_if;
 use crate::week::Week;
+use crate::weighing::one_if;
 
 /// The changes that an entry would make to the isolated entries of its curricula.
 #[derive(Clone, Copy)]

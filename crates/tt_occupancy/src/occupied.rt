@@ -9,12 +9,12 @@ ghost use Rattle.tt_occupancy.specs.Filled.{Filled, entry_at, moved, swapped};
 
 use crate::counting::tables_of;
 use crate::recounting::recount;
+use crate::tables::Tables;
 use std::alloc::Global;
 use std::marker::Model;
 use tt_instance::Instance;
 use tt_rules::Score;
 use tt_table::{Entry, Timetable};
-use crate::tables::Tables;
 
 /// A timetable for whose tables memory ran out.
 #[derive(Drop)]

@@ -6,11 +6,11 @@ ghost use Rattle.tt_instance.specs.declared.cell.Cell.{Cell};
 ghost use Rattle.tt_occupancy.specs.Inner.Counted.{IsCounted};
 
 use crate::rescoring::rescored;
+use crate::tables::Tables;
 use crate::weighing::weigh;
 use tt_instance::Instance;
 use tt_rules::Score;
 use tt_table::Entry;
-use crate::tables::Tables;
 
 /// Updates the tables for an entry that is replaced by another of its course, and returns the new score.
 pub fn recount(

@@ -9,10 +9,10 @@ ghost use Rattle.tt_occupancy.specs.Inner.Tables.{AreTables};
 ghost use Rattle.tt_occupancy.specs.Inner.Weights.{IsWeight};
 
 use crate::isolation_change::isolation_change_at;
+use crate::tables::Tables;
 use crate::weight::Weight;
 use tt_instance::{Instance, MISSING_DAY_COST};
 use tt_table::Entry;
-use crate::tables::Tables;
 
 /// Returns 1 if the test passes, else 0.
 pub fn one_if(test: bool) -> u32

@@ -1,7 +1,7 @@
 //! A climb: prices of groups and rents of rooms that get better step by step.
 
-use crate::pace::{Pace, Turn};
 use crate::climbing_rents::Rents;
+use crate::pace::{Pace, Turn};
 use rand_core::{Rng, SeedableRng};
 use rand_pcg::Pcg32;
 use std::alloc::AllocError;

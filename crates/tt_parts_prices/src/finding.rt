@@ -1,12 +1,12 @@
 //! The search for prices.
 
+use crate::climb::{Climb, End};
 use crate::found::{PricesFound, found_by};
 use crate::growing::grow_groups;
 use crate::racing::{climbs_of, race};
 use crate::rents::rents_of;
 use std::alloc::{AllocError, Global};
 use tt_instance::Instance;
-use crate::climb::{Climb, End};
 use tt_parts_drafts::{Aim, ONE, SCALE};
 use tt_parts_least::Allowance;
 use tt_parts_priced::Terms;

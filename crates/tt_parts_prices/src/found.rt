@@ -3,8 +3,8 @@
 ghost use Rattle.std.specs.Prelude.{All, IfOk, OnOk};
 ghost use Rattle.tt_prices.specs.Limits.{IsPrice};
 
-use std::alloc::{AllocError, Global};
 use crate::climb::Climb;
+use std::alloc::{AllocError, Global};
 use tt_parts_drafts::{Aim, Group, SCALE, points};
 use tt_prices::{MAX_PRICE, PriceRow, PricedGroup};
 use tt_prices_read::Rent;

@@ -1,11 +1,11 @@
 //! Groups that grow where that gains something at once.
 
+use crate::candidates::list_candidates;
+use crate::climb::Climb;
+use crate::size::Size;
+use crate::trial::{Room, Trial, try_change};
 use std::alloc::AllocError;
 use std::mem;
-use crate::climb::Climb;
-use crate::trial::{Room, Trial, try_change};
-use crate::size::Size;
-use crate::candidates::list_candidates;
 use tt_parts_drafts::{Aim, Group, SCALE};
 use tt_parts_least::Allowance;
 use tt_watch::Watch;

@@ -1,9 +1,9 @@
 //! The ways to make groups, and the race between them.
 
-use std::alloc::AllocError;
 use crate::climb::{Climb, End};
-use crate::size::{Size, is_too_much};
 use crate::limit::limits_of;
+use crate::size::{Size, is_too_much};
+use std::alloc::AllocError;
 use tt_parts_drafts::{Aim, Draft, Group, count_lectures, give_days, join_curricula, widen};
 use tt_parts_least::Allowance;
 use tt_parts_priced::Program;

@@ -109,7 +109,7 @@ module _ (p : Problem) (free : List ℕ) (g : Pattern) where
   one_more ks i h k =
       ap (λ l. is_left_in p free g l k) (take_more ks i 0 h)
       ∙ ap (λ b. is_allowed p g k && b) (list_any-append (is_left_to p free g (k / p.periods) (k % p.periods)) (take i ks)
-          (slice_index_or ks i 0 ∷ []))
+      (slice_index_or ks i 0 ∷ []))
       ∙ over_or (is_allowed p g k) (is_left p free g (k / p.periods) (k % p.periods) (take i ks))
       (is_left p free g (k / p.periods) (k % p.periods) (slice_index_or ks i 0 ∷ []))
 
@@ -149,8 +149,13 @@ module _ (p : Problem) (free : List ℕ) (g : Pattern) (c : ℕ) (from to : ℕ)
           let x : Cell = cell c m.0 (slot d s) in
           let there = and_parts (has_cell p free x) (agrees g.room m.0) m.2 in
           both_ways (has_cell p free x)
-          (gone x (record { course = inside; room = below_member (length p.rooms) m.0 m.1; day = day some; period = period
-              some }) refl) there.0)
+          (gone x (record {
+            course = inside;
+            room = below_member (length p.rooms) m.0 m.1;
+            day = day some;
+            period = period
+                some;
+          }) refl) there.0)
         where
           d : ℕ
           d = k / p.periods

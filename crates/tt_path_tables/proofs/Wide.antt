@@ -84,7 +84,7 @@ module _ (p : Problem) (old : List ℕ) (t : IsTable p old) where
     all_kept : (x : Cell) → InRange p x → is_kept p new x ≡ true
     all_kept x k =
         and_from (is_set p new (bit_on x.day p.periods x)) (is_set p new (bit_on p.days x.period x)
-            && is_set p new (bit_on p.days p.periods x))
+        && is_set p new (bit_on p.days p.periods x))
         (full x k x.day p.periods (omega (arith, k.day)) (omega arith)
         (or_right (x.day == p.days) (p.periods == p.periods) (eq-eqb p.periods p.periods refl)))
         (and_from (is_set p new (bit_on p.days x.period x)) (is_set p new (bit_on p.days p.periods x))
@@ -106,7 +106,7 @@ module _ (p : Problem) (old : List ℕ) (t : IsTable p old) where
           let zero_there = eqb-true (slice_index_or old (size p) 0) 0 plain in
           ap (λ w. not (w == 1) && is_set p new (bit_of x) && ((w == 0) || is_kept p new x)) state
           ∙ ap (λ v. v && is_kept p new x) (same_set (bit_of x)
-              (wide_within p x k x.day x.period (omega (arith, k.day)) (omega (arith, k.period))))
+          (wide_within p x k x.day x.period (omega (arith, k.day)) (omega (arith, k.period))))
           ∙ ap (λ v. is_set p old (bit_of x) && v) (all_kept x k)
           ∙ sym (ap (λ w. not (w == 1) && is_set p old (bit_of x) && ((w == 0) || is_kept p old x)) zero_there);
     }
@@ -128,13 +128,13 @@ module _ (p : Problem) (mid new : List ℕ) (c d s : ℕ) (room : Option ℕ) (t
   other_day : (x : Cell) (i j : ℕ) → (i ≡ d → ⊥) → gone (bit_on i j x) ≡ false
   other_day x i j apart =
       ap (λ v. (((x.course == c) && v) && (j == s)) && nat_lt (x.room / 64) (width p)
-          && agrees room (room_of (bit_on i j x))) (ne_eqb i d apart)
+      && agrees room (room_of (bit_on i j x))) (ne_eqb i d apart)
       ∙ no_day (x.course == c) (j == s) (nat_lt (x.room / 64) (width p)) (agrees room (room_of (bit_on i j x)))
 
   other_period : (x : Cell) (i j : ℕ) → (j ≡ s → ⊥) → gone (bit_on i j x) ≡ false
   other_period x i j apart =
       ap (λ v. (((x.course == c) && (i == d)) && v) && nat_lt (x.room / 64) (width p)
-          && agrees room (room_of (bit_on i j x))) (ne_eqb j s apart)
+      && agrees room (room_of (bit_on i j x))) (ne_eqb j s apart)
       ∙ no_period ((x.course == c) && (i == d)) (nat_lt (x.room / 64) (width p)) (agrees room (room_of (bit_on i j x)))
 
   kept_bit : (x : Cell) → InRange p x → (i j : ℕ) → i < p.days + 1 → j < p.periods + 1 → gone (bit_on i j x) ≡ false
@@ -163,7 +163,7 @@ module _ (p : Problem) (mid new : List ℕ) (c d s : ℕ) (room : Option ℕ) (t
       (λ x k.
       ap (λ v. v && (is_set p new (bit_on p.days x.period x) && is_set p new (bit_on p.days p.periods x)))
       (kept_bit x k x.day p.periods (omega (arith, k.day)) (omega arith)
-          (other_day x x.day p.periods (λ e. let l = k.day in omega (arith, e, ed))))
+      (other_day x x.day p.periods (λ e. let l = k.day in omega (arith, e, ed))))
       ∙ ap (λ v. is_set p mid (bit_on x.day p.periods x) && (v && is_set p new (bit_on p.days p.periods x)))
       (kept_bit x k p.days x.period (omega arith) (omega (arith, k.period))
       (other_period x p.days x.period (λ e. let l = k.period in omega (arith, e, es))))
@@ -179,7 +179,7 @@ module _ (p : Problem) (mid new : List ℕ) (c d s : ℕ) (room : Option ℕ) (t
       (last_not (is_set p mid (bit_on p.days x.period x)) (is_set p mid (bit_on p.days p.periods x))
       ((x.course == c) && ((agrees room x.room && true) && true)))
       ∙ last_not (is_set p mid (bit_on x.day p.periods x)) (is_set p mid (bit_on p.days x.period x)
-          && is_set p mid (bit_on p.days p.periods x))
+      && is_set p mid (bit_on p.days p.periods x))
       ((x.course == c) && ((agrees room x.room && true) && true)))
 
   -- from a day
@@ -213,16 +213,16 @@ module _ (p : Problem) (mid new : List ℕ) (c d s : ℕ) (room : Option ℕ) (t
       ∙ ap (λ v. own && (is_set p new (bit_on p.days x.period x) && v))
       (kept_bit x k p.days p.periods (omega arith) (omega arith) (other_period x p.days p.periods (λ e. omega (arith, e, hs))))
       ∙ ap (λ v. own && (v && last)) (a.bits (bit_on p.days x.period x)
-          (wide_within p x k p.days x.period (omega arith) (omega (arith, k.period))))
+      (wide_within p x k p.days x.period (omega arith) (omega (arith, k.period))))
       ∙ ap (λ v. own && ((is_set p mid (bit_on p.days x.period x) && not v) && last))
       (hit x k p.days x.period
       ∙ ap (λ v. ((x.course == c) && v) && (x.period == s) && agrees room x.room) (eq-eqb p.days d (sym ed))
       ∙ ap (λ v. ((x.course == c) && true) && v && agrees room x.room) (same_test x.period s s x.period sym sym)
       ∙ period_order (x.course == c) (s == x.period) (agrees room x.room))
       ∙ ap (λ v. own && v) (first_not (is_set p mid (bit_on p.days x.period x)) last
-          ((x.course == c) && ((agrees room x.room && true) && (s == x.period))))
+      ((x.course == c) && ((agrees room x.room && true) && (s == x.period))))
       ∙ last_not own (is_set p mid (bit_on p.days x.period x) && last)
-          ((x.course == c) && ((agrees room x.room && true) && (s == x.period))))
+      ((x.course == c) && ((agrees room x.room && true) && (s == x.period))))
 
 -- the cells of a course that agree with a pattern which gives no day or no period
 module _ (p : Problem) (old mid new : List ℕ) (c d s : ℕ) (w : Widens p old mid) where

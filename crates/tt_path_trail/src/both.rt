@@ -4,9 +4,9 @@ ghost use Rattle.std.specs.Prelude.{◌≡◌, ◌<◌, [], ◌∷◌, ◌++◌,
 ghost use Rattle.tt_path.specs.declared.path.TheConstants.{MAX_FACTS};
 ghost use Rattle.tt_path_trail.specs.Inner.Halves.{AreHalves};
 
+use crate::cells::Cells;
 use std::alloc::AllocError;
 use tt_path::Fact;
-use crate::cells::Cells;
 use tt_path_pins::Pins;
 
 /// Adds a fact to the cells and, if it is a yes-fact, to the pins; or to neither.

@@ -15,4 +15,6 @@ mod trail_path;
 mod watching;
 
 pub use trail_path::TrailPath;
-pub use tt_path::{Cell, Fact, MAX_FACTS, Path, PathFault, Pattern, PlainPath, Who, is_none_or_equal};
+pub use tt_path::{
+    Cell, Fact, MAX_FACTS, Path, PathFault, Pattern, PlainPath, Who, is_none_or_equal,
+};

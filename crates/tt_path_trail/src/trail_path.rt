@@ -3,11 +3,11 @@
 ghost use Rattle.std.specs.Prelude.{◌≡◌};
 
 use crate::both::{pop_both, push_both};
+use crate::cells::Cells;
 use std::alloc::{AllocError, Global};
 use std::marker::Model;
 use tt_instance::Instance;
 use tt_path::{Cell, Fact, MAX_FACTS, Path, PathFault, Pattern, Who};
-use crate::cells::Cells;
 use tt_path_pins::Pins;
 
 /// The facts with tables of the live cells and of the pinned periods and rooms, which only yes-facts change. Only `has` may

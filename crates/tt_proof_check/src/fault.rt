@@ -9,8 +9,8 @@ use tt_instance_read::InstanceFault;
 use tt_leaf_rules::RuleFault;
 use tt_proof_read::TextFault;
 use tt_rules::Score;
-use tt_text::{FeedFault, Stop};
 use tt_table::SolutionFault;
+use tt_text::{FeedFault, Stop};
 
 /// Why a proof is refused. Nodes are numbered from 0 in the order of the file.
 #[derive(Clone, Copy, Debug, PartialEq, Eq, Error)]

@@ -21,8 +21,8 @@ use tt_instance::Instance;
 use tt_instance_read::read_instance;
 use tt_leaf::Bound;
 use tt_rules::score;
-use tt_text::{Source, Stop};
 use tt_table::{Timetable, read_solution};
+use tt_text::{Source, Stop};
 
 /// Returns the bound of a proof, if some timetable breaks no hard rule: so the bound is a number.
 fn proved_bound<R: Source>(

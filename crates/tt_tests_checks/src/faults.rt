@@ -11,8 +11,8 @@ use tt_proof_read::{TextFault, Word as ProofWord};
 use tt_proof_sum::{ClaimedTarget, FileFault};
 use tt_proof_upgrade::UpgradeFault;
 use tt_proof_write::WriteFault;
-use tt_text::{FeedFault, Stop};
 use tt_table::{PushFault, SolutionFault};
+use tt_text::{FeedFault, Stop};
 
 #[test]
 fn of_instances(rt: HostRuntime) -> Result<(), Fail> {

@@ -9,8 +9,8 @@ use tt_proof_check::{NodesFault, check_nodes};
 use tt_proof_read::Node;
 use tt_proof_upgrade::parse_proof;
 use tt_proof_write::write_proof;
-use tt_text::{Pieces, Stop};
 use tt_testing_samples::{GAP, GAP_PROOF, MINI};
+use tt_text::{Pieces, Stop};
 
 #[test]
 fn a_proof_is_read_checked_and_written(rt: HostRuntime) -> Result<(), Fail> {

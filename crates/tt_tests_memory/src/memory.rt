@@ -19,8 +19,8 @@ use tt_proof_check::{NodesFault, Verdict, certify, check_nodes, check_proof};
 use tt_proof_read::Node;
 use tt_proof_upgrade::parse_proof;
 use tt_report::By;
-use tt_text::{Pieces, Stop, Writing};
 use tt_testing_samples::{GAP, GAP_PROOF, MARK, MINI, MINI_SOLUTION};
+use tt_text::{Pieces, Stop, Writing};
 use tt_watch::Unwatched;
 
 const YES: &str = "yes cost 5 bound 5 optimal\n";

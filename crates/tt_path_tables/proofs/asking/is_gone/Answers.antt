@@ -23,7 +23,7 @@ loop-block-preserved c = λ w k lt h.
     let word : found ≡ word_at p words a.course p.days p.periods n =
     c.word-in-loop-block.ensures ∙ ap (λ i. slice_index_or words i 0) (c.place.ensures.value
     ∙ ap (λ d. place p a.course d c.periods.result + n) c.days.ensures.value
-        ∙ ap (λ s. place p a.course p.days s + n) c.periods.ensures.value) in
+    ∙ ap (λ s. place p a.course p.days s + n) c.periods.ensures.value) in
     elim (cases_lt w n) [
       | inl l ↦ c.loop-block.invariant w k l h
       | inr l ↦

@@ -31,5 +31,5 @@ returns c =
 pub overflow_mul-index-end : goal.overflow_mul-index-end
 overflow_mul-index-end c =
     Fits-below {n = most_words} tt (words_bounded c.courses.result c.days.result c.periods.result c.width-width.result
-        c.courses.ensures.within
+    c.courses.ensures.within
     c.days.ensures.within c.periods.ensures.within c.width-width.ensures.within)

@@ -36,5 +36,5 @@ returns-then-end-from c =
     let g = a.demand.now.pattern.now in
     let ks = a.demand.now.courses.now in
     ended (is_left_in p free g (take c.loop-course.course-index ks)) (is_left_in p free g ks) a.from a.to c.loop-course.first
-        c.loop-course.invariant
+    c.loop-course.invariant
     (sym c.unwrap_or-end.ensures ∙ c.if-end-from.true) (all_more p free g ks c.loop-course.course-index a.from)

@@ -42,6 +42,6 @@ returns-then-course-courses c =
           none_out p free a.pattern.now a.course a.from a.to (omega (arith, w.if-course-courses.true, c.courses.ensures.value))
       | then-course-courses-via-else-course-courses+then-is_gone w ↦
           none_gone p free a.pattern.now a.course a.from a.to
-              (omega (arith, w.if-course-courses.false, c.courses.ensures.value)) c.requires.to
+          (omega (arith, w.if-course-courses.false, c.courses.ensures.value)) c.requires.to
           (w.is_gone.ensures w.if-is_gone.true)
     ]

@@ -15,7 +15,7 @@ returns-then-state-eq-PLAIN c = λ k h.
     let own = has_bit (word_at p words a.course a.slot.day a.slot.period a.block) k in
     let kept = has_bit (word_at p words a.course a.slot.day p.periods a.block) k
     && (has_bit (word_at p words a.course p.days a.slot.period a.block) k
-        && has_bit (word_at p words a.course p.days p.periods a.block) k) in
+    && has_bit (word_at p words a.course p.days p.periods a.block) k) in
     let last : c.len.result - 1 ≡ size p = omega (arith, c.len.ensures, c.requires.table.len) in
     let state : slice_index_or words (size p) 0 ≡ 0 =
     ap (λ i. slice_index_or words i 0) (sym last) ∙ sym c.word-state.ensures ∙ c.if-state-eq-PLAIN.true in
@@ -31,7 +31,7 @@ returns-then-state-eq-CLEARED c = λ k h.
     let own = has_bit (word_at p words a.course a.slot.day a.slot.period a.block) k in
     let kept = has_bit (word_at p words a.course a.slot.day p.periods a.block) k
     && (has_bit (word_at p words a.course p.days a.slot.period a.block) k
-        && has_bit (word_at p words a.course p.days p.periods a.block) k) in
+    && has_bit (word_at p words a.course p.days p.periods a.block) k) in
     let last : c.len.result - 1 ≡ size p = omega (arith, c.len.ensures, c.requires.table.len) in
     let state : slice_index_or words (size p) 0 ≡ 1 =
     ap (λ i. slice_index_or words i 0) (sym last) ∙ sym c.word-state.ensures ∙ c.if-state-eq-CLEARED.true in
@@ -46,7 +46,7 @@ returns c = λ k h.
     let own = has_bit (word_at p words a.course a.slot.day a.slot.period a.block) k in
     let kept = has_bit (word_at p words a.course a.slot.day p.periods a.block) k
     && (has_bit (word_at p words a.course p.days a.slot.period a.block) k
-        && has_bit (word_at p words a.course p.days p.periods a.block) k) in
+    && has_bit (word_at p words a.course p.days p.periods a.block) k) in
     let last : c.len.result - 1 ≡ size p = omega (arith, c.len.ensures, c.requires.table.len) in
     let state : c.word-state.result ≡ slice_index_or words (size p) 0 = c.word-state.ensures ∙ ap (λ i. slice_index_or words i 0) last in
     c.kept_word.ensures k h

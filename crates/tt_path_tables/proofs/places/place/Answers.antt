@@ -31,7 +31,7 @@ overflow_mul-result c =
       number = omega arith;
     }) in
     let most = words_bounded (length p.courses) p.days p.periods (width p)
-        (omega (arith, c.courses-courses.ensures.value, c.courses-courses.ensures.within))
+    (omega (arith, c.courses-courses.ensures.value, c.courses-courses.ensures.within))
     (omega (arith, c.days-days.ensures.value, c.days-days.ensures.within))
     (omega (arith, c.periods-periods.ensures.value, c.periods-periods.ensures.within))
     (omega (arith, c.width-width.ensures.value, c.width-width.ensures.within)) in
@@ -51,7 +51,7 @@ overflow_add-result c =
       number = omega arith;
     }) in
     let most = words_bounded (length p.courses) p.days p.periods (width p)
-        (omega (arith, c.courses-courses.ensures.value, c.courses-courses.ensures.within))
+    (omega (arith, c.courses-courses.ensures.value, c.courses-courses.ensures.within))
     (omega (arith, c.days-days.ensures.value, c.days-days.ensures.within))
     (omega (arith, c.periods-periods.ensures.value, c.periods-periods.ensures.within))
     (omega (arith, c.width-width.ensures.value, c.width-width.ensures.within)) in

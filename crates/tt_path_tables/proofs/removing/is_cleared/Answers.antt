@@ -10,4 +10,4 @@ returns c = λ e x.
     let words = c.args.table.now.words in
     let last : c.len.result - 1 ≡ size p = omega (arith, c.len.ensures, c.requires.table.len) in
     cleared-cell p words (ap (λ i. not (slice_index_or words i 0 == 1)) (sym last)
-        ∙ ap (λ w. not (w == 1)) (sym c.word.ensures) ∙ ap not e) x
+    ∙ ap (λ w. not (w == 1)) (sym c.word.ensures) ∙ ap not e) x

@@ -36,7 +36,7 @@ returns-clause-ok c =
     let new = c.loop-block.table.words in
     let end : c.loop-block.block ≡ width p = omega (arith, c.width-block-end.ensures.value) in
     rooms_kept p a.table.now.words spot.course spot.slot.day spot.slot.period c.requires.spot.slot.day
-        c.requires.spot.slot.period spot.room a.kept.now.words new c.requires.table
+    c.requires.spot.slot.period spot.room a.kept.now.words new c.requires.table
     (subst (λ n. Drops p a.table.now.words new (λ b. is_here spot.course spot.slot.day spot.slot.period b && nat_lt b.block n && not
     (is_open p a.kept.now.words spot.room spot.course spot.slot.day spot.slot.period (b.block * 64 + b.number))))
     end c.loop-block.invariant.drops)

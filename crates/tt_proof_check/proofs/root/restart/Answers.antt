@@ -24,5 +24,5 @@ returns-in_err-push-clause-deep g c =
     let e = err_from_is_err_and c.from_residual.result c.from_residual.ensures.1 in
     let is : c.in_err-push.field-0.0 ≡ TooDeep = cc in
     full (g.P.Path.facts c.loop-fact.path) c.args.root.now c.loop-fact.fact-index c.in_err-push.field-0.0
-        c.loop-fact.invariant.facts (omega arith)
+    c.loop-fact.invariant.facts (omega arith)
     c.in_err-push.ensures.room is
