@@ -153,8 +153,7 @@ module _ (p : Problem) (free : List ℕ) (g : Pattern) (c : ℕ) (from to : ℕ)
             course = inside;
             room = below_member (length p.rooms) m.0 m.1;
             day = day some;
-            period = period
-                some;
+            period = period some;
           }) refl) there.0)
         where
           d : ℕ
