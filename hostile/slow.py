@@ -4,6 +4,8 @@ A row is slow if it takes twice what is aimed at: 20 seconds and a second for ea
 command takes on the same instance with a file of one line.
 A run that passes the row's limit is stopped and counts as slow."""
 
+from itertools import cycle
+
 from largest import ROOMS, STOPPED, course
 from samples import MINI
 
@@ -54,6 +56,40 @@ def splits_of_one_pattern(table):
 def wide_facts_of_a_large_curriculum(table):
     """A curriculum of all courses, and facts that it meets at all."""
     return proofs(table, instance_of(MOST_COURSES, ROOMS, 64, 8, [range(MOST_COURSES)]), comb([b"q0 * * *"] * 128))
+
+
+def tree(pattern_of, depth):
+    """A tree of splits in which each leaf is below this many, and claims nothing."""
+    return b"S %s %s" % (pattern_of(), tree(pattern_of, depth - 1) * 2) if depth else b"B ; "
+
+
+def small_tree(table, pattern_of):
+    """Splits about a curriculum of all courses, each of which is undone soon."""
+    instance = instance_of(MOST_COURSES, ROOMS, 64, 8, [range(MOST_COURSES)])
+    return proofs(table, instance, b"CTTP 1 bound 0 " + tree(pattern_of, 9) + b"end\n")
+
+
+def splits_of_a_large_curriculum(table):
+    return small_tree(table, lambda: b"q0 * * *")
+
+
+def splits_of_a_large_curriculum_and_a_period(table):
+    periods = cycle(range(8))
+    return small_tree(table, lambda: b"q0 * * p%d" % next(periods))
+
+
+def leaves_without_a_place(table):
+    """Five hundred leaves that say that a curriculum of all courses has no place left."""
+    instance = instance_of(MOST_COURSES, ROOMS, 64, 8, [range(MOST_COURSES)] * 2)
+    return proofs(table, instance, b"CTTP 1 bound 0 S q1 * * * B ; " + b"S q0 * * * E q0 * * * " * 500 + b"B ; end\n")
+
+
+def claims_of_a_large_curriculum(table):
+    """Two hundred leaves that claim the isolated lectures of a curriculum of all courses, below a fact for each day."""
+    instance = instance_of(MOST_COURSES, ROOMS, 64, 8, [range(MOST_COURSES)])
+    pins = b"".join(b"S q0 * d%d p0 " % day for day in range(64))
+    leaves = b"".join(b"S c%d r1 d0 p1 B Q q0 ; " % it for it in range(200))
+    return proofs(table, instance, b"CTTP 1 bound 0 " + pins + leaves + b"B Q q0 ; " + b"B ; " * 64 + b"end\n")
 
 
 def facts_of_a_period(table):
@@ -202,6 +238,10 @@ def page_that_is_too_large(table):
 ROWS = [
     ("65,536 splits of one pattern", splits_of_one_pattern),
     ("128 facts about all cells of a curriculum of all courses", wide_facts_of_a_large_curriculum),
+    ("511 splits about a curriculum of all courses, in a small tree", splits_of_a_large_curriculum),
+    ("511 splits about a curriculum of all courses in one period of each day, in a small tree", splits_of_a_large_curriculum_and_a_period),
+    ("500 leaves E about a curriculum of all courses", leaves_without_a_place),
+    ("200 claims about a curriculum of all courses", claims_of_a_large_curriculum),
     ("facts about one period of a curriculum of all courses", facts_of_a_period),
     ("20,000 facts about rooms, days and periods", wide_facts),
     ("prices of all courses and rooms", prices_of_all),
