@@ -1,3 +1,3 @@
-pub mod Comparing
+pub mod ComparedPairs
 pub mod Narrowing
 pub mod Worse

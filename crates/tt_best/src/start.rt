@@ -83,7 +83,7 @@ fn better_table(instance: &Instance<'_>, given: Option<Timetable>, found: Timeta
 }
 
 /// Returns the result of a descent from a constructed timetable.
-#[tactic(auto, using(crate::proofs::Comparing::begun_descent))]
+#[tactic(auto, using(crate::proofs::ComparedPairs::begun_descent))]
 fn descended_table(
     alloc: Global,
     instance: &Instance<'_>,
@@ -116,7 +116,7 @@ fn first_table(
 }
 
 /// Returns the timetable after the search of a tree.
-#[tactic(auto, using(crate::proofs::Comparing::begun_found))]
+#[tactic(auto, using(crate::proofs::ComparedPairs::begun_found))]
 fn table_after(
     alloc: Global,
     instance: &Instance<'_>,

@@ -6,4 +6,4 @@ pub mod Improving
 pub mod Keeping
 pub mod Narrowings
 pub mod Refused
-pub mod Searching
+pub mod SearchedAnswers

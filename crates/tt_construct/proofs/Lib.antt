@@ -1,5 +1,5 @@
 pub mod Completed
 pub mod Examples
 pub mod Filled
-pub mod Placed
 pub mod Suited
+pub mod SuitedPlaces

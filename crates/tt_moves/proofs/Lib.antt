@@ -2,6 +2,7 @@ mod Costs
 mod Days
 pub mod DescentExamples
 pub mod Descents
+pub mod EntriesAtRest
 pub mod Examples
 pub mod Gains
 pub mod Rests
@@ -11,5 +12,4 @@ pub mod Scans
 pub mod Settling
 pub mod Slots
 pub mod Stepping
-pub mod Still
 pub mod Undoing

@@ -1,4 +1,4 @@
-use Rattle.tt_best.proofs.Comparing.{no_worse_then, begun_then}
+use Rattle.tt_best.proofs.ComparedPairs.{no_worse_then, begun_then}
 use Rattle.tt_best.proofs.searching.find_best.Goals as goal
 
 pub loop-round-preserved : goal.loop-round-preserved

@@ -3,7 +3,7 @@ use Rattle.tt_instance.specs.declared.cell.Cell.{Cell}
 use Rattle.tt_rules.specs.Score.{IsFeasible}
 use Rattle.tt_branch.specs.Outcomes as branch
 use Rattle.tt_best.specs.Weeks.{BeginsWell}
-use Rattle.tt_best.proofs.Comparing.{begun_found}
+use Rattle.tt_best.proofs.ComparedPairs.{begun_found}
 use Rattle.tt_best.proofs.start.table_after.Goals as goal
 
 pub returns-in-Some-clause-begun : goal.returns-in-Some-clause-begun

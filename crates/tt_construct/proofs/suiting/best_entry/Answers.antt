@@ -1,7 +1,7 @@
 use Rattle.std.proofs.Common.{Option, subst}
 use Rattle.tt_construct.specs.Inner.Places.{IsBest}
 use Rattle.tt_construct.specs.declared.suiting.Place.{Place}
-use Rattle.tt_construct.proofs.Placed.{suits_none, suits_best}
+use Rattle.tt_construct.proofs.SuitedPlaces.{suits_none, suits_best}
 use Rattle.tt_construct.proofs.suiting.best_entry.Goals as goal
 
 pub returns-in-Some-clause-suits : goal.returns-in-Some-clause-suits

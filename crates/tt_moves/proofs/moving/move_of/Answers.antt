@@ -1,5 +1,5 @@
 use Rattle.tt_moves.specs.Inner.Scan.{NoMoveOf, NoMoveOn}
-use Rattle.tt_moves.proofs.Still.{no_move_at_rest}
+use Rattle.tt_moves.proofs.EntriesAtRest.{no_move_at_rest}
 use Rattle.tt_moves.proofs.Scans.{on_err, scan_begin, scan_next, scan_none, scan_spent}
 use Rattle.tt_moves.proofs.moving.move_of.Goals as goal
 

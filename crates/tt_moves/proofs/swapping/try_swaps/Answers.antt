@@ -1,6 +1,6 @@
 use Rattle.std.proofs.Common.{ℕ, ◌<◌, length, ap, arith}
 use Rattle.tt_moves.specs.Inner.Scan.{NoSwap, NoSwapBy}
-use Rattle.tt_moves.proofs.Still.{no_swap_each}
+use Rattle.tt_moves.proofs.EntriesAtRest.{no_swap_each}
 use Rattle.tt_moves.proofs.Scans.{on_err, scan_begin, scan_more, scan_next, scan_spent}
 use Rattle.tt_moves.proofs.swapping.try_swaps.Goals as goal
 

@@ -4,7 +4,7 @@ use Rattle.tt_call_searches.proofs.Certified.{begins_well, costs_no_more}
 use Rattle.tt_call_answers.proofs.Fitting.{names_memory}
 use Rattle.tt_call_searches.proofs.Given.{tells_first, tells_given, tells_memory, given_memory, given_fits}
 use Rattle.tt_call_searches.proofs.GivenNames.{before_names, names_told}
-use Rattle.tt_call_searches.proofs.Searching.{read_memory}
+use Rattle.tt_call_searches.proofs.SearchedAnswers.{read_memory}
 use Rattle.tt_call_searches.proofs.calls.best.best.Goals as goal
 
 pub returns-in_err-instance-clause-fault : goal.returns-in_err-instance-clause-fault

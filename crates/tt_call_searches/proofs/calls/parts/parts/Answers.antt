@@ -1,7 +1,7 @@
 use Rattle.std.proofs.lemmas.Result.{err_from_is_err_and}
 use Rattle.std.specs.Option.{option_copied}
 use Rattle.tt_call_searches.proofs.Given.{tells_first, tells_given, tells_memory, given_memory}
-use Rattle.tt_call_searches.proofs.Searching.{read_memory}
+use Rattle.tt_call_searches.proofs.SearchedAnswers.{read_memory}
 use Rattle.tt_call_searches.proofs.calls.parts.parts.Goals as goal
 
 pub returns-in_err-instance-clause-fault : goal.returns-in_err-instance-clause-fault

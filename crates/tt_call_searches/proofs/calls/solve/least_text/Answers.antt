@@ -3,7 +3,7 @@ use Rattle.std.specs.Prelude.{MatchOption}
 use Rattle.std.proofs.lemmas.Result.{IfOk-weaker}
 use Rattle.tt_proof_write.specs.Within.{Refuses, Writes}
 use Rattle.tt_call_searches.specs.Solved.{IsProofFile, IsOverLong}
-use Rattle.tt_call_searches.proofs.Searching.{second_file}
+use Rattle.tt_call_searches.proofs.SearchedAnswers.{second_file}
 use Rattle.tt_call_searches.proofs.calls.solve.least_text.Goals as goal
 
 pub returns-in-Err-NotInVersion : goal.returns-in-Err-NotInVersion

@@ -1,6 +1,6 @@
 use Rattle.std.proofs.Common.{inl}
 use Rattle.std.proofs.lemmas.Result.{err_from_is_err_and}
-use Rattle.tt_call_searches.proofs.Searching.{best_fits, read_memory}
+use Rattle.tt_call_searches.proofs.SearchedAnswers.{best_fits, read_memory}
 use Rattle.tt_call_searches.proofs.calls.solve.solve.Goals as goal
 
 pub returns-in_err-instance-clause-only : goal.returns-in_err-instance-clause-only
