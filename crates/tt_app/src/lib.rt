@@ -6,7 +6,7 @@ pub use tt_call_changes::{
     ChangedForm, ChangedPageFault, ChangedTexts, ChangesFault, changed_page, changes,
 };
 pub use tt_call_checks::{bound, check, check_sum, sum, upgrade, validate};
-pub use tt_call_kept::{KeptFault, KeptFiles, check_kept, sum_kept};
+pub use tt_call_checks::{KeptFault, KeptFiles, check_kept, sum_kept};
 pub use tt_call_searches::{
     BestAnswer, BestSearch, Effort, ImproveSearch, PartsAnswer, TreeEffort, WatchBest, best,
     best_kept, improve, parts, solve, solve_kept,

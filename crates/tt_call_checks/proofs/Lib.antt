@@ -1,6 +1,10 @@
 pub mod Adding
 pub mod AddingBoth
 pub mod Answering
+pub mod Checked
 pub mod DerivedBounds
+pub mod Holding
+pub mod Refused
 pub mod Rewriting
+pub mod Summed
 pub mod Validating

@@ -13,10 +13,10 @@ use Rattle.tt_proof_read.specs.declared.node.Node.{Node}
 use Rattle.tt_branch.specs.Outcomes.{IsOutcomeUntil}
 use Rattle.tt_call_answers.specs.declared.fault.AppFault.TheVariants as app
 use Rattle.tt_call_searches.specs.Solved.{IsOverLong, IsProofFile}
-use Rattle.tt_call_kept.specs.Kept.{IsFileRefusal}
-use Rattle.tt_call_kept.specs.declared.fault.KeptFault.{KeptFault}
-use Rattle.tt_call_kept.specs.declared.fault.KeptFault.TheVariants as fault
-use Rattle.tt_call_kept.specs.declared.files.KeptFiles.{KeptFiles}
+use Rattle.tt_call_checks.specs.Kept.{IsFileRefusal}
+use Rattle.tt_call_checks.specs.declared.fault.KeptFault.{KeptFault}
+use Rattle.tt_call_checks.specs.declared.fault.KeptFault.TheVariants as fault
+use Rattle.tt_call_checks.specs.declared.files.KeptFiles.{KeptFiles}
 use Rattle.tt_best.specs.Kept.{IsNarrowing}
 use Rattle.tt_best.specs.declared.wishing.Wishing.{Wishing}
 use Rattle.tt_call_searches.specs.SolvedKept.{IsKeptTable, IsSolveKeptRefusal}

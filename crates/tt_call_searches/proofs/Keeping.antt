@@ -7,8 +7,8 @@ use Rattle.tt_proof_check.specs.Derives.{HoldsOn}
 use Rattle.tt_proof_sum.specs.Sums.{IsSumOn}
 use Rattle.tt_best.specs.Kept.{IsNarrowing}
 use Rattle.tt_best.specs.declared.wishing.Wishing.{Wishing}
-use Rattle.tt_call_kept.specs.Kept.{HoldsOfKept, IsSumKept}
-use Rattle.tt_call_kept.proofs.Summed.{made_holds, made_sum}
+use Rattle.tt_call_checks.specs.Kept.{HoldsOfKept, IsSumKept}
+use Rattle.tt_call_checks.proofs.Summed.{made_holds, made_sum}
 use Rattle.tt_call_searches.specs.BestKept.{BreaksNothing}
 
 module _ (w : Wishing) (is : IsNarrowing w) where

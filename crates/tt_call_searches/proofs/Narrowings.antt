@@ -2,7 +2,7 @@
 use Rattle.std.proofs.Common.{◌≡◌, List}
 use Rattle.tt_best.specs.Kept.{IsNarrowing}
 use Rattle.tt_best.specs.declared.wishing.Wishing.{Wishing}
-use Rattle.tt_call_kept.specs.declared.files.KeptFiles.{KeptFiles}
+use Rattle.tt_call_checks.specs.declared.files.KeptFiles.{KeptFiles}
 use Rattle.tt_call_searches.specs.Inner.Steps.{IsRead}
 use Rattle.tt_call_searches.specs.declared.reading.Read.{Read}
 

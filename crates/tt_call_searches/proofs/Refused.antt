@@ -21,10 +21,10 @@ use Rattle.tt_call_answers.specs.declared.fault.AppFault.TheVariants as app
 use Rattle.tt_call_answers.specs.Names.{labels_for}
 use Rattle.tt_call_answers.specs.declared.names.PageNames.{PageNames}
 use Rattle.tt_call_searches.specs.Given.{FailsGiven, IsGiven, SpellsGiven}
-use Rattle.tt_call_kept.specs.Kept.{IsFileRefusal, SpellsKept, fault_from_wishes}
-use Rattle.tt_call_kept.specs.declared.fault.KeptFault.{KeptFault}
-use Rattle.tt_call_kept.specs.declared.fault.KeptFault.TheVariants as fault
-use Rattle.tt_call_kept.specs.declared.files.KeptFiles.{KeptFiles}
+use Rattle.tt_call_checks.specs.Kept.{IsFileRefusal, SpellsKept, fault_from_wishes}
+use Rattle.tt_call_checks.specs.declared.fault.KeptFault.{KeptFault}
+use Rattle.tt_call_checks.specs.declared.fault.KeptFault.TheVariants as fault
+use Rattle.tt_call_checks.specs.declared.files.KeptFiles.{KeptFiles}
 use Rattle.tt_call_searches.specs.BestKept.{IsBestKeptRefusal}
 use Rattle.tt_call_searches.specs.Inner.Steps.{IsNamesFault, IsStartFault}
 

@@ -23,10 +23,10 @@ use Rattle.tt_call_answers.specs.declared.names.PageNames.{PageNames}
 use Rattle.tt_call_searches.specs.Best.{ShowsPage}
 use Rattle.tt_call_searches.specs.Given.{FailsGiven, SpellsGiven}
 use Rattle.tt_call_searches.specs.declared.calls.best.BestAnswer.{BestAnswer}
-use Rattle.tt_call_kept.specs.Kept.{HoldsOfKept, IsFileRefusal, IsSumKept, SpellsKept, kept_line}
-use Rattle.tt_call_kept.specs.declared.fault.KeptFault.{KeptFault}
-use Rattle.tt_call_kept.specs.declared.fault.KeptFault.TheVariants as fault
-use Rattle.tt_call_kept.specs.declared.files.KeptFiles.{KeptFiles}
+use Rattle.tt_call_checks.specs.Kept.{HoldsOfKept, IsFileRefusal, IsSumKept, SpellsKept, kept_line}
+use Rattle.tt_call_checks.specs.declared.fault.KeptFault.{KeptFault}
+use Rattle.tt_call_checks.specs.declared.fault.KeptFault.TheVariants as fault
+use Rattle.tt_call_checks.specs.declared.files.KeptFiles.{KeptFiles}
 
 -- The timetable breaks neither a hard rule nor a wish.
 abbrev pub BreaksNothing : Problem → List Wish → List Cell → Type 0

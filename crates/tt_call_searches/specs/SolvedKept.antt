@@ -16,10 +16,10 @@ use Rattle.tt_call_answers.specs.declared.answer.Answer.{Answer}
 use Rattle.tt_call_answers.specs.declared.fault.AppFault.TheVariants as app
 use Rattle.tt_call_searches.specs.Solved.{IsOverLong, IsProofFile}
 use Rattle.tt_call_searches.specs.BestKept.{BreaksNothing}
-use Rattle.tt_call_kept.specs.Kept.{HoldsOfKept, IsFileRefusal, SpellsKept, kept_line}
-use Rattle.tt_call_kept.specs.declared.fault.KeptFault.{KeptFault}
-use Rattle.tt_call_kept.specs.declared.fault.KeptFault.TheVariants as fault
-use Rattle.tt_call_kept.specs.declared.files.KeptFiles.{KeptFiles}
+use Rattle.tt_call_checks.specs.Kept.{HoldsOfKept, IsFileRefusal, SpellsKept, kept_line}
+use Rattle.tt_call_checks.specs.declared.fault.KeptFault.{KeptFault}
+use Rattle.tt_call_checks.specs.declared.fault.KeptFault.TheVariants as fault
+use Rattle.tt_call_checks.specs.declared.files.KeptFiles.{KeptFiles}
 
 -- The timetable itself if it breaks neither a hard rule nor a wish, and otherwise none.
 abbrev pub IsKeptTable : Problem → List Wish → List Cell → Option (List Cell) → Type 0

@@ -11,7 +11,7 @@ ghost use Rattle.tt_best.specs.Kept.{IsNarrowing};
 ghost use Rattle.tt_call_answers.specs.Lines.{best_line, none_line};
 ghost use Rattle.tt_call_searches.specs.Best.{ShowsPage};
 ghost use Rattle.tt_call_searches.specs.BestKept.{BreaksNothing, IsBestKeptFound, IsBestKeptOf, IsNoneKept};
-ghost use Rattle.tt_call_kept.specs.Kept.{kept_line};
+ghost use Rattle.tt_call_checks.specs.Kept.{kept_line};
 
 use crate::calls::best::{BestAnswer, found_line, missing_line, page_of};
 use std::alloc::{AllocError, Global};

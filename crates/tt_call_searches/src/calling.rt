@@ -11,7 +11,7 @@ use crate::reading::{Read, read_kept, read_labels, read_start};
 use std::alloc::Global;
 use tt_best::{Rounds, Start, Wishing, find_best_kept};
 use tt_call_answers::PageNames;
-use tt_call_kept::{KeptFault, KeptFiles};
+use tt_call_checks::{KeptFault, KeptFiles};
 use tt_page::Look;
 
 /// Searches for a best timetable that keeps wishes, and for proofs of a lower bound for those that do, in rounds, until they meet or the watch ends

@@ -16,5 +16,5 @@ pub use calls::improve::{ImproveSearch, improve};
 pub use calls::parts::{PartsAnswer, parts};
 pub use calls::solve::{TreeEffort, solve};
 pub use solving::solve_kept;
-pub use tt_call_kept::{KeptFault, KeptFiles};
+pub use tt_call_checks::{KeptFault, KeptFiles};
 pub use tt_parts::Effort;

@@ -3,14 +3,14 @@
 ghost use Rattle.std.specs.Prelude.{IfOk, IfErr, ◌≡◌, Ok};
 ghost use Rattle.std.specs.Option.{option_copied};
 ghost use Rattle.tt_call_answers.specs.Names.{labels_for};
-ghost use Rattle.tt_call_kept.specs.Kept.{IsFileRefusal};
+ghost use Rattle.tt_call_checks.specs.Kept.{IsFileRefusal};
 ghost use Rattle.tt_call_searches.specs.Given.{IsGiven};
 ghost use Rattle.tt_call_searches.specs.Inner.Steps.{IsRead, IsStartFault, IsNamesFault};
 
 use crate::calls::given::read_given;
 use std::alloc::Global;
 use tt_call_answers::{AppFault, PageNames, labels_for};
-use tt_call_kept::{KeptFault, KeptFiles};
+use tt_call_checks::{KeptFault, KeptFiles};
 use tt_instance::Instance;
 use tt_instance_read::read_instance;
 use tt_page_text::Labels;

@@ -12,7 +12,7 @@ use crate::solve_answer::answer_of;
 use std::alloc::Global;
 use tt_best::{MAX_KEPT, Wishing, solve_kept};
 use tt_call_answers::{Answer, AppFault};
-use tt_call_kept::KeptFault;
+use tt_call_checks::KeptFault;
 use tt_watch::Watch;
 
 /// Searches by a tree under wishes, and returns the answer.

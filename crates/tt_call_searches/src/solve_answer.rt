@@ -3,7 +3,7 @@
 ghost use Rattle.std.specs.Prelude.{◌≡◌, ◌++◌, length, IfOk, IfSome, Some};
 ghost use Rattle.tt_table.specs.Table.{IsTimetable};
 ghost use Rattle.tt_call_answers.specs.Lines.{solve_line};
-ghost use Rattle.tt_call_kept.specs.Kept.{kept_line};
+ghost use Rattle.tt_call_checks.specs.Kept.{kept_line};
 ghost use Rattle.tt_call_searches.specs.SolvedKept.{IsKeptTable, IsShown};
 
 use crate::answer::{breaks_nothing, put_wishes};

@@ -11,7 +11,7 @@ use crate::searching::search_kept;
 use std::alloc::Global;
 use tt_best::Wishing;
 use tt_call_answers::Answer;
-use tt_call_kept::{KeptFault, KeptFiles};
+use tt_call_checks::{KeptFault, KeptFiles};
 use tt_watch::Watch;
 
 /// Searches by a tree for a best timetable that keeps wishes, and returns it with a proof of a lower bound for those that do. If it found none that

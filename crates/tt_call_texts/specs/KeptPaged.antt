@@ -9,9 +9,9 @@ use Rattle.tt_proof_check.specs.Verdicts.{FailsSolution}
 use Rattle.tt_wishes.specs.Spelling.{SpellsWishes}
 use Rattle.tt_wishes.specs.declared.wish.Wish.{Wish}
 use Rattle.tt_call_answers.specs.declared.fault.AppFault.TheVariants as app
-use Rattle.tt_call_kept.specs.Kept.{FailsSum, FailsWishes, HoldsOfKept, IsSumKept}
-use Rattle.tt_call_kept.specs.declared.fault.KeptFault.{KeptFault}
-use Rattle.tt_call_kept.specs.declared.fault.KeptFault.TheVariants as fault
+use Rattle.tt_call_checks.specs.Kept.{FailsSum, FailsWishes, HoldsOfKept, IsSumKept}
+use Rattle.tt_call_checks.specs.declared.fault.KeptFault.{KeptFault}
+use Rattle.tt_call_checks.specs.declared.fault.KeptFault.TheVariants as fault
 use Rattle.tt_call_texts.specs.Paged.{FailsNames, IsPutPartlyWith, IsPutWith, IsTooLargeWith, proved_text}
 use Rattle.tt_call_texts.specs.declared.paging.PageTexts.{PageTexts}
 

@@ -6,7 +6,7 @@ ghost use Rattle.tt_call_texts.specs.KeptPaged.{IsKeptPaged, IsKeptPageRefusal};
 
 use std::alloc::Global;
 use tt_call_answers::{PageNames, labels_for};
-use tt_call_kept::{KeptFault, KeptFiles};
+use tt_call_checks::{KeptFault, KeptFiles};
 use tt_instance_read::read_instance;
 use tt_page::{Look, Proved, Shown};
 use tt_proof_sum::sum_proofs_on;

@@ -3,7 +3,7 @@
 use std::alloc::Global;
 use std::cell::{Cell, RefCell};
 use std::io::Write;
-use tt_call_kept::{KeptFault, KeptFiles, check_kept, sum_kept};
+use tt_call_checks::{KeptFault, KeptFiles, check_kept, sum_kept};
 use tt_cli_arguments::Showing;
 use tt_cli_progress::{Shown, World, clear, ticker_of};
 use tt_cli_saving::{

@@ -6,7 +6,7 @@ use std::io;
 use thiserror::Error;
 use tt_call_answers::AppFault;
 use tt_call_changes::ChangesFault;
-use tt_call_kept::KeptFault;
+use tt_call_checks::KeptFault;
 use tt_call_wishes::{ValidateFault, WishedFault};
 use tt_cli_files::WriteFault;
 use tt_proof_sum::FileFault;

@@ -9,10 +9,10 @@ use Rattle.tt_call_answers.specs.declared.fault.AppFault.TheVariants as app
 use Rattle.tt_call_answers.specs.Names.{labels_for}
 use Rattle.tt_call_answers.specs.declared.names.PageNames.{PageNames}
 use Rattle.tt_call_searches.specs.Given.{FailsGiven}
-use Rattle.tt_call_kept.specs.Kept.{SpellsKept}
-use Rattle.tt_call_kept.specs.declared.fault.KeptFault.{KeptFault}
-use Rattle.tt_call_kept.specs.declared.fault.KeptFault.TheVariants as fault
-use Rattle.tt_call_kept.specs.declared.files.KeptFiles.{KeptFiles}
+use Rattle.tt_call_checks.specs.Kept.{SpellsKept}
+use Rattle.tt_call_checks.specs.declared.fault.KeptFault.{KeptFault}
+use Rattle.tt_call_checks.specs.declared.fault.KeptFault.TheVariants as fault
+use Rattle.tt_call_checks.specs.declared.files.KeptFiles.{KeptFiles}
 use Rattle.tt_call_searches.specs.declared.reading.Read.{Read}
 
 -- The instance and the wishes that the bytes spell, the instance that they narrow, and the facts that they put at the root of its trees.

@@ -6,7 +6,7 @@ use std::cell::{Cell, RefCell};
 use std::io::{Error, ErrorKind, Write};
 use tt_call_answers::{AppFault, PageNames};
 use tt_call_changes::{ChangedForm, ChangedPageFault, ChangedTexts, ChangesFault, changed_page};
-use tt_call_kept::{KeptFault, KeptFiles};
+use tt_call_checks::{KeptFault, KeptFiles};
 use tt_call_texts::{PageForm, PageTexts as KeptTexts, ProvedTexts, kept_page, page, proved_page};
 use tt_cli_arguments::{GivenWeeks, PageRequest};
 use tt_cli_files::{Batch, Draft, Label, OutputFault, Place, Ready, Role, StandardStream, finish};

@@ -6,7 +6,7 @@ use Rattle.tt_page.specs.Pages.{page_text}
 use Rattle.tt_page.specs.Proofs.{kept_of}
 use Rattle.tt_parts.specs.Found.{texts_of}
 use Rattle.tt_call_answers.specs.Lines.{best_line}
-use Rattle.tt_call_kept.specs.Kept.{HoldsOfKept, IsSumKept, kept_line}
+use Rattle.tt_call_checks.specs.Kept.{HoldsOfKept, IsSumKept, kept_line}
 use Rattle.tt_call_searches.specs.Best.{ShowsPage}
 use Rattle.tt_call_searches.proofs.Keeping.{kept_holds, some_kept, sum_of_kept}
 use Rattle.tt_call_searches.proofs.answer.found_answer.Goals as goal

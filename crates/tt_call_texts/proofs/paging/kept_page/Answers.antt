@@ -12,7 +12,7 @@ use Rattle.tt_page.specs.Pages.{page_text}
 use Rattle.tt_page.specs.Proofs.{IsProvedOf}
 use Rattle.tt_page.specs.declared.proved.Proved.{Proved}
 use Rattle.tt_page.proofs.Kept.{proved_of_kept}
-use Rattle.tt_call_kept.proofs.Summed.{made_holds, made_stop, made_sum}
+use Rattle.tt_call_checks.proofs.Summed.{made_holds, made_stop, made_sum}
 use Rattle.tt_call_texts.proofs.KeptTelling.{narrowed_there, tells_instance, tells_names, tells_output, tells_solution, tells_sum, tells_wishes}
 use Rattle.tt_call_texts.proofs.paging.kept_page.Goals as goal
 

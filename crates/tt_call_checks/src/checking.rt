@@ -9,14 +9,14 @@ ghost use Rattle.tt_wishes.specs.Wishes.{broken_wishes};
 ghost use Rattle.tt_wishes.specs.declared.wish.Wish.{Wish};
 ghost use Rattle.tt_proof_sum.specs.Added.{Give};
 ghost use Rattle.tt_proof_sum.specs.Faults.{all_points};
-ghost use Rattle.tt_call_kept.specs.Kept.{AnswersYes, IsCheckedKept, IsCheckRefusal, IsSumKept, SpellsAll};
+ghost use Rattle.tt_call_checks.specs.Kept.{AnswersYes, IsCheckedKept, IsCheckRefusal, IsSumKept, SpellsAll};
 
 use crate::answer::{broken_answer, yes_answer};
 use crate::fault::KeptFault;
 use crate::files::KeptFiles;
 use std::alloc::Global;
 use tt_call_answers::Answer;
-use tt_call_checks::summed_bound;
+use crate::calls::check_sum::summed_bound;
 use tt_instance_read::read_instance;
 use tt_rules::score;
 use tt_table::read_solution;

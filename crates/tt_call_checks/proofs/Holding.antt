@@ -8,7 +8,7 @@ use Rattle.tt_wishes.specs.declared.wish.Wish.{Wish}
 use Rattle.tt_wishes.proofs.Roots.{root_fits}
 use Rattle.tt_wishes_narrow.specs.Narrowed.{narrowed}
 use Rattle.tt_wishes_narrow.proofs.Keeping.{stays_feasible}
-use Rattle.tt_call_kept.specs.Kept.{HoldsOfKept}
+use Rattle.tt_call_checks.specs.Kept.{HoldsOfKept}
 
 pub holds_of_kept : (p : Problem) (ws : List Wish) (b : Bound) → HoldsOn (narrowed p ws) b (root_of (narrowed p ws) ws) → HoldsOfKept p ws b
 holds_of_kept p ws b holds = λ t ok none. holds t (stays_feasible p t ws ok none) (root_fits (narrowed p ws) t ws none)

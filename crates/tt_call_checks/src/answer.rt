@@ -2,11 +2,11 @@
 
 ghost use Rattle.std.specs.Prelude.{◌≡◌, ◌+◌, ◌++◌, IfOk, codes};
 ghost use Rattle.tt_call_answers.specs.Lines.{yes_line, broken_line, count_line};
-ghost use Rattle.tt_call_kept.specs.Kept.{IsKeptAnswer, IsTextAnswer, kept_line};
+ghost use Rattle.tt_call_checks.specs.Kept.{IsKeptAnswer, IsTextAnswer, kept_line};
 
 use std::alloc::{AllocError, Global};
 use tt_call_answers::Answer;
-use tt_call_checks::{bound_line, broken_line, put_count, yes_line};
+use crate::lines::{bound_line, broken_line, put_count, yes_line};
 use tt_leaf::Bound;
 use tt_rules::Score;
 

@@ -1,10 +1,10 @@
 use Rattle.std.proofs.Common.{length, sym, ap, ◌∙◌}
 use Rattle.std.proofs.lemmas.Result.{err_from_is_err_and}
-use Rattle.tt_call_kept.proofs.Refused.{tells_instance, tells_wishes, only_memory}
+use Rattle.tt_call_checks.proofs.Refused.{tells_instance, tells_wishes, only_memory}
 use Rattle.tt_wishes.specs.Facts.{root_of}
 use Rattle.tt_wishes_narrow.specs.Narrowed.{narrowed}
-use Rattle.tt_call_kept.proofs.Summed.{narrowed_once}
-use Rattle.tt_call_kept.proofs.files.read_narrowed.Goals as goal
+use Rattle.tt_call_checks.proofs.Summed.{narrowed_once}
+use Rattle.tt_call_checks.proofs.files.read_narrowed.Goals as goal
 
 pub returns-in_err-instance-clause-fault : goal.returns-in_err-instance-clause-fault
 returns-in_err-instance-clause-fault c =

@@ -4,7 +4,7 @@ ghost use Rattle.std.specs.Prelude.{◌≡◌, List, IfOk, IfErr, MatchResult, l
 ghost use Rattle.tt_instance.specs.Problem.{Problem};
 ghost use Rattle.tt_wishes.specs.declared.wish.Wish.{Wish};
 ghost use Rattle.tt_wishes.specs.Facts.{root_of};
-ghost use Rattle.tt_call_kept.specs.Kept.{IsFileRefusal, IsNarrowed, SpellsKept, out_of_memory};
+ghost use Rattle.tt_call_checks.specs.Kept.{IsFileRefusal, IsNarrowed, SpellsKept, out_of_memory};
 ghost use Rattle.tt_wishes_narrow.specs.Narrowed.{narrowed};
 
 use crate::fault::KeptFault;

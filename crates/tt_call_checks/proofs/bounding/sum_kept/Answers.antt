@@ -2,9 +2,9 @@ use Rattle.std.proofs.Common.{subst}
 use Rattle.std.proofs.lemmas.Result.{err_from_is_err_and}
 use Rattle.tt_proof_sum.specs.Added.{Give}
 use Rattle.tt_call_answers.proofs.Sums.{silent_refusal}
-use Rattle.tt_call_kept.specs.Kept.{IsKeptAnswer}
-use Rattle.tt_call_kept.proofs.Summed.{narrowed_once, stopped, sum_made, summed, same_root}
-use Rattle.tt_call_kept.proofs.bounding.sum_kept.Goals as goal
+use Rattle.tt_call_checks.specs.Kept.{IsKeptAnswer}
+use Rattle.tt_call_checks.proofs.Summed.{narrowed_once, stopped, sum_made, summed, same_root}
+use Rattle.tt_call_checks.proofs.bounding.sum_kept.Goals as goal
 
 pub returns-in_err-bound-clause-fault : goal.returns-in_err-bound-clause-fault
 returns-in_err-bound-clause-fault g c =

@@ -15,11 +15,11 @@ use Rattle.tt_wishes.specs.declared.wish.Wish.{Wish}
 use Rattle.tt_wishes_narrow.specs.Narrowed.{narrowed}
 use Rattle.tt_call_answers.specs.Lines.{yes_line, broken_line, count_line}
 use Rattle.tt_call_answers.specs.declared.answer.Answer.{Answer}
-use Rattle.tt_call_kept.specs.Kept.{IsBrokenKept, IsTextAnswer, IsYesKept, SpellsAll, kept_line}
-use Rattle.tt_call_kept.specs.declared.files.KeptFiles.{KeptFiles}
+use Rattle.tt_call_checks.specs.Kept.{IsBrokenKept, IsTextAnswer, IsYesKept, SpellsAll, kept_line}
+use Rattle.tt_call_checks.specs.declared.files.KeptFiles.{KeptFiles}
 use Rattle.tt_table.specs.Spelling.{SpellsTable}
 use Rattle.tt_proof_check.proofs.Files.{one_table}
-use Rattle.tt_call_kept.proofs.Summed.{AreMade, made_holds, made_sum, spelled_kept_once}
+use Rattle.tt_call_checks.proofs.Summed.{AreMade, made_holds, made_sum, spelled_kept_once}
 
 abbrev pub broken_by : Score → ℕ
 broken_by s = s.lectures + s.conflicts + s.availability + s.room_occupancy

@@ -28,9 +28,9 @@ use Rattle.tt_call_answers.specs.Lines.{yes_line, broken_line, bound_line, count
 use Rattle.tt_call_answers.specs.Refusals.{IsSilentRefusal}
 use Rattle.tt_call_answers.specs.declared.answer.Answer.{Answer}
 use Rattle.tt_call_answers.specs.declared.fault.AppFault.TheVariants as app
-use Rattle.tt_call_kept.specs.declared.fault.KeptFault.{KeptFault}
-use Rattle.tt_call_kept.specs.declared.fault.KeptFault.TheVariants as fault
-use Rattle.tt_call_kept.specs.declared.files.KeptFiles.{KeptFiles}
+use Rattle.tt_call_checks.specs.declared.fault.KeptFault.{KeptFault}
+use Rattle.tt_call_checks.specs.declared.fault.KeptFault.TheVariants as fault
+use Rattle.tt_call_checks.specs.declared.files.KeptFiles.{KeptFiles}
 
 -- ---- what holds
 

@@ -24,10 +24,10 @@ use Rattle.tt_proof_sum.specs.declared.fault.SumStop.{SumStop}
 use Rattle.tt_call_answers.specs.FaultMaps.{fault_at_file, fault_from_instance, fault_from_solution, fault_from_sum}
 use Rattle.tt_call_answers.proofs.Files as files
 use Rattle.tt_call_answers.specs.declared.fault.AppFault.TheVariants as app
-use Rattle.tt_call_kept.specs.Kept.{AnswersYes, IsCheckRefusal, IsFileRefusal, IsSumRefusal, SpellsAll, SpellsKept, fault_from_wishes, out_of_memory}
-use Rattle.tt_call_kept.specs.declared.fault.KeptFault.{KeptFault}
-use Rattle.tt_call_kept.specs.declared.fault.KeptFault.TheVariants as fault
-use Rattle.tt_call_kept.specs.declared.files.KeptFiles.{KeptFiles}
+use Rattle.tt_call_checks.specs.Kept.{AnswersYes, IsCheckRefusal, IsFileRefusal, IsSumRefusal, SpellsAll, SpellsKept, fault_from_wishes, out_of_memory}
+use Rattle.tt_call_checks.specs.declared.fault.KeptFault.{KeptFault}
+use Rattle.tt_call_checks.specs.declared.fault.KeptFault.TheVariants as fault
+use Rattle.tt_call_checks.specs.declared.files.KeptFiles.{KeptFiles}
 
 -- an error of the instance is reported
 pub tells_instance : (f : KeptFiles) (e : InstanceFault) → Fails e (instance_of f.instance.now)

@@ -15,13 +15,13 @@ use Rattle.tt_wishes.proofs.Roots.{root_fits}
 use Rattle.tt_call_answers.proofs.Sums.{silent_refusal}
 use Rattle.tt_call_answers.specs.FaultMaps.{fault_from_sum}
 use Rattle.tt_call_answers.specs.Lines.{yes_line}
-use Rattle.tt_call_kept.specs.declared.fault.KeptFault.TheVariants as fault
-use Rattle.tt_call_kept.specs.Kept.{IsTextAnswer, SpellsAll, kept_line}
-use Rattle.tt_call_kept.proofs.Checked.{broken_by, broken_kept, costs_of, feasible_kept, not_broken, one_of_all, some_points, spelled_are, yes_kept}
-use Rattle.tt_call_kept.proofs.Summed.{made_stop, sum_made}
-use Rattle.tt_call_kept.proofs.Refused.{before_solution, instance_silent, memory_silent, solution_silent, tells_sum, wishes_silent}
-use Rattle.tt_call_kept.proofs.checking.check_kept.Goals as goal
-use Rattle.tt_call_kept.proofs.checking.check_kept.Goals.{then-not-feasible-via-then-not-feasible, then-not-feasible-via-else-not-feasible+then-broken-gt0}
+use Rattle.tt_call_checks.specs.declared.fault.KeptFault.TheVariants as fault
+use Rattle.tt_call_checks.specs.Kept.{IsTextAnswer, SpellsAll, kept_line}
+use Rattle.tt_call_checks.proofs.Checked.{broken_by, broken_kept, costs_of, feasible_kept, not_broken, one_of_all, some_points, spelled_are, yes_kept}
+use Rattle.tt_call_checks.proofs.Summed.{made_stop, sum_made}
+use Rattle.tt_call_checks.proofs.Refused.{before_solution, instance_silent, memory_silent, solution_silent, tells_sum, wishes_silent}
+use Rattle.tt_call_checks.proofs.checking.check_kept.Goals as goal
+use Rattle.tt_call_checks.proofs.checking.check_kept.Goals.{then-not-feasible-via-then-not-feasible, then-not-feasible-via-else-not-feasible+then-broken-gt0}
 
 pub returns-in_err-instance-clause-yes : goal.returns-in_err-instance-clause-yes
 returns-in_err-instance-clause-yes g c =

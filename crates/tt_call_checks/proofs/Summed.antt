@@ -15,11 +15,11 @@ use Rattle.tt_wishes.proofs.RowLaws.{wishes_once}
 use Rattle.tt_wishes_narrow.specs.Narrowed.{narrowed}
 use Rattle.tt_call_answers.specs.FaultMaps.{fault_from_sum}
 use Rattle.tt_call_answers.specs.declared.answer.Answer.{Answer}
-use Rattle.tt_call_kept.specs.Kept.{IsKeptAnswer, IsNarrowed, IsSumKept, IsSummedKept, IsSumRefusal, HoldsOfKept, SpellsKept}
-use Rattle.tt_call_kept.specs.declared.fault.KeptFault.TheVariants as fault
-use Rattle.tt_call_kept.specs.declared.files.KeptFiles.{KeptFiles}
-use Rattle.tt_call_kept.proofs.Holding.{holds_of_narrowed}
-use Rattle.tt_call_kept.proofs.Refused.{tells_sum}
+use Rattle.tt_call_checks.specs.Kept.{IsKeptAnswer, IsNarrowed, IsSumKept, IsSummedKept, IsSumRefusal, HoldsOfKept, SpellsKept}
+use Rattle.tt_call_checks.specs.declared.fault.KeptFault.TheVariants as fault
+use Rattle.tt_call_checks.specs.declared.files.KeptFiles.{KeptFiles}
+use Rattle.tt_call_checks.proofs.Holding.{holds_of_narrowed}
+use Rattle.tt_call_checks.proofs.Refused.{tells_sum}
 
 -- the bytes spell one instance and one list of wishes
 pub spelled_kept_once : (f : KeptFiles) (p q : Problem) (us ws : List Wish) → SpellsKept f p us → SpellsKept f q ws → (p ≡ q) × (us ≡ ws)

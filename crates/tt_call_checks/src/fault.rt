@@ -22,7 +22,7 @@ pub enum KeptFault {
 
 impl From<AllocError> for KeptFault {
     ghost use Rattle.std.specs.Prelude.{◌≡◌};
-    ghost use Rattle.tt_call_kept.specs.Kept.{out_of_memory};
+    ghost use Rattle.tt_call_checks.specs.Kept.{out_of_memory};
 
     ghost from_gives = { λ _ e. e ≡ out_of_memory };
 
@@ -34,7 +34,7 @@ impl From<AllocError> for KeptFault {
 impl From<InstanceFault> for KeptFault {
     ghost use Rattle.std.specs.Prelude.{◌≡◌};
     ghost use Rattle.tt_call_answers.specs.FaultMaps.{fault_from_instance};
-    ghost use Rattle.tt_call_kept.specs.declared.fault.KeptFault.TheVariants as fault;
+    ghost use Rattle.tt_call_checks.specs.declared.fault.KeptFault.TheVariants as fault;
 
     ghost from_gives = { λ f e. e ≡ fault.Call (fault_from_instance f) };
 
@@ -45,7 +45,7 @@ impl From<InstanceFault> for KeptFault {
 
 impl From<WishesFault> for KeptFault {
     ghost use Rattle.std.specs.Prelude.{◌≡◌};
-    ghost use Rattle.tt_call_kept.specs.Kept.{fault_from_wishes};
+    ghost use Rattle.tt_call_checks.specs.Kept.{fault_from_wishes};
 
     ghost from_gives = { λ f e. e ≡ fault_from_wishes f };
 
@@ -60,7 +60,7 @@ impl From<WishesFault> for KeptFault {
 impl From<SolutionFault> for KeptFault {
     ghost use Rattle.std.specs.Prelude.{◌≡◌};
     ghost use Rattle.tt_call_answers.specs.FaultMaps.{fault_from_solution};
-    ghost use Rattle.tt_call_kept.specs.declared.fault.KeptFault.TheVariants as fault;
+    ghost use Rattle.tt_call_checks.specs.declared.fault.KeptFault.TheVariants as fault;
 
     ghost from_gives = { λ f e. e ≡ fault.Call (fault_from_solution f) };
 
@@ -72,7 +72,7 @@ impl From<SolutionFault> for KeptFault {
 impl From<LabelsFault> for KeptFault {
     ghost use Rattle.std.specs.Prelude.{◌≡◌};
     ghost use Rattle.tt_call_answers.specs.FaultMaps.{fault_from_labels};
-    ghost use Rattle.tt_call_kept.specs.declared.fault.KeptFault.TheVariants as fault;
+    ghost use Rattle.tt_call_checks.specs.declared.fault.KeptFault.TheVariants as fault;
 
     ghost from_gives = { λ f e. e ≡ fault.Call (fault_from_labels f) };
 
@@ -84,7 +84,7 @@ impl From<LabelsFault> for KeptFault {
 impl From<PageFault> for KeptFault {
     ghost use Rattle.std.specs.Prelude.{◌≡◌};
     ghost use Rattle.tt_call_answers.specs.FaultMaps.{fault_from_page};
-    ghost use Rattle.tt_call_kept.specs.declared.fault.KeptFault.TheVariants as fault;
+    ghost use Rattle.tt_call_checks.specs.declared.fault.KeptFault.TheVariants as fault;
 
     ghost from_gives = { λ f e. e ≡ fault.Call (fault_from_page f) };
 
@@ -96,7 +96,7 @@ impl From<PageFault> for KeptFault {
 impl From<SumStop> for KeptFault {
     ghost use Rattle.std.specs.Prelude.{◌≡◌};
     ghost use Rattle.tt_call_answers.specs.FaultMaps.{fault_from_sum};
-    ghost use Rattle.tt_call_kept.specs.declared.fault.KeptFault.TheVariants as fault;
+    ghost use Rattle.tt_call_checks.specs.declared.fault.KeptFault.TheVariants as fault;
 
     ghost from_gives = { λ f e. e ≡ fault.Call (fault_from_sum f) };
 

@@ -6,7 +6,7 @@ ghost use Rattle.tt_leaf.specs.declared.leaf.Bound.{Bound};
 ghost use Rattle.tt_wishes.specs.declared.wish.Wish.{Wish};
 ghost use Rattle.tt_proof_sum.specs.Added.{Give};
 ghost use Rattle.tt_proof_sum.specs.Faults.{all_points};
-ghost use Rattle.tt_call_kept.specs.Kept.{AnswersSum, IsSumKept, IsSummedKept, IsSumRefusal, SpellsKept};
+ghost use Rattle.tt_call_checks.specs.Kept.{AnswersSum, IsSumKept, IsSummedKept, IsSumRefusal, SpellsKept};
 
 use crate::answer::kept_answer;
 use crate::fault::KeptFault;

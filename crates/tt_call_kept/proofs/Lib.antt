@@ -1,4 +1,0 @@
-pub mod Checked
-pub mod Holding
-pub mod Refused
-pub mod Summed
