@@ -1,3 +1,4 @@
+pub mod Bounds
 pub mod FailedReads
 pub mod Files
 pub mod Fitting

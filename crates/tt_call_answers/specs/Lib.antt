@@ -1,3 +1,4 @@
+pub mod Explained
 pub mod FaultMaps
 pub mod Lines
 pub mod Names

@@ -2,9 +2,11 @@
 #![tactic(auto)]
 
 mod answer;
+mod explaining;
 mod fault;
 mod names;
 
 pub use answer::Answer;
+pub use explaining::explain_bound;
 pub use fault::AppFault;
 pub use names::{PageNames, UNNAMED, labels_for};

@@ -4,7 +4,7 @@ use Rattle.tt_instance.specs.Problem.{Problem}
 use Rattle.tt_leaf.specs.declared.leaf.Bound.{Bound}
 use Rattle.tt_page.specs.declared.proved.Proved.{Proved}
 use Rattle.tt_page.specs.declared.proved.Proved.TheVariants.{Unproved}
-use Rattle.tt_page_reason.specs.Explained.{IsProvedBy}
+use Rattle.tt_call_answers.specs.Explained.{IsProvedBy}
 use Rattle.tt_proof_check.specs.Derives.{HoldsOfAll}
 use Rattle.tt_proof_sum.specs.Faults.{IsSumStop}
 use Rattle.tt_proof_sum.specs.Sums.{IsSum}

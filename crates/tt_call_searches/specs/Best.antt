@@ -14,7 +14,7 @@ use Rattle.tt_page.specs.Limits.{IsWithinLimit}
 use Rattle.tt_page.specs.Pages.{page_text}
 use Rattle.tt_page.specs.declared.proved.Proved.{Proved}
 use Rattle.tt_page.specs.declared.proved.Proved.TheVariants.{AtLeast}
-use Rattle.tt_page_reason.specs.Explained.{IsProvedBy}
+use Rattle.tt_call_answers.specs.Explained.{IsProvedBy}
 use Rattle.tt_page_text.specs.Labelled.{Labelled}
 use Rattle.tt_page_text.specs.Puts.{IsTooLarge}
 use Rattle.tt_page_text.specs.declared.fault.LabelsFault.{LabelsFault}

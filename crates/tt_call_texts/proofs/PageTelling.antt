@@ -15,7 +15,7 @@ use Rattle.tt_page.specs.declared.proved.Proved.{Proved}
 use Rattle.tt_page.specs.declared.sheet.Sheet.{Sheet}
 use Rattle.tt_page.specs.declared.fault.PageFault.{PageFault}
 use Rattle.tt_page.specs.declared.fault.PageFault.TheVariants as page
-use Rattle.tt_page_reason.specs.Explained.{IsProvedBy}
+use Rattle.tt_call_answers.specs.Explained.{IsProvedBy}
 use Rattle.tt_page_text.specs.Labelled.{Labelled}
 use Rattle.tt_page_text.specs.Labels.{is_environmental}
 use Rattle.tt_page_text.specs.Puts.{IsTooLarge}

@@ -12,7 +12,7 @@ use Rattle.tt_page.specs.declared.proved.Proved.{Proved}
 use Rattle.tt_page.specs.declared.proved.Proved.TheVariants.{Unproved}
 use Rattle.tt_page.specs.declared.sheet.Sheet.{Sheet}
 use Rattle.tt_page.specs.declared.sheet.Sheet.TheVariants.{Named}
-use Rattle.tt_page_reason.specs.Explained.{IsProvedBy}
+use Rattle.tt_call_answers.specs.Explained.{IsProvedBy}
 use Rattle.tt_page_text.specs.Labelled.{Labelled}
 use Rattle.tt_page_weeks.specs.Named.{has_week}
 use Rattle.tt_page_text.specs.Puts.{IsTooLarge}

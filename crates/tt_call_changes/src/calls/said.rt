@@ -3,7 +3,7 @@
 ghost use Rattle.std.specs.Prelude.{◌≡◌, ◌+◌, ◌<◌, ◌^◌, ℕ, List, Some, true, if◌then◌else◌, length, IfOk, IfErr, MatchResult, slice_get, slice_index_or};
 ghost use Rattle.tt_leaf.specs.declared.leaf.Bound.{Bound};
 ghost use Rattle.tt_page.specs.Proofs.{IsProvedOf};
-ghost use Rattle.tt_page_reason.specs.Explained.{IsProvedBy};
+ghost use Rattle.tt_call_answers.specs.Explained.{IsProvedBy};
 ghost use Rattle.tt_text.specs.Failures.{is_err_and};
 ghost use Rattle.tt_proof_sum.specs.Added.{Give};
 ghost use Rattle.tt_proof_sum.specs.Faults.{all_points};
@@ -13,10 +13,9 @@ ghost use Rattle.tt_call_answers.specs.Refusals.{IsSilentRefusal, is_failed_read
 ghost use Rattle.tt_call_changes.specs.Said.{IsSaid, IsSumRefusal};
 
 use std::alloc::Global;
-use tt_call_answers::AppFault;
+use tt_call_answers::{AppFault, explain_bound};
 use tt_instance::Instance;
 use tt_page::Proved;
-use tt_page_reason::explain_bound;
 use tt_proof_sum::sum_proofs;
 use tt_text_peek::Peek;
 

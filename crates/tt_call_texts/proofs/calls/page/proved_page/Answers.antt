@@ -3,7 +3,7 @@ use Rattle.std.specs.Io.KnownBytes.{Appends}
 use Rattle.std.proofs.lemmas.Result.{err_from_is_err_and}
 use Rattle.tt_page.specs.Limits.{IsWithinLimit}
 use Rattle.tt_page.specs.Proofs.{proved_of}
-use Rattle.tt_page_reason.proofs.Bounds.{by_bound}
+use Rattle.tt_call_answers.proofs.Bounds.{by_bound}
 use Rattle.tt_proof_check.proofs.TextFaults.{err_same}
 use Rattle.tt_proof_sum.specs.Added.{Give}
 use Rattle.tt_call_answers.specs.FaultMaps.{fault_from_instance, fault_from_solution, fault_from_labels, fault_from_page, fault_from_sum}

@@ -5,7 +5,7 @@ ghost use Rattle.tt_instance.specs.Problem.{Problem};
 ghost use Rattle.tt_leaf.specs.declared.leaf.Bound.TheVariants.{Nothing};
 ghost use Rattle.tt_leaf_find.specs.Found.{Closes};
 ghost use Rattle.tt_page.specs.Proofs.{IsProvedOf};
-ghost use Rattle.tt_page_reason.specs.Explained.{IsProvedBy};
+ghost use Rattle.tt_call_answers.specs.Explained.{IsProvedBy};
 
 use std::alloc::{AllocError, Global};
 use tt_instance::Instance;

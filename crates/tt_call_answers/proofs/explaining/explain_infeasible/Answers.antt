@@ -1,4 +1,4 @@
-use Rattle.tt_page_reason.proofs.explaining.explain_infeasible.Goals as goal
+use Rattle.tt_call_answers.proofs.explaining.explain_infeasible.Goals as goal
 
 pub returns-in-Some-clause-by : goal.returns-in-Some-clause-by
 returns-in-Some-clause-by c = c.proved_by_leaf.ensures.by c.args.instance.now (rw c.in-Some.is at c.in_ok-leaf.ensures)
