@@ -2,8 +2,8 @@
 use Rattle.std.proofs.Common.{◌≡◌, refl}
 use Rattle.tt_groups_day.specs.declared.fault.DaysFault.{DaysFault}
 use Rattle.tt_groups_day.specs.declared.fault.DaysFault.TheVariants as days
-use Rattle.tt_groups_week.specs.declared.fault.WeekFault.{WeekFault}
-use Rattle.tt_groups_week.specs.declared.fault.WeekFault.TheVariants as week
+use Rattle.tt_groups_day.specs.declared.week_fault.WeekFault.{WeekFault}
+use Rattle.tt_groups_day.specs.declared.week_fault.WeekFault.TheVariants as week
 use Rattle.tt_groups_check.specs.Faults.{fault_from_days, fault_from_week}
 use Rattle.tt_groups_check.specs.declared.fault.GroupFault.TheVariants as fault
 

@@ -14,8 +14,7 @@ use crate::shape::GroupShape;
 use crate::width::{base_cost, is_too_wide};
 use std::alloc::Global;
 use tt_groups::Group;
-use tt_groups_day::{DayWork, MAX_SETS};
-use tt_groups_week::{Digits, MAX_PLACES, week_holds};
+use tt_groups_day::{DayWork, Digits, MAX_PLACES, MAX_SETS, week_holds};
 use tt_instance::{Instance, MAX_DAYS};
 
 /// The maximum number of sequences of sets that the days of one group may try.

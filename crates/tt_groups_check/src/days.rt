@@ -7,7 +7,7 @@ ghost use Rattle.tt_groups_check.specs.Faults.{is_unfinished};
 ghost use Rattle.tt_groups_check.specs.Lists.{AreListed, AreOfDays};
 ghost use Rattle.tt_groups_check.specs.Shapes.{IsGroupShape};
 ghost use Rattle.tt_groups_check.specs.declared.fault.GroupFault.TheVariants as fault;
-ghost use Rattle.tt_groups_week.specs.WeekLists.{AreReached, AreShort};
+ghost use Rattle.tt_groups_day.specs.WeekLists.{AreReached, AreShort};
 
 use crate::availability::same_day;
 use crate::fault::GroupFault;

@@ -1,8 +1,12 @@
 pub mod Choosing
 pub mod Counting
+pub mod Digits
 pub mod Entries
+pub mod Fold
 pub mod Found
 pub mod Running
 pub mod Sets
 pub mod Shapes
+pub mod Steps
+pub mod WeekLists
 pub mod Work

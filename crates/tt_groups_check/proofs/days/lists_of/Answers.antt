@@ -12,7 +12,7 @@ use Rattle.tt_groups_day.specs.Counting.{sets_count}
 use Rattle.tt_groups_day.specs.Work.{sequences_of}
 use Rattle.tt_groups_day.specs.declared.work.DayWork.{DayWork}
 use Rattle.tt_groups_day.specs.declared.morning.CourseSet.{CourseSet}
-use Rattle.tt_groups_week.specs.WeekLists.{AreReached, AreShort}
+use Rattle.tt_groups_day.specs.WeekLists.{AreReached, AreShort}
 use Rattle.tt_groups_check.specs.Availability.{IsSameAvailability}
 use Rattle.tt_groups_check.specs.Lists.{AreListed, AreOfDays}
 use Rattle.tt_groups_check.specs.declared.lists.Lists.{Lists}

@@ -1,9 +1,0 @@
-pub mod Fitting
-pub mod Floors
-pub mod Leading
-pub mod Listing
-pub mod Moving
-pub mod Reaching
-pub mod Relaxing
-pub mod Suiting
-pub mod Weights

@@ -1,4 +1,0 @@
-pub mod Digits
-pub mod Fold
-pub mod Steps
-pub mod WeekLists
