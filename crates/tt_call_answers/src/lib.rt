@@ -1,4 +1,4 @@
-//! What calls answer, their faults, and the names of days and periods that they are given for a page.
+//! What calls answer, their faults, the names of days and periods that they are given for a page, and what a page says if a bound holds.
 #![tactic(auto)]
 
 mod answer;

@@ -4,9 +4,9 @@ ghost use Rattle.std.specs.Prelude.{◌≡◌, ◌+◌, ◌++◌, IfOk, codes};
 ghost use Rattle.tt_call_answers.specs.Lines.{yes_line, broken_line, count_line};
 ghost use Rattle.tt_call_checks.specs.Kept.{IsKeptAnswer, IsTextAnswer, kept_line};
 
+use crate::lines::{bound_line, broken_line, put_count, yes_line};
 use std::alloc::{AllocError, Global};
 use tt_call_answers::Answer;
-use crate::lines::{bound_line, broken_line, put_count, yes_line};
 use tt_leaf::Bound;
 use tt_rules::Score;
 

@@ -12,11 +12,11 @@ ghost use Rattle.tt_proof_sum.specs.Faults.{all_points};
 ghost use Rattle.tt_call_checks.specs.Kept.{AnswersYes, IsCheckedKept, IsCheckRefusal, IsSumKept, SpellsAll};
 
 use crate::answer::{broken_answer, yes_answer};
+use crate::calls::check_sum::summed_bound;
 use crate::fault::KeptFault;
 use crate::files::KeptFiles;
 use std::alloc::Global;
 use tt_call_answers::Answer;
-use crate::calls::check_sum::summed_bound;
 use tt_instance_read::read_instance;
 use tt_rules::score;
 use tt_table::read_solution;

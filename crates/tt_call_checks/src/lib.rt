@@ -1,4 +1,4 @@
-//! The calls that read files and check them.
+//! The calls that read files and check them, also under wishes.
 #![tactic(auto)]
 
 mod answer;
@@ -12,11 +12,11 @@ mod lines;
 pub use bounding::sum_kept;
 pub use calls::bound::bound;
 pub use calls::check::check;
-pub use calls::check_sum::{check_sum, summed_bound};
+pub use calls::check_sum::check_sum;
 pub use calls::sum::sum;
 pub use calls::upgrade::upgrade;
 pub use calls::validate::{score_text, validate};
 pub use checking::check_kept;
 pub use fault::KeptFault;
 pub use files::KeptFiles;
-pub use lines::{bound_line, broken_line, put_count, yes_line};
+pub use lines::put_count;

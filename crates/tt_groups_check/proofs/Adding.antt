@@ -9,10 +9,10 @@ use Rattle.std.proofs.lemmas.List.Elements.{All-push}
 use Rattle.tt_instance.specs.Problem.{Problem}
 use Rattle.tt_groups.specs.Group.{Group}
 use Rattle.tt_groups.specs.Listed.{AreCourses, IsReachedDay}
-use Rattle.tt_groups_day.specs.WeekLists.{AreMovesOn, AreReached}
-use Rattle.tt_groups_day.specs.declared.moves.Move.{Move}
+use Rattle.tt_groups_tables.specs.WeekLists.{AreMovesOn, AreReached}
+use Rattle.tt_groups_tables.specs.declared.moves.Move.{Move}
 use Rattle.tt_groups_check.specs.Availability.{IsSameAvailability}
-use Rattle.tt_groups_day.specs.Fold.{AreReady}
+use Rattle.tt_groups_tables.specs.Fold.{AreReady}
 use Rattle.tt_groups_check.specs.Lists.{AreListed, AreOfDays}
 use Rattle.tt_groups_check.proofs.CoursesAndSizes.{same_list, same_days}
 

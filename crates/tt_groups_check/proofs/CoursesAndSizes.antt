@@ -26,7 +26,7 @@ use Rattle.tt_groups.specs.declared.entry.DayEntry.{DayEntry}
 use Rattle.tt_groups.proofs.Lists.{passing_member, member_before}
 use Rattle.tt_groups.proofs.Projection.{course_own, plan-le_cost}
 use Rattle.tt_groups.proofs.Radix.{at_left, at_right, length-two}
-use Rattle.tt_groups_day.specs.Found.{AreDistinct}
+use Rattle.tt_groups_tables.specs.Found.{AreDistinct}
 use Rattle.tt_groups_check.specs.Availability.{IsSameAvailability}
 use Rattle.tt_groups_check.specs.Limits.{IsGroupOf, courses_of, has_long_course, is_too_wide}
 

@@ -7,8 +7,8 @@ use Rattle.tt_instance.specs.Courses.{lectures}
 use Rattle.tt_groups.specs.Places.{weights_from, places}
 use Rattle.tt_groups.specs.Plans.{slack}
 use Rattle.tt_groups.proofs.Radix.{at_left, at_map, length-two}
-use Rattle.tt_groups_day.specs.Entries.{lecture_sizes, AreLectureDigits}
-use Rattle.tt_groups_day.proofs.Weights.{AreSome, places-take}
+use Rattle.tt_groups_tables.specs.Entries.{lecture_sizes, AreLectureDigits}
+use Rattle.tt_groups_tables.proofs.Weights.{AreSome, places-take}
 use Rattle.tt_groups_check.specs.Shapes.{IsGroupShape}
 use Rattle.tt_groups_check.specs.declared.shape.GroupShape.{GroupShape}
 

@@ -1,9 +1,9 @@
 -- The errors of days and weeks that are reported as too much work.
 use Rattle.std.proofs.Common.{◌≡◌, refl}
-use Rattle.tt_groups_day.specs.declared.fault.DaysFault.{DaysFault}
-use Rattle.tt_groups_day.specs.declared.fault.DaysFault.TheVariants as days
-use Rattle.tt_groups_day.specs.declared.week_fault.WeekFault.{WeekFault}
-use Rattle.tt_groups_day.specs.declared.week_fault.WeekFault.TheVariants as week
+use Rattle.tt_groups_tables.specs.declared.fault.DaysFault.{DaysFault}
+use Rattle.tt_groups_tables.specs.declared.fault.DaysFault.TheVariants as days
+use Rattle.tt_groups_tables.specs.declared.week_fault.WeekFault.{WeekFault}
+use Rattle.tt_groups_tables.specs.declared.week_fault.WeekFault.TheVariants as week
 use Rattle.tt_groups_check.specs.Faults.{fault_from_days, fault_from_week}
 use Rattle.tt_groups_check.specs.declared.fault.GroupFault.TheVariants as fault
 

@@ -2,8 +2,8 @@
 use Rattle.std.proofs.Common.{◌≡◌, ℕ, ◌+◌, ◌*◌, List, ap, ◌∙◌, arith}
 use Rattle.tt_instance.specs.Problem.{Problem}
 use Rattle.tt_groups.specs.Group.{Group}
-use Rattle.tt_groups_day.specs.Counting.{sets_count}
-use Rattle.tt_groups_day.specs.Work.{sequences_of}
+use Rattle.tt_groups_tables.specs.Counting.{sets_count}
+use Rattle.tt_groups_tables.specs.Work.{sequences_of}
 use Rattle.tt_groups_check.specs.Limits.{courses_of, most_sequences}
 
 pub sequences_same : (p : Problem) (g : Group) (cs : List ℕ) → cs ≡ courses_of p g

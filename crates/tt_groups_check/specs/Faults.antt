@@ -1,11 +1,11 @@
 -- Errors of a group's check.
 use Rattle.std.specs.Prelude.{Bool, true, false}
-use Rattle.tt_groups_day.specs.declared.fault.DaysFault.{DaysFault}
-use Rattle.tt_groups_day.specs.declared.fault.DaysFault.TheVariants as days
-use Rattle.tt_groups_day.specs.declared.sets.SetsFault.{SetsFault}
-use Rattle.tt_groups_day.specs.declared.sets.SetsFault.TheVariants as sets
-use Rattle.tt_groups_day.specs.declared.week_fault.WeekFault.{WeekFault}
-use Rattle.tt_groups_day.specs.declared.week_fault.WeekFault.TheVariants as week
+use Rattle.tt_groups_tables.specs.declared.fault.DaysFault.{DaysFault}
+use Rattle.tt_groups_tables.specs.declared.fault.DaysFault.TheVariants as days
+use Rattle.tt_groups_tables.specs.declared.sets.SetsFault.{SetsFault}
+use Rattle.tt_groups_tables.specs.declared.sets.SetsFault.TheVariants as sets
+use Rattle.tt_groups_tables.specs.declared.week_fault.WeekFault.{WeekFault}
+use Rattle.tt_groups_tables.specs.declared.week_fault.WeekFault.TheVariants as week
 use Rattle.tt_groups_check.specs.declared.fault.GroupFault.{GroupFault}
 use Rattle.tt_groups_check.specs.declared.fault.GroupFault.TheVariants as fault
 

@@ -7,9 +7,9 @@ use Rattle.tt_instance.specs.Courses.{lectures}
 use Rattle.tt_groups.specs.Group.{Group, concerns}
 use Rattle.tt_groups.specs.Places.{places, group_sizes}
 use Rattle.tt_groups.specs.Plans.{base_cost}
-use Rattle.tt_groups_day.specs.Counting.{sets_count}
-use Rattle.tt_groups_day.specs.Work.{sequences_of}
-use Rattle.tt_groups_day.specs.declared.digits.TheConstants.{MAX_PLACES}
+use Rattle.tt_groups_tables.specs.Counting.{sets_count}
+use Rattle.tt_groups_tables.specs.Work.{sequences_of}
+use Rattle.tt_groups_tables.specs.declared.digits.TheConstants.{MAX_PLACES}
 use Rattle.tt_groups_check.specs.declared.width.TheConstants.{GROUP_CURRICULA, GROUP_COURSES, GROUP_LECTURES, GROUP_VALUE}
 
 -- Whether the group's curricula and courses are those of the instance.

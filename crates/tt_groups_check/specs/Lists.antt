@@ -3,9 +3,9 @@ use Rattle.std.specs.Prelude.{ℕ, ◌<◌, List, length, All, slice_index, slic
 use Rattle.std.specs.Global.{Global}
 use Rattle.tt_instance.specs.Problem.{Problem}
 use Rattle.tt_groups.specs.Group.{Group}
-use Rattle.tt_groups_day.specs.Fold.{AreReady}
-use Rattle.tt_groups_day.specs.WeekLists.{AreMovesOn}
-use Rattle.tt_groups_day.specs.declared.moves.Move.{Move}
+use Rattle.tt_groups_tables.specs.Fold.{AreReady}
+use Rattle.tt_groups_tables.specs.WeekLists.{AreMovesOn}
+use Rattle.tt_groups_tables.specs.declared.moves.Move.{Move}
 
 -- Whether each list is ready, and each day has one of them.
 pub record AreListed (sizes weights : List ℕ) (courses : ℕ) (lists : List (Vec Move Global)) (of_day : List ℕ) : Type 0 where

@@ -4,7 +4,7 @@ use Rattle.tt_instance.specs.Problem.{Problem}
 use Rattle.tt_instance.specs.Courses.{lectures}
 use Rattle.tt_groups.specs.Listed.{AreCourses}
 use Rattle.tt_groups.specs.Places.{group_sizes}
-use Rattle.tt_groups_day.specs.Found.{AreDistinct}
+use Rattle.tt_groups_tables.specs.Found.{AreDistinct}
 use Rattle.tt_groups_check.specs.declared.shape.GroupShape.{GroupShape}
 
 -- Whether the courses and the sizes of the digits are those of the group, and it is not too wide.

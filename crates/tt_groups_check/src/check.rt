@@ -1,7 +1,7 @@
 //! The check of one group's claim.
 
 ghost use Rattle.std.specs.Prelude.{◌≡◌, ◌+◌, ◌*◌, ◌<◌, ◌≤◌, ◌⊎◌, ◌↔◌, List, false, true, Err, IfErr, IsErrAnd, OnOk, OnErr};
-ghost use Rattle.tt_groups_day.specs.Work.{IsUsedUp};
+ghost use Rattle.tt_groups_tables.specs.Work.{IsUsedUp};
 ghost use Rattle.tt_groups.specs.Group.{group_cost, IsRelaxedTimetable, IsGroupBound};
 ghost use Rattle.tt_instance.specs.declared.cell.Cell.{Cell};
 ghost use Rattle.tt_groups_check.specs.Limits.{IsGroupOf, is_too_wide, states_of, sets_of, MakesTables, most_sequences, most_relaxations, least_relaxations};
@@ -14,7 +14,7 @@ use crate::shape::GroupShape;
 use crate::width::{base_cost, is_too_wide};
 use std::alloc::Global;
 use tt_groups::Group;
-use tt_groups_day::{DayWork, Digits, MAX_PLACES, MAX_SETS, week_holds};
+use tt_groups_tables::{DayWork, Digits, MAX_PLACES, MAX_SETS, week_holds};
 use tt_instance::{Instance, MAX_DAYS};
 
 /// The maximum number of sequences of sets that the days of one group may try.

@@ -2,7 +2,7 @@
 
 ghost use Rattle.std.specs.Prelude.{◌≡◌, ℕ, ◌<◌, ◌≤◌, length, true, All, IfOk};
 ghost use Rattle.tt_groups.specs.Group.{concerns};
-ghost use Rattle.tt_groups_day.specs.Found.{AreDistinct};
+ghost use Rattle.tt_groups_tables.specs.Found.{AreDistinct};
 ghost use Rattle.tt_groups.specs.Listed.{AreCourses};
 ghost use Rattle.tt_groups.specs.Places.{group_sizes};
 ghost use Rattle.tt_groups_check.specs.Limits.{IsGroupOf, courses_of};

@@ -1,20 +1,20 @@
 //! The moves of all days of a group.
 
 ghost use Rattle.std.specs.Prelude.{◌≡◌, ◌⊎◌, ℕ, ◌+◌, ◌*◌, ◌<◌, ◌≤◌, length, All, Err, IfErr, IfOk, OnOk, IsTrue, slice_index};
-ghost use Rattle.tt_groups_day.specs.Counting.{sets_count};
-ghost use Rattle.tt_groups_day.specs.Work.{IsUsedUp, sequences_of};
+ghost use Rattle.tt_groups_tables.specs.Counting.{sets_count};
+ghost use Rattle.tt_groups_tables.specs.Work.{IsUsedUp, sequences_of};
 ghost use Rattle.tt_groups_check.specs.Faults.{is_unfinished};
 ghost use Rattle.tt_groups_check.specs.Lists.{AreListed, AreOfDays};
 ghost use Rattle.tt_groups_check.specs.Shapes.{IsGroupShape};
 ghost use Rattle.tt_groups_check.specs.declared.fault.GroupFault.TheVariants as fault;
-ghost use Rattle.tt_groups_day.specs.WeekLists.{AreReached, AreShort};
+ghost use Rattle.tt_groups_tables.specs.WeekLists.{AreReached, AreShort};
 
 use crate::availability::same_day;
 use crate::fault::GroupFault;
 use crate::lists::Lists;
 use crate::shape::GroupShape;
 use std::alloc::Global;
-use tt_groups_day::{DayShape, DayWork, MAX_SETS, list_days, list_sets};
+use tt_groups_tables::{DayShape, DayWork, MAX_SETS, list_days, list_sets};
 use tt_instance::Instance;
 
 /// Returns the moves of all days. The work that is left goes down with each set that is tried.

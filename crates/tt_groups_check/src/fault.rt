@@ -5,7 +5,7 @@ ghost use Rattle.tt_groups_check.specs.Faults.{fault_from_sets, fault_from_days,
 ghost use Rattle.tt_groups_check.specs.declared.fault.GroupFault.TheVariants as fault;
 
 use std::alloc::AllocError;
-use tt_groups_day::{DaysFault, SetsFault, WeekFault};
+use tt_groups_tables::{DaysFault, SetsFault, WeekFault};
 
 /// Why a group's claim was not confirmed.
 #[derive(Clone, Copy, Debug, PartialEq, Eq)]

@@ -5,13 +5,13 @@ ghost use Rattle.tt_instance.specs.Problem.{Problem};
 ghost use Rattle.tt_groups.specs.Group as spec;
 ghost use Rattle.tt_groups.specs.Listed.{AreCourses, IsDayList, IsReachedDay};
 ghost use Rattle.tt_groups.specs.declared.entry.DayEntry.{DayEntry};
-ghost use Rattle.tt_groups_day.specs.WeekLists.{AreReached, AreShort};
+ghost use Rattle.tt_groups_tables.specs.WeekLists.{AreReached, AreShort};
 ghost use Rattle.tt_groups_check.specs.Availability.{IsSameAvailability};
 ghost use Rattle.tt_groups_check.specs.Lists.{AreListed, AreOfDays};
 
 use std::alloc::{AllocError, Global};
 use tt_groups::DayEntry;
-use tt_groups_day::{Digits, Move, moves_of};
+use tt_groups_tables::{Digits, Move, moves_of};
 
 /// Lists of moves, and the number of the list that each day has.
 #[derive(Debug, Drop)]

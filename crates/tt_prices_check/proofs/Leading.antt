@@ -16,7 +16,7 @@ use Rattle.tt_groups.specs.Plans.{slack}
 use Rattle.tt_groups.specs.Tables.{Vector}
 use Rattle.tt_groups.proofs.Lists.{sum_indices}
 use Rattle.tt_groups.proofs.Radix.{AreBelow, at_left, at_right, length-two}
-use Rattle.tt_groups_day.specs.Steps.{step_of}
+use Rattle.tt_groups_tables.specs.Steps.{step_of}
 use Rattle.tt_prices_check.proofs.Stepping.{pay_of, step_leads}
 
 -- numbers that a list gives in two ways are related if each element relates them

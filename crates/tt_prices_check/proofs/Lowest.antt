@@ -11,8 +11,8 @@ use Rattle.tt_groups.specs.Plans.{Week, lectures_on, used, slack, capped}
 use Rattle.tt_groups.proofs.Lists.{sum_first}
 use Rattle.tt_groups.proofs.Program.{used-more, capped-more}
 use Rattle.tt_groups.proofs.Radix.{place_below, at_left, length-two}
-use Rattle.tt_groups_day.specs.Digits.{digit}
-use Rattle.tt_groups_day.specs.WeekLists.{is_full}
+use Rattle.tt_groups_tables.specs.Digits.{digit}
+use Rattle.tt_groups_tables.specs.WeekLists.{is_full}
 use Rattle.tt_prices.specs.Days.{counted_of, IsDayList, IsPricedPlan}
 use Rattle.tt_prices.specs.Prices.{PricedGroup}
 use Rattle.tt_prices.specs.declared.day.PricedDay.{PricedDay}

@@ -13,12 +13,12 @@ use Rattle.tt_groups.specs.Places.{weights_from, place_of}
 use Rattle.tt_groups.specs.Plans.{Day, Week, lectures_on, IsDay, used, slack, capped}
 use Rattle.tt_groups.proofs.Program.{used-more, capped-more}
 use Rattle.tt_groups.proofs.Radix.{at_left, length-two}
-use Rattle.tt_groups_day.specs.Digits.{digit}
-use Rattle.tt_groups_day.specs.Steps.{has_room, step_of}
-use Rattle.tt_groups_day.specs.WeekLists.{is_full}
-use Rattle.tt_groups_day.specs.declared.state.Step.{Step}
-use Rattle.tt_groups_day.proofs.Listing.{zero_place, all_zero}
-use Rattle.tt_groups_day.proofs.Moving.{fitting_of_room, step-none}
+use Rattle.tt_groups_tables.specs.Digits.{digit}
+use Rattle.tt_groups_tables.specs.Steps.{has_room, step_of}
+use Rattle.tt_groups_tables.specs.WeekLists.{is_full}
+use Rattle.tt_groups_tables.specs.declared.state.Step.{Step}
+use Rattle.tt_groups_tables.proofs.Listing.{zero_place, all_zero}
+use Rattle.tt_groups_tables.proofs.Moving.{fitting_of_room, step-none}
 use Rattle.tt_prices.specs.Days.{unpriced, counted_of, day_paid, IsPricedDay, HasAmounts, IsPricedPlan}
 use Rattle.tt_prices.specs.Prices.{PricedGroup}
 use Rattle.tt_prices.specs.declared.day.PricedDay.{PricedDay}

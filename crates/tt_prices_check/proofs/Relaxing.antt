@@ -2,8 +2,8 @@
 use Rattle.std.proofs.Common.{◌≡◌, ℕ, ◌+◌, ◌*◌, ◌<◌, ◌≤◌, List, [], Some, None, take, length, get_or, below_more, sym, subst, ◌∙◌, arith}
 use Rattle.std.specs.Prelude.{All, slice_index}
 use Rattle.std.proofs.lemmas.List.Elements.{All-more}
-use Rattle.tt_groups_day.specs.Steps.{step_of, Falls}
-use Rattle.tt_groups_day.specs.declared.state.Step.{Step}
+use Rattle.tt_groups_tables.specs.Steps.{step_of, Falls}
+use Rattle.tt_groups_tables.specs.declared.state.Step.{Step}
 use Rattle.tt_prices_check.specs.Inner.Fold.{IsRelaxed}
 use Rattle.tt_prices_check.specs.declared.fold.TheConstants.{NOT_REACHED, MAX_ADDED}
 use Rattle.tt_prices_check.specs.declared.moves.PricedMove.{PricedMove}

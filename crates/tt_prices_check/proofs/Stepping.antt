@@ -8,9 +8,9 @@ use Rattle.tt_list_laws.proofs.Range.{all_below}
 use Rattle.tt_list_laws.proofs.Tests.{sum_by-same_below}
 use Rattle.tt_groups.specs.Places.{weights_from, place_of}
 use Rattle.tt_groups.proofs.Radix.{AreBelow, digit_of, place-by_index, length-weights_from}
-use Rattle.tt_groups_day.specs.Digits.{digit}
-use Rattle.tt_groups_day.specs.Steps.{raised, has_room, moved, paid_at, step_of}
-use Rattle.tt_groups_day.proofs.Moving.{room_of_further, room_of_fitting, step-some}
+use Rattle.tt_groups_tables.specs.Digits.{digit}
+use Rattle.tt_groups_tables.specs.Steps.{raised, has_room, moved, paid_at, step_of}
+use Rattle.tt_groups_tables.proofs.Moving.{room_of_further, room_of_fitting, step-some}
 
 -- the digits of a place can be read off it
 pub digit_read : (sizes ds : List ℕ) → AreBelow sizes ds → (j : ℕ) → j < length sizes

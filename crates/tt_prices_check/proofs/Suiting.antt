@@ -6,7 +6,7 @@ use Rattle.std.proofs.lemmas.Int.{ints}
 use Rattle.tt_instance.specs.Problem.{Problem}
 use Rattle.tt_groups.specs.Places.{weights_from, places}
 use Rattle.tt_groups.specs.Plans.{Week}
-use Rattle.tt_groups_day.specs.WeekLists.{is_full}
+use Rattle.tt_groups_tables.specs.WeekLists.{is_full}
 use Rattle.tt_prices.specs.Days.{counted_of, IsDayList, IsPricedPlan}
 use Rattle.tt_prices.specs.Prices.{PricedGroup}
 use Rattle.tt_prices.specs.declared.day.PricedDay.{PricedDay}

@@ -6,9 +6,9 @@ use Rattle.tt_instance.specs.Problem.{Problem}
 use Rattle.tt_instance.specs.Courses.{lectures}
 use Rattle.tt_instance.specs.declared.cell.Cell.{Cell}
 use Rattle.tt_groups.specs.Places.{places}
-use Rattle.tt_groups_day.specs.Counting.{sets_count}
-use Rattle.tt_groups_day.specs.declared.sets.TheConstants.{MAX_SETS}
-use Rattle.tt_groups_day.specs.declared.digits.TheConstants.{MAX_PLACES}
+use Rattle.tt_groups_tables.specs.Counting.{sets_count}
+use Rattle.tt_groups_tables.specs.declared.sets.TheConstants.{MAX_SETS}
+use Rattle.tt_groups_tables.specs.declared.digits.TheConstants.{MAX_PLACES}
 use Rattle.tt_prices.specs.Days.{courses_of}
 use Rattle.tt_prices.specs.Prices.{PricedGroup, IsRelaxedTimetable, IsGroupBound, paid}
 use Rattle.tt_prices_check.specs.Week.{week_sizes}

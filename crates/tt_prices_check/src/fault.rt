@@ -4,7 +4,7 @@ ghost use Rattle.std.specs.Prelude.{◌≡◌};
 ghost use Rattle.tt_prices_check.specs.Inner.Faults.{stop_from_sets, stop_from_days, stop_from_week};
 
 use thiserror::Error;
-use tt_groups_day::{DaysFault, SetsFault, WeekFault};
+use tt_groups_tables::{DaysFault, SetsFault, WeekFault};
 use tt_text::Stop;
 
 /// Why it isn't found what a group pays at least. None of them says anything about the group's prices.

@@ -1,14 +1,14 @@
 //! The fold of a day's moves into the table of the days before it.
 
 ghost use Rattle.std.specs.Prelude.{◌≡◌, ◌⊎◌, ℕ, ◌+◌, ◌*◌, ◌<◌, ◌≤◌, length, slice_index, All, OnOk, OnErr};
-ghost use Rattle.tt_groups_day.specs.Fold.{IsState};
-ghost use Rattle.tt_groups_day.specs.Steps.{Falls};
-ghost use Rattle.tt_groups_day.specs.declared.digits.TheConstants.{MAX_PLACES};
+ghost use Rattle.tt_groups_tables.specs.Fold.{IsState};
+ghost use Rattle.tt_groups_tables.specs.Steps.{Falls};
+ghost use Rattle.tt_groups_tables.specs.declared.digits.TheConstants.{MAX_PLACES};
 ghost use Rattle.tt_prices_check.specs.Inner.Fold.{IsRelaxed, IsMade, IsMadeFrom, AreWithin};
 ghost use Rattle.tt_prices_check.specs.Moves.{AreReady};
 
 use crate::moves::PricedMove;
-use tt_groups_day::{Digits, State, WeekFault, advance, state_at};
+use tt_groups_tables::{Digits, State, WeekFault, advance, state_at};
 
 /// The value of a place to which no days lead.
 pub const NOT_REACHED: u64 = u64::MAX;

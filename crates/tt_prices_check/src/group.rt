@@ -17,7 +17,7 @@ use crate::whole_week::least_week;
 use crate::width::{MAX_GROUP_COURSES, is_too_wide};
 use crate::work::PricedWork;
 use std::alloc::Global;
-use tt_groups_day::Digits;
+use tt_groups_tables::Digits;
 use tt_instance::{Instance, MISSING_DAY_COST};
 use tt_prices::PricedGroup;
 use tt_prices_day::Shape;

@@ -1,13 +1,13 @@
 //! The entries of a day, ready for the fold.
 
 ghost use Rattle.std.specs.Prelude.{◌≡◌, ◌+ℤ◌, ◌<◌, ◌≤ℤ◌, pos, length, map, slice_index_or, IfOk, All, Contains};
-ghost use Rattle.tt_groups_day.specs.declared.moves.Move.{Move};
+ghost use Rattle.tt_groups_tables.specs.declared.moves.Move.{Move};
 ghost use Rattle.tt_prices_check.specs.Inner.Sorted.{AreSorted, AreSortedMoves, HasMoveOf, plain};
 ghost use Rattle.tt_prices_check.specs.Moves.{IsSmall, IsMoveOf, AreReady, AreMovesOf};
 
 use std::alloc::{AllocError, Global};
 use tt_groups::{DIGITS, DayEntry};
-use tt_groups_day::{Digits, Move, moves_of};
+use tt_groups_tables::{Digits, Move, moves_of};
 use tt_prices::PricedDay;
 
 /// The most that a day may pay, and the most that it may get.

@@ -11,7 +11,7 @@ use crate::fault::{PricedFault, stop_from_days};
 use crate::moves::{PricedMove, priced_moves_of};
 use crate::work::MAX_GROUP_STEPS;
 use std::alloc::{AllocError, Global};
-use tt_groups_day::Digits;
+use tt_groups_tables::Digits;
 use tt_instance::Instance;
 use tt_prices::PricedGroup;
 use tt_prices_day::{Shape, list_days};

@@ -1,9 +1,9 @@
 //! The least that a whole week pays.
 
 ghost use Rattle.std.specs.Prelude.{◌≡◌, ℕ, ◌+◌, ◌*◌, ◌^◌, IfSome, ◌<◌, ◌≤◌, length, slice_index, true, All, IfOk, OnOk, Err};
-ghost use Rattle.tt_groups_day.specs.WeekLists.{is_full};
-ghost use Rattle.tt_groups_day.specs.declared.digits.TheConstants.{MAX_PLACES};
-ghost use Rattle.tt_groups_day.specs.declared.week_fault.WeekFault.TheVariants as fault;
+ghost use Rattle.tt_groups_tables.specs.WeekLists.{is_full};
+ghost use Rattle.tt_groups_tables.specs.declared.digits.TheConstants.{MAX_PLACES};
+ghost use Rattle.tt_groups_tables.specs.declared.week_fault.WeekFault.TheVariants as fault;
 ghost use Rattle.tt_instance.specs.Problem.{Problem};
 ghost use Rattle.tt_instance.specs.declared.limit.TheConstants.{MAX_DAYS};
 ghost use Rattle.tt_prices.specs.Limits.{IsWithin};
@@ -15,7 +15,7 @@ ghost use Rattle.tt_prices_check.specs.declared.fold.TheConstants.{NOT_REACHED};
 use crate::fold::{NOT_REACHED, extend};
 use crate::moves::{MAX_PAID, PricedMove};
 use std::alloc::Global;
-use tt_groups_day::{Digits, WeekFault, state_at};
+use tt_groups_tables::{Digits, WeekFault, state_at};
 
 /// Checks whether each course has all its lectures at a place.
 fn is_full(digits: &Digits, place: u32) -> bool

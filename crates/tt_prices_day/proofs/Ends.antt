@@ -13,11 +13,11 @@ use Rattle.tt_instance.specs.Problem.{Problem}
 use Rattle.tt_instance.specs.Courses.{lectures}
 use Rattle.tt_groups.specs.Plans.{Day, lectures_on, day_cost, slack}
 use Rattle.tt_groups.proofs.Lists.{sum_indices, sum_by-same_member}
-use Rattle.tt_groups_day.specs.Running.{is_pending, settled_cost}
-use Rattle.tt_groups_day.specs.Sets.{has_course, Begins}
-use Rattle.tt_groups_day.specs.declared.morning.CourseSet.{CourseSet}
-use Rattle.tt_groups_day.proofs.Beginning.{ones-of_word, count_prefix}
-use Rattle.tt_groups_day.proofs.Running.{day_cost-pending}
+use Rattle.tt_groups_tables.specs.Running.{is_pending, settled_cost}
+use Rattle.tt_groups_tables.specs.Sets.{has_course, Begins}
+use Rattle.tt_groups_tables.specs.declared.morning.CourseSet.{CourseSet}
+use Rattle.tt_groups_tables.proofs.Beginning.{ones-of_word, count_prefix}
+use Rattle.tt_groups_tables.proofs.Running.{day_cost-pending}
 use Rattle.tt_prices.specs.Days.{unpriced, courses_of, day_prices, further_on}
 use Rattle.tt_prices.specs.Prices.{PricedGroup}
 use Rattle.tt_prices_day.specs.Inner.Following.{is_counted, is_paying, cap, AreRules, beyond}

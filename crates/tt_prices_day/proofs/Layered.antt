@@ -13,13 +13,13 @@ use Rattle.tt_instance.specs.Courses.{lectures, unavailable}
 use Rattle.tt_groups.specs.Listed.{AreCourses}
 use Rattle.tt_groups.specs.Plans.{Day, lectures_on, slack}
 use Rattle.tt_groups.proofs.Lists.{passing_member, sum_first}
-use Rattle.tt_groups_day.specs.Choosing.{IsApart}
-use Rattle.tt_groups_day.specs.Found.{AreOpenSets}
-use Rattle.tt_groups_day.specs.Sets.{has_course, Begins, IsComplete, IsCourseSet}
-use Rattle.tt_groups_day.specs.declared.morning.CourseSet.{CourseSet}
-use Rattle.tt_groups_day.proofs.Beginning.{count_prefix, count_one_more, one_if_course}
-use Rattle.tt_groups_day.proofs.Finding.{nothing_there, open_first, open_more}
-use Rattle.tt_groups_day.proofs.Searching.{begins-more}
+use Rattle.tt_groups_tables.specs.Choosing.{IsApart}
+use Rattle.tt_groups_tables.specs.Found.{AreOpenSets}
+use Rattle.tt_groups_tables.specs.Sets.{has_course, Begins, IsComplete, IsCourseSet}
+use Rattle.tt_groups_tables.specs.declared.morning.CourseSet.{CourseSet}
+use Rattle.tt_groups_tables.proofs.Beginning.{count_prefix, count_one_more, one_if_course}
+use Rattle.tt_groups_tables.proofs.Finding.{nothing_there, open_first, open_more}
+use Rattle.tt_groups_tables.proofs.Searching.{begins-more}
 use Rattle.tt_prices.specs.Days.{unpriced, courses_of, IsPricedDay}
 use Rattle.tt_prices.specs.Prices.{PricedGroup}
 use Rattle.tt_prices_day.specs.Inner.Following.{is_counted, cap, AreRules}

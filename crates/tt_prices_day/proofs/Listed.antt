@@ -20,12 +20,12 @@ use Rattle.tt_instance.specs.Courses.{lectures, unavailable, conflict}
 use Rattle.tt_groups.specs.Plans.{Day, lectures_on, day_cost, slack}
 use Rattle.tt_groups.proofs.Lists.{member_before, passing_member}
 use Rattle.tt_groups.proofs.Projection.{course_own}
-use Rattle.tt_groups_day.specs.Choosing.{IsApart}
-use Rattle.tt_groups_day.specs.Found.{AreDistinct}
-use Rattle.tt_groups_day.specs.Sets.{Begins, IsComplete, IsCourseSet}
-use Rattle.tt_groups_day.specs.declared.morning.CourseSet.{CourseSet}
-use Rattle.tt_groups_day.proofs.Finding.{is_there, day_of, held, begins_day}
-use Rattle.tt_groups_day.proofs.Searching.{no_set}
+use Rattle.tt_groups_tables.specs.Choosing.{IsApart}
+use Rattle.tt_groups_tables.specs.Found.{AreDistinct}
+use Rattle.tt_groups_tables.specs.Sets.{Begins, IsComplete, IsCourseSet}
+use Rattle.tt_groups_tables.specs.declared.morning.CourseSet.{CourseSet}
+use Rattle.tt_groups_tables.proofs.Finding.{is_there, day_of, held, begins_day}
+use Rattle.tt_groups_tables.proofs.Searching.{no_set}
 use Rattle.tt_prices.specs.Days.{unpriced, courses_of, counted_of, day_paid, further_on, HasAmounts, IsPricedDay, IsDayList}
 use Rattle.tt_prices.specs.Prices.{PricedGroup, concerns}
 use Rattle.tt_prices.specs.declared.day.PricedDay.{PricedDay}

@@ -10,8 +10,8 @@ use Rattle.tt_instance.specs.Cells.{slot}
 use Rattle.tt_instance.specs.Problem.{Problem}
 use Rattle.tt_groups.specs.Plans.{Day}
 use Rattle.tt_groups.proofs.Lists.{member_before}
-use Rattle.tt_groups_day.specs.Sets.{has_course, Begins}
-use Rattle.tt_groups_day.specs.declared.morning.CourseSet.{CourseSet}
+use Rattle.tt_groups_tables.specs.Sets.{has_course, Begins}
+use Rattle.tt_groups_tables.specs.declared.morning.CourseSet.{CourseSet}
 use Rattle.tt_prices.specs.Days.{unpriced, courses_of, day_prices}
 use Rattle.tt_prices.specs.Prices.{PricedGroup}
 use Rattle.tt_prices.specs.Signed.{signed_sum}

@@ -7,11 +7,11 @@ use Rattle.tt_list_laws.specs.Words.{range_below}
 use Rattle.tt_list_laws.proofs.Sums.{sum_by-plus, sum_by-same, sum_by-nothing}
 use Rattle.tt_instance.specs.Problem.{Problem}
 use Rattle.tt_groups.specs.Listed.{AreCourses}
-use Rattle.tt_groups_day.specs.Sets.{IsCourseSet}
-use Rattle.tt_groups_day.specs.declared.morning.CourseSet.{CourseSet}
-use Rattle.tt_groups_day.specs.declared.morning.Morning.{Morning}
-use Rattle.tt_groups_day.proofs.Beginning.{morning-more}
-use Rattle.tt_groups_day.proofs.Starting.{morning-start}
+use Rattle.tt_groups_tables.specs.Sets.{IsCourseSet}
+use Rattle.tt_groups_tables.specs.declared.morning.CourseSet.{CourseSet}
+use Rattle.tt_groups_tables.specs.declared.morning.Morning.{Morning}
+use Rattle.tt_groups_tables.proofs.Beginning.{morning-more}
+use Rattle.tt_groups_tables.proofs.Starting.{morning-start}
 use Rattle.tt_prices.specs.Days.{unpriced}
 use Rattle.tt_prices.specs.Prices.{PricedGroup}
 use Rattle.tt_prices_day.specs.Inner.Following.{beyond}

@@ -5,8 +5,8 @@ use Rattle.tt_instance.specs.Courses.{lectures}
 use Rattle.tt_list_laws.specs.Words.{are_distinct}
 use Rattle.tt_groups.specs.Listed.{AreCourses}
 use Rattle.tt_groups.specs.Plans.{slack}
-use Rattle.tt_groups_day.specs.Choosing.{IsApart}
-use Rattle.tt_groups_day.specs.Sets.{IsComplete, IsCourseSet}
+use Rattle.tt_groups_tables.specs.Choosing.{IsApart}
+use Rattle.tt_groups_tables.specs.Sets.{IsComplete, IsCourseSet}
 use Rattle.tt_prices.specs.Prices.{PricedGroup}
 use Rattle.tt_prices.specs.Days.{unpriced, courses_of, counted_of}
 use Rattle.tt_prices.specs.declared.price.TheConstants.{MAX_SCALE}

@@ -1,7 +1,7 @@
 //! The list of a day.
 
 ghost use Rattle.std.specs.Prelude.{◌≡◌, ◌^◌, ◌≤◌, ◌∷◌, [], All, IfOk, Err};
-ghost use Rattle.tt_groups_day.specs.declared.fault.DaysFault.TheVariants as fault;
+ghost use Rattle.tt_groups_tables.specs.declared.fault.DaysFault.TheVariants as fault;
 ghost use Rattle.tt_prices.specs.Days.{IsDayList};
 ghost use Rattle.tt_prices.specs.Limits.{IsWithin};
 ghost use Rattle.tt_prices_day.specs.Inner.Layers.{first_node};
@@ -14,7 +14,7 @@ use crate::letters::{Time, letters_of};
 use crate::node::{Key, Node};
 use crate::shape::Shape;
 use std::alloc::{AllocError, Global};
-use tt_groups_day::{COURSES, DaysFault};
+use tt_groups_tables::{COURSES, DaysFault};
 use tt_instance::Instance;
 use tt_prices::{PricedDay, PricedGroup};
 

@@ -14,7 +14,7 @@ use crate::node::Node;
 use crate::shape::Shape;
 use std::alloc::{AllocError, Global};
 use tt_groups::DIGITS;
-use tt_groups_day::COURSES;
+use tt_groups_tables::COURSES;
 use tt_instance::MISSING_DAY_COST;
 use tt_prices::PricedDay;
 

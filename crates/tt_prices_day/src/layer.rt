@@ -1,7 +1,7 @@
 //! The layers of a day: for each key of the first periods, what they pay at least.
 
 ghost use Rattle.std.specs.Prelude.{◌≡◌, ◌⊎◌, ℕ, ◌+◌, ◌*◌, ◌^◌, ◌<◌, ◌≤◌, ◌≤ℤ◌, length, slice_index, Contains, All, OnOk, OnErr, IfOk, Err};
-ghost use Rattle.tt_groups_day.specs.declared.fault.DaysFault.TheVariants as fault;
+ghost use Rattle.tt_groups_tables.specs.declared.fault.DaysFault.TheVariants as fault;
 ghost use Rattle.tt_prices_day.specs.Inner.Layers.{IsNext, IsOver, IsNodeWithin, IsLetterWithin, HasCheaper, AreFollowed, AreReached, IsEndOf, AreEnded, AreEndsOf};
 ghost use Rattle.tt_prices.specs.Limits.{IsWithin};
 ghost use Rattle.tt_prices.specs.declared.price.TheConstants.{MAX_SCALE};
@@ -13,7 +13,7 @@ use crate::letters::Letter;
 use crate::node::{Key, Node, next_node, raised};
 use crate::rules::Rules;
 use std::alloc::{AllocError, Global};
-use tt_groups_day::DaysFault;
+use tt_groups_tables::DaysFault;
 use tt_instance::ISOLATED_COST;
 
 /// Adds the nodes to which a letter leads.

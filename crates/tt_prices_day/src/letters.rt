@@ -3,14 +3,14 @@
 ghost use Rattle.std.specs.Prelude.{◌≡◌, ℕ, ◌*◌, ◌^◌, ◌<◌, ◌≤◌, pos, length, map, Contains, IfOk, Some, slice_get, slice_index, All, true, false};
 ghost use Rattle.tt_instance.specs.Cells.{slot};
 ghost use Rattle.tt_instance.specs.Courses.{unavailable};
-ghost use Rattle.tt_groups_day.specs.Sets.{has_course};
-ghost use Rattle.tt_groups_day.specs.declared.morning.CourseSet.{CourseSet};
+ghost use Rattle.tt_groups_tables.specs.Sets.{has_course};
+ghost use Rattle.tt_groups_tables.specs.declared.morning.CourseSet.{CourseSet};
 ghost use Rattle.tt_prices_day.specs.Inner.Layers.{AreLetters, sum_of};
 ghost use Rattle.tt_prices.specs.Limits.{IsPrice, IsWithin};
 ghost use Rattle.tt_prices.specs.Rows.{group_of};
 
 use std::alloc::{AllocError, Global};
-use tt_groups_day::{COURSES, CourseSet};
+use tt_groups_tables::{COURSES, CourseSet};
 use tt_instance::Instance;
 use tt_prices::PricedGroup;
 

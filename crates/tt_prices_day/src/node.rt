@@ -8,7 +8,7 @@ ghost use Rattle.tt_prices.specs.declared.price.TheConstants.{MAX_SCALE};
 
 use crate::letters::Letter;
 use crate::rules::Rules;
-use tt_groups_day::{COURSES, fits};
+use tt_groups_tables::{COURSES, fits};
 use tt_instance::{ISOLATED_COST, MISSING_DAY_COST};
 
 /// The lectures of each course that are counted, and the curricula of the last period: all of them, and those that were not in the period

@@ -5,7 +5,7 @@ ghost use Rattle.tt_instance.specs.Courses.{lectures};
 ghost use Rattle.tt_prices_day.specs.Inner.Following.{is_counted, is_paying, cap, AreRules};
 ghost use Rattle.tt_prices.specs.Rows.{group_of};
 
-use tt_groups_day::COURSES;
+use tt_groups_tables::COURSES;
 use tt_instance::Instance;
 use tt_prices::PricedGroup;
 

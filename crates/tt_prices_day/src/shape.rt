@@ -3,8 +3,8 @@
 ghost use Rattle.std.specs.Prelude.{◌≡◌, ℕ, ◌≤◌, ◌<◌, length, not, filter, All, Contains, IfOk, Err, OnOk, slice_index};
 ghost use Rattle.tt_list_laws.specs.Words.{has_number};
 ghost use Rattle.tt_instance.specs.Courses.{lectures};
-ghost use Rattle.tt_groups_day.specs.Counting.{sets_count};
-ghost use Rattle.tt_groups_day.specs.declared.sets.SetsFault.TheVariants as fault;
+ghost use Rattle.tt_groups_tables.specs.Counting.{sets_count};
+ghost use Rattle.tt_groups_tables.specs.declared.sets.SetsFault.TheVariants as fault;
 ghost use Rattle.tt_prices.specs.Days.{unpriced, courses_of};
 ghost use Rattle.tt_prices.specs.declared.price.TheConstants.{MAX_SCALE};
 ghost use Rattle.tt_prices_day.specs.Shapes.{ArePlaces, AreOwn, IsNarrow, IsShape};
@@ -13,7 +13,7 @@ ghost use Rattle.tt_prices.specs.Rows.{group_of};
 use crate::rules::{MAX_LECTURES, Rules, rules_of};
 use std::alloc::{AllocError, Global};
 use tt_groups::Group;
-use tt_groups_day::{COURSES, CourseSet, MAX_SETS, SetsFault, list_sets};
+use tt_groups_tables::{COURSES, CourseSet, MAX_SETS, SetsFault, list_sets};
 use tt_instance::Instance;
 use tt_prices::PricedGroup;
 

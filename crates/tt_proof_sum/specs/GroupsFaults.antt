@@ -11,8 +11,8 @@ use Rattle.tt_groups.specs.Group.{group_cost, IsRelaxedTimetable, IsGroupBound}
 use Rattle.tt_groups_check.specs.Limits.{is_too_wide, states_of, sets_of, MakesTables}
 use Rattle.tt_groups_check.specs.declared.fault.GroupFault.{GroupFault}
 use Rattle.tt_groups_check.specs.declared.fault.GroupFault.TheVariants as group
-use Rattle.tt_groups_day.specs.declared.sets.TheConstants.{MAX_SETS}
-use Rattle.tt_groups_day.specs.declared.digits.TheConstants.{MAX_PLACES}
+use Rattle.tt_groups_tables.specs.declared.sets.TheConstants.{MAX_SETS}
+use Rattle.tt_groups_tables.specs.declared.digits.TheConstants.{MAX_PLACES}
 use Rattle.tt_groups_read.specs.Faults.{is_environmental}
 use Rattle.tt_groups_read.specs.Reading.{header_at, group_at}
 use Rattle.tt_groups_read.specs.Reads.{ReadsClaims}

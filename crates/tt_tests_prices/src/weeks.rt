@@ -7,7 +7,7 @@ use crate::drawn::{Drawn, Entry, draw, least_paid};
 use std::alloc::{AllocError, Global};
 use std::test::Fail;
 use tt_groups::DIGITS;
-use tt_groups_day::{Digits, WeekFault};
+use tt_groups_tables::{Digits, WeekFault};
 use tt_prices::PricedDay;
 use tt_prices_check::{PricedMove, least_week, priced_moves_of};
 

@@ -1,12 +1,12 @@
 -- Why a group with prices is stopped by the faults of its parts.
 use Rattle.tt_text.specs.declared.stop.Stop.{Stop}
 use Rattle.tt_text.specs.declared.stop.Stop.TheVariants.{Fault, OutOfMemory}
-use Rattle.tt_groups_day.specs.declared.fault.DaysFault.{DaysFault}
-use Rattle.tt_groups_day.specs.declared.fault.DaysFault.TheVariants as days
-use Rattle.tt_groups_day.specs.declared.sets.SetsFault.{SetsFault}
-use Rattle.tt_groups_day.specs.declared.sets.SetsFault.TheVariants as sets
-use Rattle.tt_groups_day.specs.declared.week_fault.WeekFault.{WeekFault}
-use Rattle.tt_groups_day.specs.declared.week_fault.WeekFault.TheVariants as week
+use Rattle.tt_groups_tables.specs.declared.fault.DaysFault.{DaysFault}
+use Rattle.tt_groups_tables.specs.declared.fault.DaysFault.TheVariants as days
+use Rattle.tt_groups_tables.specs.declared.sets.SetsFault.{SetsFault}
+use Rattle.tt_groups_tables.specs.declared.sets.SetsFault.TheVariants as sets
+use Rattle.tt_groups_tables.specs.declared.week_fault.WeekFault.{WeekFault}
+use Rattle.tt_groups_tables.specs.declared.week_fault.WeekFault.TheVariants as week
 use Rattle.tt_prices_check.specs.declared.fault.PricedFault.{PricedFault}
 use Rattle.tt_prices_check.specs.declared.fault.PricedFault.TheVariants as fault
 

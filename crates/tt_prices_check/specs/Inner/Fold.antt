@@ -1,7 +1,7 @@
 -- What the fold does with the moves of a day.
 use Rattle.std.specs.Prelude.{◌≡◌, ℕ, ◌+◌, ◌*◌, ◌<◌, ◌≤◌, List, length, Contains, slice_index, Some}
-use Rattle.tt_groups_day.specs.Steps.{step_of}
-use Rattle.tt_groups_day.specs.declared.state.Step.{Step}
+use Rattle.tt_groups_tables.specs.Steps.{step_of}
+use Rattle.tt_groups_tables.specs.declared.state.Step.{Step}
 use Rattle.tt_prices_check.specs.declared.fold.TheConstants.{NOT_REACHED, MAX_ADDED}
 use Rattle.tt_prices_check.specs.declared.moves.PricedMove.{PricedMove}
 

@@ -4,8 +4,8 @@ use Rattle.std.specs.Cmp.Lexicographic.{slice_cmp}
 use Rattle.std.specs.List.Sorted.{IsSortedByKey}
 use Rattle.std.specs.Ordering.{nat_cmp}
 use Rattle.tt_groups.specs.declared.entry.DayEntry.{DayEntry}
-use Rattle.tt_groups_day.specs.Fold.{index_of, floor_of}
-use Rattle.tt_groups_day.specs.declared.moves.Move.{Move}
+use Rattle.tt_groups_tables.specs.Fold.{index_of, floor_of}
+use Rattle.tt_groups_tables.specs.declared.moves.Move.{Move}
 use Rattle.tt_prices.specs.declared.day.PricedDay.{PricedDay}
 
 -- The amounts of an entry, at no cost.

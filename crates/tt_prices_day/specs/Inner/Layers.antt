@@ -6,9 +6,9 @@ use Rattle.tt_instance.specs.declared.limit.TheConstants.{ISOLATED_COST, MISSING
 use Rattle.tt_instance.specs.Problem.{Problem}
 use Rattle.tt_instance.specs.Cells.{slot}
 use Rattle.tt_instance.specs.Courses.{unavailable}
-use Rattle.tt_groups_day.specs.Sets.{has_course, IsMorningOf}
-use Rattle.tt_groups_day.specs.declared.morning.CourseSet.{CourseSet}
-use Rattle.tt_groups_day.specs.declared.morning.Morning.{Morning}
+use Rattle.tt_groups_tables.specs.Sets.{has_course, IsMorningOf}
+use Rattle.tt_groups_tables.specs.declared.morning.CourseSet.{CourseSet}
+use Rattle.tt_groups_tables.specs.declared.morning.Morning.{Morning}
 use Rattle.tt_prices.specs.Prices.{PricedGroup}
 use Rattle.tt_prices.specs.Days.{unpriced}
 use Rattle.tt_prices.specs.Limits.{IsWithin}

@@ -6,14 +6,14 @@ use Rattle.std.proofs.lemmas.Result.{err_from_is_err_and}
 use Rattle.std.specs.Global.{Global}
 use Rattle.std.specs.Prelude.{All}
 use Rattle.tt_groups.specs.Places.{group_sizes, places}
-use Rattle.tt_groups_day.specs.Fold.{AreReady}
-use Rattle.tt_groups_day.specs.WeekLists.{Suits, AreReached, AreShort}
+use Rattle.tt_groups_tables.specs.Fold.{AreReady}
+use Rattle.tt_groups_tables.specs.WeekLists.{Suits, AreReached, AreShort}
 use Rattle.std.proofs.lemmas.List.Elements.{Contains-get_or}
 use Rattle.tt_instance.specs.Courses.{lectures}
 use Rattle.tt_groups.specs.Listed.{AreCourses}
-use Rattle.tt_groups_day.specs.Found.{AreDistinct}
+use Rattle.tt_groups_tables.specs.Found.{AreDistinct}
 use Rattle.tt_groups_check.specs.Lists.{AreOfDays}
-use Rattle.tt_groups_day.specs.declared.moves.Move.{Move}
+use Rattle.tt_groups_tables.specs.declared.moves.Move.{Move}
 use Rattle.tt_groups_check.proofs.CoursesAndSizes.{narrow_from, courses_below, digits_between, digits_few, base_bound}
 use Rattle.tt_groups_check.proofs.Reported.{work_of_week}
 use Rattle.tt_groups_check.proofs.Taken.{sequences_same, relaxations_same, least_same}

@@ -5,7 +5,7 @@ use Rattle.tt_groups.specs.Group.{concerns}
 use Rattle.tt_groups.specs.Listed.{AreCourses}
 use Rattle.tt_groups_check.specs.Limits.{courses_of}
 use Rattle.tt_groups_check.proofs.CoursesAndSizes.{are_courses, concerned_below, distinct_passing}
-use Rattle.tt_groups_day.specs.Found.{AreDistinct}
+use Rattle.tt_groups_tables.specs.Found.{AreDistinct}
 use Rattle.tt_groups_check.proofs.courses.courses_of.Goals as goal
 use Rattle.tt_groups_check.proofs.courses.courses_of.Goals.{then-is_concerned+in_ok-push, else-is_concerned}
 use Rattle.tt_list_laws.proofs.Below.{filter_more-passing, filter_more-failing}

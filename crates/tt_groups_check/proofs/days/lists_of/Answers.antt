@@ -3,16 +3,16 @@ use Rattle.std.proofs.Math.Nat.{mul-le-mul_right}
 use Rattle.std.proofs.lemmas.Result.{err_from_is_err_and}
 use Rattle.tt_groups.specs.Listed.{IsDayList, IsReachedDay}
 use Rattle.tt_groups.specs.declared.entry.DayEntry.{DayEntry}
-use Rattle.tt_groups_day.specs.Entries.{AreLectureDigits}
-use Rattle.tt_groups_day.specs.Sets.{IsComplete, IsCourseSet}
-use Rattle.tt_groups_day.specs.declared.morning.TheConstants.{MAX_INDEX}
+use Rattle.tt_groups_tables.specs.Entries.{AreLectureDigits}
+use Rattle.tt_groups_tables.specs.Sets.{IsComplete, IsCourseSet}
+use Rattle.tt_groups_tables.specs.declared.morning.TheConstants.{MAX_INDEX}
 use Rattle.std.specs.Prelude.{All, Contains}
-use Rattle.tt_groups_day.specs.Choosing.{IsApart}
-use Rattle.tt_groups_day.specs.Counting.{sets_count}
-use Rattle.tt_groups_day.specs.Work.{sequences_of}
-use Rattle.tt_groups_day.specs.declared.work.DayWork.{DayWork}
-use Rattle.tt_groups_day.specs.declared.morning.CourseSet.{CourseSet}
-use Rattle.tt_groups_day.specs.WeekLists.{AreReached, AreShort}
+use Rattle.tt_groups_tables.specs.Choosing.{IsApart}
+use Rattle.tt_groups_tables.specs.Counting.{sets_count}
+use Rattle.tt_groups_tables.specs.Work.{sequences_of}
+use Rattle.tt_groups_tables.specs.declared.work.DayWork.{DayWork}
+use Rattle.tt_groups_tables.specs.declared.morning.CourseSet.{CourseSet}
+use Rattle.tt_groups_tables.specs.WeekLists.{AreReached, AreShort}
 use Rattle.tt_groups_check.specs.Availability.{IsSameAvailability}
 use Rattle.tt_groups_check.specs.Lists.{AreListed, AreOfDays}
 use Rattle.tt_groups_check.specs.declared.lists.Lists.{Lists}

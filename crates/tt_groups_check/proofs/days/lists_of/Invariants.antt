@@ -1,7 +1,7 @@
 use Rattle.std.proofs.Common.{◌≡◌, ◌+◌, ◌*◌, ◌≤◌, length}
 use Rattle.tt_groups_check.specs.Lists.{AreListed, AreOfDays}
-use Rattle.tt_groups_day.specs.Work.{sequences_of}
-use Rattle.tt_groups_day.specs.WeekLists.{AreReached, AreShort}
+use Rattle.tt_groups_tables.specs.Work.{sequences_of}
+use Rattle.tt_groups_tables.specs.WeekLists.{AreReached, AreShort}
 use Rattle.tt_groups_check.proofs.days.lists_of.Given as goal
 
 abbrev pub invariant-loop-day : goal.invariant-loop-day

@@ -1,7 +1,7 @@
 use Rattle.std.proofs.Common.{◌≡◌, ℕ, inl, inr, List, sym, ap, subst, arith}
 use Rattle.std.specs.Prelude.{◌⊎◌, All, slice_index}
 use Rattle.tt_groups.proofs.Lists.{made-more}
-use Rattle.tt_groups_day.specs.Steps.{Falls}
+use Rattle.tt_groups_tables.specs.Steps.{Falls}
 use Rattle.tt_prices_check.specs.Inner.Fold.{IsMade, IsMadeFrom}
 use Rattle.tt_prices_check.proofs.Relaxing.{Relaxed, extended-more}
 use Rattle.tt_prices_check.proofs.fold.extend.Goals as goal

@@ -1,6 +1,6 @@
 use Rattle.std.proofs.Common.{◌≡◌, ℕ, ◌+◌, ◌*◌, ◌<◌, ◌≤◌, length}
 use Rattle.std.specs.Prelude.{◌⊎◌, All, slice_index}
-use Rattle.tt_groups_day.specs.Steps.{Falls}
+use Rattle.tt_groups_tables.specs.Steps.{Falls}
 use Rattle.tt_prices_check.specs.Inner.Fold.{IsMadeFrom}
 use Rattle.tt_prices_check.specs.declared.fold.TheConstants.{NOT_REACHED}
 use Rattle.tt_prices_check.proofs.Relaxing.{Relaxed}

@@ -4,7 +4,7 @@ use Rattle.std.proofs.Math.Nat.{mul-le-mul_left}
 use Rattle.std.proofs.lemmas.Int.{ints}
 use Rattle.std.proofs.lemmas.List.Elements.{Contains-get_or}
 use Rattle.tt_groups.proofs.Lists.{made-more}
-use Rattle.tt_groups_day.specs.Steps.{Falls}
+use Rattle.tt_groups_tables.specs.Steps.{Falls}
 use Rattle.tt_prices_check.specs.Inner.Fold.{IsMade}
 use Rattle.tt_prices_check.specs.declared.moves.PricedMove.{PricedMove}
 use Rattle.tt_prices_check.proofs.Relaxing.{no_move, Relaxed, relaxed-nowhere, relaxed-there, relaxed-more}

@@ -1,6 +1,6 @@
 use Rattle.std.proofs.Common.{◌≡◌, ℕ, take}
 use Rattle.std.specs.Prelude.{◌⊎◌, All, slice_index}
-use Rattle.tt_groups_day.specs.Steps.{Falls}
+use Rattle.tt_groups_tables.specs.Steps.{Falls}
 use Rattle.tt_prices_check.specs.Inner.Fold.{IsMade}
 use Rattle.tt_prices_check.proofs.Relaxing.{Relaxed}
 use Rattle.tt_prices_check.proofs.fold.relax.Given as goal

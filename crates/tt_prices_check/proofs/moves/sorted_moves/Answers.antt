@@ -2,7 +2,7 @@ use Rattle.std.proofs.Common.{◌≡◌, List, rules, sym, ap, subst}
 use Rattle.std.specs.Prelude.{Contains}
 use Rattle.std.proofs.lemmas.List.Sorted.{answers_always, All-permutation, Contains-permutation}
 use Rattle.tt_groups.specs.declared.entry.DayEntry.{DayEntry}
-use Rattle.tt_groups_day.specs.Fold.{index_of, floor_of}
+use Rattle.tt_groups_tables.specs.Fold.{index_of, floor_of}
 use Rattle.tt_prices_check.specs.Inner.Sorted.{plain}
 use Rattle.tt_prices_check.proofs.Searching.{plain_there}
 use Rattle.tt_prices_check.proofs.moves.sorted_moves.Goals as goal

@@ -1,7 +1,7 @@
 use Rattle.std.proofs.Common.{◌-◌, sym, ap, arith, eq-eqb, ne_eqb}
 use Rattle.std.specs.Prelude.{◌==◌, slice_index}
 use Rattle.tt_list_laws.proofs.Below.{all_more, all_stops}
-use Rattle.tt_groups_day.specs.Digits.{digit}
+use Rattle.tt_groups_tables.specs.Digits.{digit}
 use Rattle.tt_prices_check.proofs.whole_week.is_full.Goals as goal
 
 pub returns-then-state-course-ne0 : goal.returns-then-state-course-ne0

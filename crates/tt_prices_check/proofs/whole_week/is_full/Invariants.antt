@@ -1,5 +1,5 @@
 use Rattle.std.proofs.Common.{◌≡◌, true}
-use Rattle.tt_groups_day.specs.WeekLists.{is_full}
+use Rattle.tt_groups_tables.specs.WeekLists.{is_full}
 use Rattle.tt_prices_check.proofs.whole_week.is_full.Given as goal
 
 abbrev pub invariant-loop-course : goal.invariant-loop-course

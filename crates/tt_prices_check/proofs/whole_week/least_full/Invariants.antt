@@ -1,6 +1,6 @@
 use Rattle.std.proofs.Common.{◌≡◌, ℕ, ◌<◌, ◌≤◌, true, length}
 use Rattle.std.specs.Prelude.{slice_index}
-use Rattle.tt_groups_day.specs.WeekLists.{is_full}
+use Rattle.tt_groups_tables.specs.WeekLists.{is_full}
 use Rattle.tt_prices_check.specs.declared.fold.TheConstants.{NOT_REACHED}
 use Rattle.tt_prices_check.proofs.whole_week.least_full.Given as goal
 

@@ -7,9 +7,9 @@ use Rattle.std.proofs.Math.Nat.{mul-le-mul_left}
 use Rattle.std.proofs.lemmas.Int.{ints}
 use Rattle.std.proofs.lemmas.List.Sums.{sum_by_more, sum_by_more_le}
 use Rattle.tt_list_laws.proofs.Beginnings.{take_written}
-use Rattle.tt_groups_day.proofs.Weights.{places_positive}
+use Rattle.tt_groups_tables.proofs.Weights.{places_positive}
 use Rattle.tt_prices_check.specs.Inner.Fold.{IsMadeFrom, AreWithin}
-use Rattle.tt_groups_day.specs.WeekLists.{is_full}
+use Rattle.tt_groups_tables.specs.WeekLists.{is_full}
 use Rattle.tt_prices_check.specs.Moves.{AreReady}
 use Rattle.tt_prices_check.specs.Week.{all_moves}
 use Rattle.tt_prices_check.specs.declared.fold.TheConstants.{NOT_REACHED}

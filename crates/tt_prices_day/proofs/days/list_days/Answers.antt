@@ -4,9 +4,9 @@ use Rattle.std.proofs.lemmas.Int.{ints}
 use Rattle.std.proofs.lemmas.List.Elements.{All-contains, Contains-get_or}
 use Rattle.tt_prices_day.specs.Inner.Entries.{IsEntryOf}
 use Rattle.tt_list_laws.specs.Words.{has_number}
-use Rattle.tt_groups_day.proofs.Starting.{zeros}
-use Rattle.tt_groups_day.specs.Sets.{IsCourseSet}
-use Rattle.tt_groups_day.specs.declared.morning.CourseSet.{CourseSet}
+use Rattle.tt_groups_tables.proofs.Starting.{zeros}
+use Rattle.tt_groups_tables.specs.Sets.{IsCourseSet}
+use Rattle.tt_groups_tables.specs.declared.morning.CourseSet.{CourseSet}
 use Rattle.tt_prices.specs.Days.{unpriced, courses_of}
 use Rattle.tt_prices.specs.Rows.{group_of}
 use Rattle.tt_prices.specs.declared.day.PricedDay.{PricedDay}

@@ -1,7 +1,7 @@
 use Rattle.std.proofs.Common.{◌+◌, ◌^◌, List, get_or, sym, subst, inl, inr}
 use Rattle.std.specs.Prelude.{◌⊎◌, All, Contains, pos}
 use Rattle.std.proofs.lemmas.List.Elements.{Contains-get_or}
-use Rattle.tt_groups_day.proofs.Searching.{no_set}
+use Rattle.tt_groups_tables.proofs.Searching.{no_set}
 use Rattle.tt_prices_day.specs.Inner.Layers.{IsNext, IsOver, IsNodeWithin, HasCheaper}
 use Rattle.tt_prices_day.specs.declared.letters.Letter.{Letter}
 use Rattle.tt_prices_day.specs.declared.node.Node.{Node}

@@ -1,7 +1,7 @@
 use Rattle.std.proofs.Common.{◌≡◌, ℕ, ◌<◌, true, false}
 use Rattle.std.specs.Prelude.{slice_index}
 use Rattle.tt_instance.specs.Courses.{unavailable}
-use Rattle.tt_groups_day.specs.Sets.{has_course}
+use Rattle.tt_groups_tables.specs.Sets.{has_course}
 use Rattle.tt_prices_day.proofs.letters.is_open.Given as goal
 
 abbrev pub invariant-loop-i : goal.invariant-loop-i

@@ -5,9 +5,9 @@ use Rattle.std.specs.Global.{Global}
 use Rattle.std.proofs.lemmas.Bool.{both_ways}
 use Rattle.std.proofs.lemmas.List.Elements.{Contains-append_left}
 use Rattle.tt_instance.specs.Courses.{unavailable}
-use Rattle.tt_groups_day.specs.Sets.{has_course}
-use Rattle.tt_groups_day.specs.declared.morning.CourseSet.{CourseSet}
-use Rattle.tt_groups_day.proofs.Searching.{no_set}
+use Rattle.tt_groups_tables.specs.Sets.{has_course}
+use Rattle.tt_groups_tables.specs.declared.morning.CourseSet.{CourseSet}
+use Rattle.tt_groups_tables.proofs.Searching.{no_set}
 use Rattle.tt_prices.specs.Limits.{IsWithin}
 use Rattle.tt_prices.specs.Rows.{group_of}
 use Rattle.tt_prices_day.specs.Inner.Layers.{AreLetters, set_price}

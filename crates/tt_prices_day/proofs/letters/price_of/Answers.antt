@@ -4,7 +4,7 @@ use Rattle.std.proofs.lemmas.Bool.{ne_eqb}
 use Rattle.std.proofs.lemmas.Int.{ints}
 use Rattle.tt_list_laws.specs.Words.{range_below}
 use Rattle.tt_list_laws.proofs.Below.{filter_more-passing, filter_more-failing}
-use Rattle.tt_groups_day.specs.Sets.{has_course}
+use Rattle.tt_groups_tables.specs.Sets.{has_course}
 use Rattle.tt_prices.specs.Limits.{IsPrice, IsWithin}
 use Rattle.tt_prices.specs.Signed.{signed_sum}
 use Rattle.tt_prices.proofs.Signed.{signed_sum-append}

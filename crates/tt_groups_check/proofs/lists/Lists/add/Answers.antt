@@ -1,9 +1,9 @@
 use Rattle.std.proofs.Common.{◌≡◌, ℕ, ◌≤◌, List, [], ◌∷◌, ◌++◌, length, sym, ap, ◌∙◌, subst, arith, Vec}
 use Rattle.std.specs.Global.{Global}
 use Rattle.std.proofs.lemmas.List.Elements.{All-push}
-use Rattle.tt_groups_day.specs.declared.moves.Move.{Move}
+use Rattle.tt_groups_tables.specs.declared.moves.Move.{Move}
 use Rattle.tt_groups_check.specs.Lists.{AreListed, AreOfDays}
-use Rattle.tt_groups_day.specs.WeekLists.{AreReached, AreShort}
+use Rattle.tt_groups_tables.specs.WeekLists.{AreReached, AreShort}
 use Rattle.tt_groups_check.proofs.Adding.{added, listed_more, reached_added}
 use Rattle.tt_groups_check.proofs.lists.Lists.add.Goals as goal
 

@@ -2,7 +2,7 @@ use Rattle.std.proofs.Common.{◌≡◌, ℕ, List, [], ◌∷◌, ◌++◌, sym
 use Rattle.std.specs.Prelude.{slice_index}
 use Rattle.std.proofs.lemmas.List.{get_or_default}
 use Rattle.tt_groups_check.specs.Lists.{AreOfDays}
-use Rattle.tt_groups_day.specs.WeekLists.{AreReached}
+use Rattle.tt_groups_tables.specs.WeekLists.{AreReached}
 use Rattle.tt_groups_check.proofs.Adding.{shared, reached_shared}
 use Rattle.tt_groups_check.proofs.lists.Lists.share.Goals as goal
 
