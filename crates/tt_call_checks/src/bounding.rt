@@ -14,7 +14,7 @@ use crate::files::{KeptFiles, Narrowed, read_narrowed};
 use std::alloc::Global;
 use tt_call_answers::Answer;
 use tt_proof_sum::sum_proofs_on;
-use tt_text_peek::Peek;
+use tt_text::Peek;
 
 /// Returns the sum of the lower bounds that proofs derive for the timetables that keep wishes; no two of the proofs claim the same target.
 pub fn sum_kept<R: Peek>(

@@ -20,7 +20,7 @@ use tt_call_answers::Answer;
 use tt_instance_read::read_instance;
 use tt_rules::score;
 use tt_table::read_solution;
-use tt_text_peek::Peek;
+use tt_text::Peek;
 use tt_wishes::{broken_wishes, list_root, read_wishes};
 use tt_wishes_narrow::narrow;
 

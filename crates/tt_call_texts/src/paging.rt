@@ -11,8 +11,7 @@ use tt_instance_read::read_instance;
 use tt_page::{Look, Proved, Shown};
 use tt_proof_sum::sum_proofs_on;
 use tt_table::read_solution;
-use tt_text::Sink;
-use tt_text_peek::Peek;
+use tt_text::{Peek, Sink};
 use tt_wishes::{list_root, read_wishes};
 use tt_wishes_narrow::narrow;
 

@@ -15,7 +15,7 @@ use tt_cli_saving::{
     WISHES_LINE, kept_table, read_if_given, reply_with,
 };
 use tt_page::STYLE;
-use tt_text_peek::{FileKind, kind_of_front};
+use tt_text::{FileKind, kind_of_front};
 
 /// The texts with which the search begins.
 #[derive(Debug, Drop)]

@@ -5,7 +5,7 @@ use crate::front::WISHES_LINE;
 use std::alloc::{AllocError, Global};
 use tt_cli_files::{Batch, Role};
 use tt_cli_progress::World;
-use tt_text_peek::{FileKind, kind_of_front};
+use tt_text::{FileKind, kind_of_front};
 
 /// The file of groups.
 pub const GROUPS: FolderFile = FolderFile {

@@ -11,8 +11,7 @@ use std::io;
 use std::io::{Error, Read, Write};
 use tt_call_answers::AppFault;
 use tt_cli_progress::{OpenProof, Shown, World, open_counted};
-use tt_text::{ReadFailed, Source};
-use tt_text_peek::Peeked;
+use tt_text::{Peeked, ReadFailed, Source};
 
 /// A file that couldn't be read, with the system's reason.
 #[derive(Clone, Copy)]

@@ -9,8 +9,7 @@ use tt_cli_files::{Batch, Role};
 use tt_cli_progress::World;
 use tt_cli_saving::{CommandFault, Given, Inputs, Prepared, Target};
 use tt_page::STYLE;
-use tt_text::{Pieces, Writing};
-use tt_text_peek::Peeked;
+use tt_text::{Peeked, Pieces, Writing};
 
 /// The number of bytes of a proof that are checked at a time.
 const PIECE_BYTES: usize = 65_536;

@@ -5,8 +5,8 @@ use Rattle.std.specs.Io.KnownBytes.{prepend_known}
 use Rattle.std.specs.List.{AllZip}
 use Rattle.std.proofs.lemmas.List.{take_more}
 use Rattle.tt_list_laws.proofs.Zipped.{zip_append}
-use Rattle.tt_text_peek.specs.Memories.{Rest}
-use Rattle.tt_text_peek.specs.declared.peeked.Peeked.{Peeked}
+use Rattle.tt_text.specs.Memories.{Rest}
+use Rattle.tt_text.specs.declared.peeked.Peeked.{Peeked}
 use Rattle.tt_parts.specs.Found.{texts_of}
 
 -- the source gives the bytes

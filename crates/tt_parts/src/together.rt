@@ -10,8 +10,7 @@ use tt_instance::Instance;
 use tt_leaf::Bound;
 use tt_path::Fact;
 use tt_proof_sum::{SumStop, sum_proofs_on};
-use tt_text::Stop;
-use tt_text_peek::{Memory, Peeked};
+use tt_text::{Memory, Peeked, Stop};
 
 /// The number of bytes of a proof that are read at once.
 const PIECE: usize = 4_096;

@@ -26,7 +26,7 @@ use Rattle.tt_proof_sum.specs.declared.fault.FileFault.{FileFault}
 use Rattle.tt_proof_sum.specs.declared.fault.FileFault.TheVariants.{Proof, Groups, Prices, ClaimedElsewhere, TargetClaimedElsewhere, TooLarge}
 use Rattle.tt_proof_sum.specs.declared.claimed.ClaimedTarget.{ClaimedTarget}
 use Rattle.tt_proof_sum.specs.declared.summed.Sum.{Sum}
-use Rattle.tt_text_peek.specs.declared.kind.FileKind.TheVariants as kind
+use Rattle.tt_text.specs.declared.kind.FileKind.TheVariants as kind
 use Rattle.tt_prices_file.proofs.Once as prices
 use Rattle.tt_proof_sum.specs.Added.{IsPartOf, Joins, IsSumOf, Adds, problem_of}
 use Rattle.tt_proof_sum.specs.Faults.{points, all_points, AreSmall, IsLarge, IsSmall, IsClaimedElsewhere, IsTooLarge, IsTargetClaimedElsewhere, ExplainsAddedOn, IsUnfinished}

@@ -15,9 +15,9 @@ use Rattle.tt_groups_read.specs.Reading as groups
 use Rattle.tt_groups_read.specs.declared.fault.GroupTextFault.TheVariants as groups_fault
 use Rattle.tt_prices_read.specs.Reading as prices
 use Rattle.tt_prices_read.specs.declared.fault.PricesTextFault.TheVariants as prices_fault
-use Rattle.tt_text_peek.specs.Fronts.{kind_of, BreaksOff}
-use Rattle.tt_text_peek.specs.declared.kind.FileKind.{FileKind}
-use Rattle.tt_text_peek.proofs.Fronts.{broken_kinds}
+use Rattle.tt_text.specs.Fronts.{kind_of, BreaksOff}
+use Rattle.tt_text.specs.declared.kind.FileKind.{FileKind}
+use Rattle.tt_text.proofs.Fronts.{broken_kinds}
 use Rattle.tt_text.proofs.Stops.{OnFault-weaker}
 use Rattle.tt_text.specs.Stops.{IfFault}
 use Rattle.tt_text.specs.declared.stop.Stop.{Stop}

@@ -20,8 +20,8 @@ use Rattle.tt_leaf.specs.declared.leaf.Bound.TheVariants.{AtLeast}
 use Rattle.tt_prices_file.specs.Claims.{IsClaimOf}
 use Rattle.tt_prices_file.specs.Files.{curricula_in, courses_in}
 use Rattle.tt_prices_file.specs.declared.claim.PricesClaim.{PricesClaim}
-use Rattle.tt_text_peek.specs.Fronts.{kind_of}
-use Rattle.tt_text_peek.specs.declared.kind.FileKind.TheVariants as kind
+use Rattle.tt_text.specs.Fronts.{kind_of}
+use Rattle.tt_text.specs.declared.kind.FileKind.TheVariants as kind
 use Rattle.tt_proof_sum.specs.Added.{IsOfKind, Joins}
 use Rattle.tt_proof_sum.specs.Faults.{IsCalled, IsTargetClaimedElsewhere}
 use Rattle.tt_proof_sum.specs.Inner.Owned.{FirstOwned, FirstTarget}

@@ -32,10 +32,10 @@ use Rattle.tt_proof_check.proofs.Texts.{spelled_once}
 use Rattle.tt_prices_read.specs.Reading as prices
 use Rattle.tt_prices_read.specs.declared.header.Header.{Header}
 use Rattle.tt_prices_file.proofs.Once.{file_once}
-use Rattle.tt_text_peek.specs.Fronts.{kind_of}
-use Rattle.tt_text_peek.specs.declared.kind.FileKind.{FileKind}
-use Rattle.tt_text_peek.specs.declared.kind.FileKind.TheVariants as kind
-use Rattle.tt_text_peek.proofs.Fronts.{kind_of-proof}
+use Rattle.tt_text.specs.Fronts.{kind_of}
+use Rattle.tt_text.specs.declared.kind.FileKind.{FileKind}
+use Rattle.tt_text.specs.declared.kind.FileKind.TheVariants as kind
+use Rattle.tt_text.proofs.Fronts.{kind_of-proof}
 use Rattle.tt_groups_read.specs.Reading.{group_at}
 use Rattle.tt_groups_read.specs.Reads.{ReadsClaims, ReadsFile}
 use Rattle.tt_groups_read.specs.Spelling.{SpellsGroups}

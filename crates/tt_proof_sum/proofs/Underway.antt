@@ -35,8 +35,8 @@ use Rattle.tt_groups_read.specs.declared.claim.GroupClaim.{GroupClaim}
 use Rattle.tt_groups_read.specs.declared.fault.GroupTextFault.{GroupTextFault}
 use Rattle.tt_groups_read.specs.declared.fault.GroupTextFault.TheVariants as group_text
 use Rattle.tt_groups_read.proofs.FileLaws.{reads_spelled}
-use Rattle.tt_text_peek.specs.Fronts.{kind_of}
-use Rattle.tt_text_peek.specs.declared.kind.FileKind.TheVariants as kind
+use Rattle.tt_text.specs.Fronts.{kind_of}
+use Rattle.tt_text.specs.declared.kind.FileKind.TheVariants as kind
 use Rattle.tt_text.specs.Stops.{OnFault, IfFault}
 use Rattle.tt_text.specs.declared.stop.Stop.{Stop}
 use Rattle.tt_text.specs.declared.stop.Stop.TheVariants.{Fault, ReadFailed, OutOfMemory}

@@ -9,9 +9,9 @@ use Rattle.tt_proof_read.specs.Spelling.{SpellsProof}
 use Rattle.tt_proof_sum.specs.declared.summed.Sum.{Sum}
 use Rattle.tt_groups_read.specs.Spelling.{IsClaim, SpellsGroups}
 use Rattle.tt_prices_read.specs.Spelling.{SpellsFile}
-use Rattle.tt_text_peek.specs.Fronts.{kind_of}
-use Rattle.tt_text_peek.specs.declared.kind.FileKind.{FileKind}
-use Rattle.tt_text_peek.specs.declared.kind.FileKind.TheVariants as kind
+use Rattle.tt_text.specs.Fronts.{kind_of}
+use Rattle.tt_text.specs.declared.kind.FileKind.{FileKind}
+use Rattle.tt_text.specs.declared.kind.FileKind.TheVariants as kind
 use Rattle.tt_proof_check.specs.Streams.{sizes_of}
 use Rattle.tt_proof_sum.specs.Faults.{AreSmall}
 use Rattle.tt_proof_sum.specs.Sums.{are_apart, AreRight, ArePricesRight, TreePart, GroupsPart, PricesPart, Part, TreeProof, GroupsFile, PricesFile, bound_of, claims_of, AreApart, sum_of}

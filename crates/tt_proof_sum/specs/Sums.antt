@@ -29,8 +29,8 @@ use Rattle.tt_prices_read.specs.declared.header.Header.{Header}
 use Rattle.tt_prices_file.specs.Files.{curricula_in, courses_in, IsRight}
 use Rattle.tt_prices_file.specs.declared.claim.PricesClaim.{PricesClaim}
 use Rattle.tt_proof_check.specs.Streams.{sizes_of}
-use Rattle.tt_text_peek.specs.Fronts.{kind_of}
-use Rattle.tt_text_peek.specs.declared.kind.FileKind.TheVariants as kind
+use Rattle.tt_text.specs.Fronts.{kind_of}
+use Rattle.tt_text.specs.declared.kind.FileKind.TheVariants as kind
 
 -- ---- targets
 

@@ -9,8 +9,8 @@ use Rattle.tt_proof_read.specs.Faults.{read_failed}
 use Rattle.tt_groups_read.specs.Reading.{header_at, group_at}
 use Rattle.tt_groups_read.specs.declared.fault.GroupTextFault.TheVariants.{Text}
 use Rattle.tt_prices_file.specs.UpToFailedRead.{ArePricesCutOff}
-use Rattle.tt_text_peek.specs.Fronts.{kind_of}
-use Rattle.tt_text_peek.specs.declared.kind.FileKind.TheVariants as kind
+use Rattle.tt_text.specs.Fronts.{kind_of}
+use Rattle.tt_text.specs.declared.kind.FileKind.TheVariants as kind
 use Rattle.tt_proof_sum.specs.GroupsFaults.{AfterClaims}
 
 -- The failure is within the header, or after claims that have been read and pass: each is a bound of its group, and no target is in two.

@@ -1,8 +1,8 @@
 //! Adding a file, whose claims are added to the table of owners.
 
 ghost use Rattle.std.specs.Prelude.{◌≡◌, ◌+◌, ◌<◌, ℕ, List, Some, Err, true, false, if◌then◌else◌, IfOk, OnOk};
-ghost use Rattle.tt_text_peek.specs.Fronts.{kind_of};
-ghost use Rattle.tt_text_peek.specs.declared.kind.FileKind.TheVariants as kind;
+ghost use Rattle.tt_text.specs.Fronts.{kind_of};
+ghost use Rattle.tt_text.specs.declared.kind.FileKind.TheVariants as kind;
 ghost use Rattle.tt_text.specs.Stops.{IfFault, is_read_failed};
 ghost use Rattle.tt_proof_check.specs.FailedReads.{IsCheckedUpToFailedRead};
 ghost use Rattle.tt_proof_sum.specs.Added.{Joins};
@@ -19,8 +19,7 @@ use std::alloc::Global;
 use tt_leaf::Bound;
 use tt_path::Fact;
 use tt_proof_check::ProofChecker;
-use tt_text::{Source, Stop};
-use tt_text_peek::{FileKind, Peek, PeekFault};
+use tt_text::{FileKind, Peek, PeekFault, Source, Stop};
 
 /// Checks a tree proof, as the file that has begun, and returns its bound if it claims no target that an earlier file claims. The facts are at
 /// the root of its tree.

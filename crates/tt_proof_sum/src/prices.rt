@@ -3,8 +3,8 @@
 ghost use Rattle.std.specs.Prelude.{◌≡◌, ◌<◌, ℕ, List, Some, Err, true, if◌then◌else◌, IfOk, OnOk};
 ghost use Rattle.std.specs.Io.KnownBytes.{Keeps};
 ghost use Rattle.std.specs.declared.option.Option.{Option};
-ghost use Rattle.tt_text_peek.specs.Fronts.{kind_of};
-ghost use Rattle.tt_text_peek.specs.declared.kind.FileKind.TheVariants as kind;
+ghost use Rattle.tt_text.specs.Fronts.{kind_of};
+ghost use Rattle.tt_text.specs.declared.kind.FileKind.TheVariants as kind;
 ghost use Rattle.tt_proof_check.specs.FailedReads.{HoldsOfGiven};
 ghost use Rattle.tt_prices_file.specs.UpToFailedRead.{ArePricesCutOff};
 ghost use Rattle.tt_proof_sum.specs.Added.{Joins, IsOfKind};

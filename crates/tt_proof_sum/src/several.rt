@@ -16,7 +16,7 @@ use std::alloc::Global;
 use tt_instance::Instance;
 use tt_leaf::Bound;
 use tt_path::Fact;
-use tt_text_peek::Peek;
+use tt_text::Peek;
 
 /// Returns the sum of the bounds of files as `sum_proofs` does, but with these facts at the root of each tree: the sum holds for the timetables
 /// that fit them.

@@ -15,8 +15,7 @@ use tt_instance::Instance;
 use tt_leaf::Bound;
 use tt_path::Fact;
 use tt_proof_check::ProofChecker;
-use tt_text::Stop;
-use tt_text_peek::Peek;
+use tt_text::{Peek, Stop};
 
 /// Returns the sum of two bounds if it is below 2^64.
 fn both(a: Bound, b: Bound) -> Option<Bound>

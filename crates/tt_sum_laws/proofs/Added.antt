@@ -19,7 +19,7 @@ use Rattle.tt_proof_sum.specs.declared.fault.FileFault.{FileFault}
 use Rattle.tt_proof_sum.specs.declared.fault.FileFault.TheVariants.{Proof, Groups, Prices, ClaimedElsewhere, TargetClaimedElsewhere, TooLarge}
 use Rattle.tt_proof_sum.proofs.Added.{prices_meet, tree_meets}
 use Rattle.tt_proof_sum.proofs.SpelledOnce.{left_open, part_kind, same_part}
-use Rattle.tt_text_peek.specs.declared.kind.FileKind.TheVariants as kind
+use Rattle.tt_text.specs.declared.kind.FileKind.TheVariants as kind
 use Rattle.tt_sum_laws.proofs.Groups.{one_groups}
 use Rattle.tt_sum_laws.proofs.Nodes.{one_node, one_target}
 use Rattle.tt_sum_laws.proofs.Prices.{one_prices}

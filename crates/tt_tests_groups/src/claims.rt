@@ -8,8 +8,7 @@ use tt_groups_check::GroupFault;
 use tt_instance_read::read_instance;
 use tt_leaf::Bound;
 use tt_proof_sum::{FileFault, GroupsFault, SumStop, sum_proofs};
-use tt_text::{Pieces, Stop};
-use tt_text_peek::Peeked;
+use tt_text::{Peeked, Pieces, Stop};
 
 /// The number of random groups.
 const GROUPS: u64 = 500;

@@ -6,8 +6,7 @@ use tt_groups_check::GroupFault;
 use tt_instance_read::read_instance;
 use tt_leaf::Bound;
 use tt_proof_sum::{FileFault, GroupsFault, SumStop, sum_proofs};
-use tt_text::{Pieces, Stop};
-use tt_text_peek::Peeked;
+use tt_text::{Peeked, Pieces, Stop};
 
 /// Twelve courses that never conflict, each alone in a curriculum: 4,096 sets of them are tried in each of eight periods.
 const APART: &str =

@@ -9,8 +9,7 @@ use tt_path::{Fact, Pattern, Who};
 use tt_proof_sum::sum_proofs;
 use tt_table::Entry;
 use tt_testing_samples::{GAP, MINI, WIDE};
-use tt_text::Pieces;
-use tt_text_peek::Peeked;
+use tt_text::{Peeked, Pieces};
 use tt_watch::{Progress, Unwatched, Watch};
 
 /// Two curricula without a course in common. Each has a course of three lectures on three days and a helper of one lecture: two of the

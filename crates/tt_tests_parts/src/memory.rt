@@ -7,8 +7,7 @@ use tt_leaf::Bound;
 use tt_parts::{Effort, find_parts};
 use tt_proof_sum::sum_proofs;
 use tt_testing_samples::{GAP, GAP_PROOF, MARK};
-use tt_text::Pieces;
-use tt_text_peek::Peeked;
+use tt_text::{Peeked, Pieces};
 use tt_watch::Unwatched;
 
 /// Claims that the curriculum and the first course of Gap cost 4 together.

@@ -1,9 +1,11 @@
 pub mod Cutting
 pub mod Digits
 pub mod EachToken
+pub mod Examples
 pub mod Feeding
 pub mod Fields
 pub mod Finding
+pub mod Fronts
 pub mod Giving
 pub mod Lines
 pub mod Parts
@@ -15,4 +17,5 @@ pub mod TakenParts
 pub mod Texts
 pub mod Unlimited
 pub mod Windows
+pub mod Words
 pub mod Written

@@ -3,7 +3,10 @@ pub mod Failures
 pub mod Fed
 pub mod Feeds
 pub mod Found
+pub mod Fronts
+pub mod Inner
 pub mod Lines
+pub mod Memories
 pub mod Numbers
 pub mod Pieces
 pub mod Places

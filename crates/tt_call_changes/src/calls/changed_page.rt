@@ -15,8 +15,7 @@ use tt_instance_read::read_instance;
 use tt_page::{Look, Moves, Shown};
 use tt_page_text::Names;
 use tt_table::read_solution;
-use tt_text::Sink;
-use tt_text_peek::Peek;
+use tt_text::{Peek, Sink};
 
 /// What a page shows that says what changed.
 #[derive(Clone, Copy, Debug)]

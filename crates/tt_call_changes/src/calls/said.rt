@@ -17,7 +17,7 @@ use tt_call_answers::{AppFault, explain_bound};
 use tt_instance::Instance;
 use tt_page::Proved;
 use tt_proof_sum::sum_proofs;
-use tt_text_peek::Peek;
+use tt_text::Peek;
 
 /// Returns what a page says is proved: nothing if there are no proofs, else what the sum of the bounds that they derive proves.
 pub fn said_of<R: Peek>(

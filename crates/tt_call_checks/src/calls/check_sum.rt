@@ -29,7 +29,7 @@ use tt_path::Fact;
 use tt_proof_sum::{SumStop, sum_proofs_on};
 use tt_rules::score;
 use tt_table::{Timetable, read_solution};
-use tt_text_peek::Peek;
+use tt_text::Peek;
 
 /// Returns the bound of proofs, whose trees have these facts at their roots, if some timetable breaks no hard rule and fits the facts: so the bound is
 /// a number.

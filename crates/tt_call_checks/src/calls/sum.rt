@@ -19,7 +19,7 @@ use std::alloc::Global;
 use tt_call_answers::{Answer, AppFault};
 use tt_instance_read::read_instance;
 use tt_proof_sum::sum_proofs;
-use tt_text_peek::Peek;
+use tt_text::Peek;
 
 /// Returns the sum of the lower bounds that proofs derive for an instance; no two of the proofs claim the same target.
 pub fn sum<R: Peek>(alloc: Global, instance: &[u8], proofs: &mut [R]) -> Result<Answer, AppFault>

@@ -33,8 +33,7 @@ use tt_page::{Look, Proved, Sheet, Shown};
 use tt_page_weeks::has_week;
 use tt_proof_sum::sum_proofs;
 use tt_table::read_solution;
-use tt_text::Sink;
-use tt_text_peek::Peek;
+use tt_text::{Peek, Sink};
 
 /// What a page shows that shows no bound.
 #[derive(Clone, Copy, Debug)]

@@ -16,8 +16,7 @@ use tt_cli_saving::{
     proof_files, read_if_given,
 };
 use tt_page::{STYLE, Sheet};
-use tt_text::{Sink, Writing};
-use tt_text_peek::Peek;
+use tt_text::{Peek, Sink, Writing};
 use tt_wishes::WishesFault;
 
 /// What a page shows.

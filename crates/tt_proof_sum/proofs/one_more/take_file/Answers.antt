@@ -1,6 +1,6 @@
 use Rattle.std.proofs.Common.{Err, sym, ap, subst, ◌∙◌, inl, inr}
-use Rattle.tt_text_peek.specs.declared.kind.FileKind.TheVariants as kind
-use Rattle.tt_text_peek.specs.declared.peek.PeekFault.{PeekFault}
+use Rattle.tt_text.specs.declared.kind.FileKind.TheVariants as kind
+use Rattle.tt_text.specs.declared.peek.PeekFault.{PeekFault}
 use Rattle.tt_instance.specs.Problem.{Problem}
 use Rattle.tt_proof_check.specs.FailedReads.{HoldsOfGiven}
 use Rattle.tt_prices_file.specs.UpToFailedRead.{ArePricesCutOff}

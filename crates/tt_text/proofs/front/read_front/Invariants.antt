@@ -1,6 +1,6 @@
 use Rattle.std.proofs.Common.{◌≡◌, ◌-◌, length}
 use Rattle.std.specs.Io.KnownBytes.{prepend_known, Keeps}
-use Rattle.tt_text_peek.proofs.front.read_front.Given as goal
+use Rattle.tt_text.proofs.front.read_front.Given as goal
 
 abbrev pub invariant-loop-front : goal.invariant-loop-front
 invariant-loop-front g l = record {

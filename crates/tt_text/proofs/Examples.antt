@@ -1,8 +1,8 @@
 -- Texts of each kind, and bytes that settle a kind or leave it open.
 use Rattle.std.proofs.Common.{◌≡◌, true, false, [], ◌∷◌, ◌++◌, refl, codes}
-use Rattle.tt_text_peek.specs.Fronts.{kind_of, has_groups_word, has_prices_version}
-use Rattle.tt_text_peek.specs.Inner.Settled.{is_settled}
-use Rattle.tt_text_peek.specs.declared.kind.FileKind.TheVariants.{Tree, Groups, Prices}
+use Rattle.tt_text.specs.Fronts.{kind_of, has_groups_word, has_prices_version}
+use Rattle.tt_text.specs.Inner.Settled.{is_settled}
+use Rattle.tt_text.specs.declared.kind.FileKind.TheVariants.{Tree, Groups, Prices}
 
 groups : kind_of (codes "CTTG 1 bound 4 end") ≡ Groups
 groups = refl

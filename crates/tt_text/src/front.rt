@@ -4,12 +4,14 @@ ghost use Rattle.std.specs.Prelude.{◌≡◌, ◌≤◌, ℕ, List, true, Some,
 ghost use Rattle.std.specs.Io.KnownBytes.{prepend_known, Keeps};
 ghost use Rattle.tt_text.specs.Failures.{is_err_and};
 ghost use Rattle.tt_text.specs.Texts.{is_text};
-ghost use Rattle.tt_text_peek.specs.Fronts.{first_word, after_word, kind_of_front, kind_of, is_failed_read, IsUndecided};
-ghost use Rattle.tt_text_peek.specs.Inner.Settled.{is_word_settled, is_settled};
+ghost use Rattle.tt_text.specs.Fronts.{first_word, after_word, kind_of_front, kind_of, is_failed_read, IsUndecided};
+ghost use Rattle.tt_text.specs.Inner.Settled.{is_word_settled, is_settled};
 
 use crate::kind::FileKind;
 use crate::peek::{PEEKED_BYTES, PeekFault};
-use tt_text::{MAX_TOKEN_BYTES, Source, Tokens};
+use crate::feed::MAX_TOKEN_BYTES;
+use crate::source::Source;
+use crate::token::Tokens;
 
 /// Returns the first token, or as much of it as the bytes have, and the bytes after it.
 fn split_word(bytes: &[u8]) -> (&[u8], &[u8])

@@ -1,7 +1,7 @@
 use Rattle.std.proofs.Common.{◌≡◌, ℕ, List, take, min, length, ap, ◌∙◌, arith}
 use Rattle.std.proofs.lemmas.List.{take_min}
-use Rattle.tt_text_peek.specs.Fronts.{kind_of_front}
-use Rattle.tt_text_peek.proofs.peeked.PeekedPeek.peek_kind.Goals as goal
+use Rattle.tt_text.specs.Fronts.{kind_of_front}
+use Rattle.tt_text.proofs.peeked.PeekedPeek.peek_kind.Goals as goal
 
 pub returns-clause-kind : goal.returns-clause-kind
 returns-clause-kind g c =

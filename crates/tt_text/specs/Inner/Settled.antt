@@ -1,7 +1,7 @@
 -- Whether further bytes can change the kind of a text.
 use Rattle.std.specs.Prelude.{ℕ, Bool, ◌||◌, not, ◌==◌, nat_lt, if◌then◌else◌, List, length}
 use Rattle.tt_text.specs.declared.feed.TheConstants.{MAX_TOKEN_BYTES}
-use Rattle.tt_text_peek.specs.Fronts.{first_word, after_word, has_groups_word}
+use Rattle.tt_text.specs.Fronts.{first_word, after_word, has_groups_word}
 
 -- Another byte follows the first token, or it is longer than a token may be.
 abbrev pub is_word_settled : List ℕ → Bool

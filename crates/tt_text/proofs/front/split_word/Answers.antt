@@ -1,7 +1,7 @@
 use Rattle.std.proofs.Common.{length, refl, sym, ◌∙◌, arith}
 use Rattle.tt_text.specs.Tokens.{place}
-use Rattle.tt_text_peek.proofs.Words.{word_at, split_at_word, no_word, nothing_first, nothing_after, gap_within}
-use Rattle.tt_text_peek.proofs.front.split_word.Goals as goal
+use Rattle.tt_text.proofs.Words.{word_at, split_at_word, no_word, nothing_first, nothing_after, gap_within}
+use Rattle.tt_text.proofs.front.split_word.Goals as goal
 
 pub split_at-requires : goal.split_at-requires
 split_at-requires c =

@@ -8,11 +8,11 @@ use Rattle.tt_text.specs.Texts.{is_text}
 use Rattle.tt_text.specs.Tokens.{is_separator, in_token}
 use Rattle.tt_text.specs.declared.feed.FeedFault.TheVariants.{Read}
 use Rattle.tt_text.specs.declared.feed.TheConstants.{MAX_BYTES}
-use Rattle.tt_text_peek.specs.declared.kind.FileKind.{FileKind}
-use Rattle.tt_text_peek.specs.declared.kind.FileKind.TheVariants.{Tree, Groups, Prices}
-use Rattle.tt_text_peek.specs.declared.peek.PeekFault.{PeekFault}
-use Rattle.tt_text_peek.specs.declared.peek.PeekFault.TheVariants as fault
-use Rattle.tt_text_peek.specs.declared.peek.TheConstants.{PEEKED_BYTES}
+use Rattle.tt_text.specs.declared.kind.FileKind.{FileKind}
+use Rattle.tt_text.specs.declared.kind.FileKind.TheVariants.{Tree, Groups, Prices}
+use Rattle.tt_text.specs.declared.peek.PeekFault.{PeekFault}
+use Rattle.tt_text.specs.declared.peek.PeekFault.TheVariants as fault
+use Rattle.tt_text.specs.declared.peek.TheConstants.{PEEKED_BYTES}
 
 -- The bytes from the first one that is not a separator on.
 abbrev pub begun : List ℕ → List ℕ

@@ -3,11 +3,11 @@
 ghost use Rattle.std.specs.Prelude.{◌≡◌, ℕ, List, true, Some, Err, IfOk, OnOk, if◌then◌else◌};
 ghost use Rattle.std.specs.Io.KnownBytes.{Keeps};
 ghost use Rattle.tt_text.specs.Failures.{is_err_and};
-ghost use Rattle.tt_text_peek.specs.Fronts.{kind_of, is_failed_read, BreaksOff};
+ghost use Rattle.tt_text.specs.Fronts.{kind_of, is_failed_read, BreaksOff};
 
 use crate::kind::FileKind;
 use thiserror::Error;
-use tt_text::Source;
+use crate::source::Source;
 
 /// The tokens that give the kind of a file are searched for in this many bytes.
 pub const PEEKED_BYTES: usize = 4_096;

@@ -1,9 +1,9 @@
 use Rattle.std.proofs.Common.{◌≡◌, false, true, sym, ap, ◌∙◌, arith}
 use Rattle.std.specs.Io.KnownBytes.{prepend_known}
-use Rattle.tt_text_peek.specs.Fronts.{kind_of}
-use Rattle.tt_text_peek.specs.Inner.Settled.{is_settled}
-use Rattle.tt_text_peek.proofs.Fronts.{undecided_yet, full_front, settled_front, known_parts}
-use Rattle.tt_text_peek.proofs.front.read_front.Goals as goal
+use Rattle.tt_text.specs.Fronts.{kind_of}
+use Rattle.tt_text.specs.Inner.Settled.{is_settled}
+use Rattle.tt_text.proofs.Fronts.{undecided_yet, full_front, settled_front, known_parts}
+use Rattle.tt_text.proofs.front.read_front.Goals as goal
 
 pub returns-in_default-clause-undecided : goal.returns-in_default-clause-undecided
 returns-in_default-clause-undecided g c =

@@ -17,11 +17,11 @@ use Rattle.tt_text.proofs.Feeding.{scan_is}
 use Rattle.tt_text.proofs.Fields.{text_is}
 use Rattle.tt_text.proofs.Finding.{finds_more, found_long, held_inside}
 use Rattle.tt_text.proofs.Windows.{fed_of}
-use Rattle.tt_text_peek.specs.Fronts.{begun, first_word, after_word, has_groups_word, has_prices_version, kind_of_front, kind_of, HasNoToken, HasOnlyGroupsWord, IsUndecided, BreaksOff}
-use Rattle.tt_text_peek.specs.Inner.Settled.{is_word_settled, is_settled}
-use Rattle.tt_text_peek.specs.declared.kind.FileKind.{FileKind}
-use Rattle.tt_text_peek.specs.declared.kind.FileKind.TheVariants.{Tree, Groups, Prices}
-use Rattle.tt_text_peek.proofs.Words.{word_len, length-begun, length-first_word, length-after_word, gap_within, word_at, word_front, followed_more, settled_cases, settled_some, same_word}
+use Rattle.tt_text.specs.Fronts.{begun, first_word, after_word, has_groups_word, has_prices_version, kind_of_front, kind_of, HasNoToken, HasOnlyGroupsWord, IsUndecided, BreaksOff}
+use Rattle.tt_text.specs.Inner.Settled.{is_word_settled, is_settled}
+use Rattle.tt_text.specs.declared.kind.FileKind.{FileKind}
+use Rattle.tt_text.specs.declared.kind.FileKind.TheVariants.{Tree, Groups, Prices}
+use Rattle.tt_text.proofs.Words.{word_len, length-begun, length-first_word, length-after_word, gap_within, word_at, word_front, followed_more, settled_cases, settled_some, same_word}
 
 -- ---- kinds
 

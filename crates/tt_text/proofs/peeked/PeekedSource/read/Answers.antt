@@ -4,8 +4,8 @@ use Rattle.std.specs.Prelude.{◌==◌}
 use Rattle.std.specs.Vec.{vec_len}
 use Rattle.std.proofs.lemmas.Bool.{both_ways, eq-eqb}
 use Rattle.std.proofs.lemmas.List.{length-take-le, length-drop, take-append-le, take_all}
-use Rattle.tt_text_peek.proofs.Fronts.{piece_given}
-use Rattle.tt_text_peek.proofs.peeked.PeekedSource.read.Goals as goal
+use Rattle.tt_text.proofs.Fronts.{piece_given}
+use Rattle.tt_text.proofs.peeked.PeekedSource.read.Goals as goal
 
 pub returns-clause-bytes : goal.returns-clause-bytes
 returns-clause-bytes g c =

@@ -10,8 +10,8 @@ use Rattle.tt_text.specs.Texts.{is_text}
 use Rattle.tt_text.specs.Tokens.{is_separator, in_token, Placed, tokens_from, tokens_of}
 use Rattle.tt_text.proofs.Fields.{text_is}
 use Rattle.tt_text.proofs.Runs.{tokens-some, tokens-none, ended}
-use Rattle.tt_text_peek.specs.Fronts.{begun, first_word, after_word}
-use Rattle.tt_text_peek.specs.Inner.Settled.{is_word_settled}
+use Rattle.tt_text.specs.Fronts.{begun, first_word, after_word}
+use Rattle.tt_text.specs.Inner.Settled.{is_word_settled}
 
 -- ---- its parts
 

@@ -2,10 +2,10 @@
 
 ghost use Rattle.std.specs.Prelude.{◌≡◌, ◌<◌, ℕ, List, Bool, false, Some};
 ghost use Rattle.std.specs.declared.option.Option.{Option};
-ghost use Rattle.tt_text_peek.specs.Memories.{Rest};
+ghost use Rattle.tt_text.specs.Memories.{Rest};
 
 use std::marker::Model;
-use tt_text::{ReadFailed, Source};
+use crate::source::{ReadFailed, Source};
 
 /// A text in memory that is given in pieces of one size. No read of it fails, whoever reads it: `has_failed` is never true.
 #[derive(Drop)]
@@ -16,7 +16,7 @@ pub struct Memory<'a> {
 
 impl<'a> Model for Memory<'a> {
     ghost use Rattle.std.specs.Prelude.{◌<◌};
-    ghost use Rattle.tt_text_peek.specs.Memories.{Rest};
+    ghost use Rattle.tt_text.specs.Memories.{Rest};
 
     ghost Value = { Rest };
 

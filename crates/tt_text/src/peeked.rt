@@ -7,7 +7,7 @@ use crate::front::{kind_of_front, read_front, remove_front};
 use crate::kind::FileKind;
 use crate::peek::{PEEKED_BYTES, Peek, PeekFault};
 use std::alloc::Global;
-use tt_text::{ReadFailed, Source};
+use crate::source::{ReadFailed, Source};
 
 /// Gives the bytes that were read ahead, and then those of the source.
 #[derive(Drop)]

@@ -1,3 +1,0 @@
-pub mod Examples
-pub mod Fronts
-pub mod Words
