@@ -9,8 +9,7 @@ ghost use Rattle.tt_changes.specs.Sifting.{IsEntry, IsLeftOut, IsMisfit, Sifts, 
 use crate::reason::{LeftOut, Reason};
 use crate::row::Row;
 use std::alloc::{AllocError, Global};
-use tt_instance::Instance;
-use tt_names::Named;
+use tt_instance::{Instance, Named};
 use tt_table::{Entry, Timetable};
 use tt_text::{Token, number};
 

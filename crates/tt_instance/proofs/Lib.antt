@@ -12,6 +12,8 @@ pub mod Getting
 pub mod Limits
 pub mod Linked
 pub mod MoreBarred
+pub mod Naming
 pub mod Places
 pub mod Shared
 pub mod Slots
+pub mod Taking

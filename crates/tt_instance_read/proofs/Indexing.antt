@@ -15,7 +15,7 @@ use Rattle.tt_instance.specs.Seen.{course_seen, courses_seen, room_seen, rooms_s
 use Rattle.tt_instance.specs.declared.rows.CourseList.{CourseList}
 use Rattle.tt_instance.specs.Inner.Indexed.{IsIndexed, IsTeacher, teachers_of}
 use Rattle.tt_instance_read.specs.Inner.Named.{AreCoursesNamed, AreRoomsNamed}
-use Rattle.tt_names.proofs.Naming.{length-with_name, index_of_name-with_name}
+use Rattle.tt_instance.proofs.Naming.{length-with_name, index_of_name-with_name}
 
 -- a name that isn't in the list is added at the end
 pub fresh : (names : List (List ℕ)) (name : List ℕ) (v : Bool) → has_name names name ≡ v → not v ≡ true

@@ -9,8 +9,7 @@ use crate::fault::InstanceFault;
 use crate::fields::{read_limited, read_token};
 use crate::named::NamedCourses;
 use std::alloc::Global;
-use tt_instance::{CourseRow, MAX_LECTURES, MAX_MIN_DAYS, MAX_SEATS};
-use tt_names::{NameHasher, Names};
+use tt_instance::{CourseRow, MAX_LECTURES, MAX_MIN_DAYS, MAX_SEATS, NameHasher, Names};
 use tt_text::Tokens;
 
 /// Reads another course after those of the list.

@@ -10,8 +10,7 @@ use crate::fault::InstanceFault;
 use crate::fields::{read_course_name, read_limited, read_token};
 use crate::named::NamedCurricula;
 use std::alloc::Global;
-use tt_instance::{CurriculumRow, MAX_MEMBERS, Marks, MemberList};
-use tt_names::{NameHasher, Names};
+use tt_instance::{CurriculumRow, MAX_MEMBERS, Marks, MemberList, NameHasher, Names};
 use tt_text::Tokens;
 
 /// Reads another member and adds it if it is new.

@@ -6,7 +6,7 @@ ghost use Rattle.tt_text.specs.Numbers.{number_of};
 ghost use Rattle.tt_instance_read.specs.Reading.{Gives, token_at, word_at, numbered, limited_at, below_at, counted_at, named_at};
 
 use crate::fault::{InstanceFault, Word};
-use tt_names::Names;
+use tt_instance::Names;
 use tt_text::{NumberFault, Token, Tokens, number};
 
 /// Reads the next token of a text of `end` bytes.

@@ -3,8 +3,7 @@
 ghost use Rattle.std.specs.Prelude.{◌≡◌, IfOk};
 
 use std::alloc::{AllocError, Global};
-use tt_instance::{CourseList, CourseRow, CurriculumRow, RoomRow};
-use tt_names::Names;
+use tt_instance::{CourseList, CourseRow, CurriculumRow, Names, RoomRow};
 
 /// Courses, the numbers of their names and of their teachers, and the number of all lectures.
 #[derive(Drop)]

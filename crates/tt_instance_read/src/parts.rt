@@ -16,8 +16,7 @@ use crate::named::{NamedCourses, NamedCurricula, NamedRooms};
 use crate::rooms::read_rooms;
 use crate::unavailabilities::read_unavailabilities;
 use std::alloc::Global;
-use tt_instance::{MAX_COURSES, MAX_PERIODS, Parts, UnavailabilityList};
-use tt_names::{NameHasher, Names};
+use tt_instance::{MAX_COURSES, MAX_PERIODS, NameHasher, Names, Parts, UnavailabilityList};
 use tt_text::Tokens;
 
 /// Reads the courses and rooms after a header.

@@ -9,8 +9,7 @@ use crate::fault::InstanceFault;
 use crate::fields::{read_limited, read_token};
 use crate::named::NamedRooms;
 use std::alloc::Global;
-use tt_instance::{MAX_SEATS, RoomRow};
-use tt_names::{NameHasher, Names};
+use tt_instance::{MAX_SEATS, NameHasher, Names, RoomRow};
 use tt_text::Tokens;
 
 /// Reads another room after those of the list.

@@ -9,10 +9,7 @@ use crate::fault::InstanceFault;
 use crate::fields::{read_below, read_course_name};
 use crate::header::Header;
 use std::alloc::{AllocError, Global};
-use tt_instance::{
-    MAX_PERIODS, Marks, UnavailabilityList, UnavailabilityRow, is_barred, mark_place,
-};
-use tt_names::Names;
+use tt_instance::{MAX_PERIODS, Marks, Names, UnavailabilityList, UnavailabilityRow, is_barred, mark_place};
 use tt_text::Tokens;
 
 /// Creates empty marks for each course and day.

@@ -2,10 +2,9 @@
 
 use std::alloc::{AllocError, Global};
 use std::test::Fail;
-use tt_instance::Instance;
+use tt_instance::{Instance, Named};
 use tt_instance_read::{InstanceFault, read_instance};
 use tt_instance_write::write_instance;
-use tt_names::Named;
 use tt_testing_samples::{GAP, MINI, TOUR, TRIO, WIDE, edited};
 use tt_text::{Pieces, Source, WholeFault, read_whole};
 

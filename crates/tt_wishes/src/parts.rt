@@ -8,7 +8,7 @@ use crate::fault::WishesFault;
 use crate::wish::Place;
 use crate::words::Words;
 use std::alloc::Global;
-use tt_names::Named;
+use tt_instance::Named;
 use tt_text::{NumberFault, Token, number};
 
 /// Reads the next word of a line that ends at this offset.

@@ -15,8 +15,7 @@ use crate::rooms::RoomList;
 use crate::wish::Wish;
 use crate::words::Words;
 use std::alloc::Global;
-use tt_instance::Instance;
-use tt_names::Named;
+use tt_instance::{Instance, Named};
 use tt_text::Token;
 
 /// The first word of a wish.

@@ -7,7 +7,7 @@ use crate::name_hasher::NameHasher;
 use indexmap::IndexSet;
 use std::alloc::{AllocError, Global};
 use std::marker::Model;
-use tt_instance::NameList;
+use crate::name_list::NameList;
 
 /// Different names, in the order in which they first appeared, and the number of each.
 pub struct Names<'a> {

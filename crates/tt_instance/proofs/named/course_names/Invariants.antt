@@ -1,5 +1,5 @@
 use Rattle.std.proofs.Common.{◌≡◌, map, take}
-use Rattle.tt_names.proofs.named.course_names.Given as goal
+use Rattle.tt_instance.proofs.named.course_names.Given as goal
 
 abbrev pub invariant-loop-course : goal.invariant-loop-course
 invariant-loop-course l = l.names ≡ map (λ x. x.id) (take l.course l.instance.courses)

@@ -8,7 +8,7 @@ use crate::name_hasher::NameHasher;
 use crate::names::Names;
 use std::alloc::{AllocError, Global};
 use std::marker::Model;
-use tt_instance::Instance;
+use crate::instance::Instance;
 
 /// An instance whose courses and rooms are found by their names.
 #[derive(Drop)]
@@ -20,7 +20,7 @@ pub struct Named<'p, 'i> {
 
 impl<'p, 'i> Model for Named<'p, 'i> {
     ghost use Rattle.tt_instance.specs.Problem.{Problem};
-    ghost use Rattle.tt_names.specs.Inner.Numbered.{AreNumbered};
+    ghost use Rattle.tt_instance.specs.Inner.Numbered.{AreNumbered};
 
     ghost Value = { Problem };
 

@@ -13,7 +13,7 @@ pub struct NameHasher {
 }
 
 impl NameHasher {
-    ghost use Rattle.tt_names.specs.Inner.Hashing.{keyed};
+    ghost use Rattle.tt_instance.specs.Inner.Hashing.{keyed};
 
     /// Returns the hashes that are keyed by the SHA-256 digest of these bytes.
     pub fn keyed_by(bytes: &[u8]) -> NameHasher

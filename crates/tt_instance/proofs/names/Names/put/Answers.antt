@@ -1,7 +1,7 @@
 use Rattle.std.proofs.Common.{◌∙◌, ap, map, not}
 use Rattle.tt_text.specs.Texts.{has_name, with_name}
-use Rattle.tt_names.proofs.Naming.{any_behind, names_with}
-use Rattle.tt_names.proofs.names.Names.put.Goals as goal
+use Rattle.tt_instance.proofs.Naming.{any_behind, names_with}
+use Rattle.tt_instance.proofs.names.Names.put.Goals as goal
 
 pub returns-clause-added : goal.returns-clause-added
 returns-clause-added c = c.in_ok-insert.ensures.added ∙ ap not (any_behind c.args.name.now c.self.inside.set.keys)

@@ -1,7 +1,7 @@
 use Rattle.std.proofs.Common.{◌<◌, length, ◌∙◌, arith}
 use Rattle.tt_instance.specs.Courses.{no_room}
-use Rattle.tt_names.proofs.Taking.{next_name}
-use Rattle.tt_names.proofs.named.room_names.Goals as goal
+use Rattle.tt_instance.proofs.Taking.{next_name}
+use Rattle.tt_instance.proofs.named.room_names.Goals as goal
 
 pub loop-room-preserved : goal.loop-room-preserved
 loop-room-preserved c =

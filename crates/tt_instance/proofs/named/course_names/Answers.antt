@@ -1,7 +1,7 @@
 use Rattle.std.proofs.Common.{◌<◌, length, ◌∙◌, arith}
 use Rattle.tt_instance.specs.Courses.{no_course}
-use Rattle.tt_names.proofs.Taking.{next_name}
-use Rattle.tt_names.proofs.named.course_names.Goals as goal
+use Rattle.tt_instance.proofs.Taking.{next_name}
+use Rattle.tt_instance.proofs.named.course_names.Goals as goal
 
 pub loop-course-preserved : goal.loop-course-preserved
 loop-course-preserved c =

@@ -1,7 +1,7 @@
 use Rattle.std.proofs.Common.{◌∙◌, ap, map}
 use Rattle.tt_text.specs.Texts.{with_name}
-use Rattle.tt_names.proofs.Naming.{names_with, number_behind}
-use Rattle.tt_names.proofs.names.Names.number.Goals as goal
+use Rattle.tt_instance.proofs.Naming.{names_with, number_behind}
+use Rattle.tt_instance.proofs.names.Names.number.Goals as goal
 
 pub returns-clause-names : goal.returns-clause-names
 returns-clause-names c = ap (λ ks. map (λ k. k.now) ks) c.in_ok-index.ensures.keys ∙ names_with c.args.name c.self.inside.set.keys
