@@ -17,7 +17,7 @@ use Rattle.tt_wishes.specs.declared.wish.Place.{Place}
 use Rattle.tt_wishes.specs.declared.wish.Wish.{Wish}
 use Rattle.tt_wishes.specs.declared.wish.Wish.TheVariants.{Hold, Rooms, Closed}
 use Rattle.tt_wishes.proofs.Roots.{root_inside}
-use Rattle.tt_wishes_narrow.specs.Narrowed.{narrowed}
+use Rattle.tt_wishes.specs.Narrowed.{narrowed}
 use Rattle.tt_best.specs.Kept.{IsNarrowing}
 use Rattle.tt_best.specs.declared.wishing.Wishing.{Wishing}
 

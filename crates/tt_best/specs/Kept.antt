@@ -6,7 +6,7 @@ use Rattle.tt_rules.specs.Score.{hard, cost}
 use Rattle.tt_wishes.specs.Facts.{root_of}
 use Rattle.tt_wishes.specs.Spelling.{AreWishes}
 use Rattle.tt_wishes.specs.declared.wish.Wish.{Wish}
-use Rattle.tt_wishes_narrow.specs.Narrowed.{narrowed}
+use Rattle.tt_wishes.specs.Narrowed.{narrowed}
 use Rattle.tt_wishes_search.specs.Wished.{breaks, stays_kept}
 use Rattle.tt_best.specs.declared.wishing.Wishing.{Wishing}
 

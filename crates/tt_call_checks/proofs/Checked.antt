@@ -12,7 +12,7 @@ use Rattle.tt_proof_sum.specs.Sums.{IsSumOn}
 use Rattle.tt_wishes.specs.Facts.{root_of}
 use Rattle.tt_wishes.specs.Wishes.{broken_wishes}
 use Rattle.tt_wishes.specs.declared.wish.Wish.{Wish}
-use Rattle.tt_wishes_narrow.specs.Narrowed.{narrowed}
+use Rattle.tt_wishes.specs.Narrowed.{narrowed}
 use Rattle.tt_call_answers.specs.Lines.{yes_line, broken_line, count_line}
 use Rattle.tt_call_answers.specs.declared.answer.Answer.{Answer}
 use Rattle.tt_call_checks.specs.Kept.{IsBrokenKept, IsTextAnswer, IsYesKept, SpellsAll, kept_line}

@@ -16,7 +16,7 @@ use Rattle.tt_wishes.specs.declared.fault.WishesFault.{WishesFault}
 use Rattle.tt_wishes.specs.declared.fault.WishesFault.TheVariants as wishes
 use Rattle.tt_wishes.specs.declared.wish.Wish.{Wish}
 use Rattle.tt_wishes.proofs.RowLaws.{wishes_read}
-use Rattle.tt_wishes_narrow.specs.Narrowed.{narrowed}
+use Rattle.tt_wishes.specs.Narrowed.{narrowed}
 use Rattle.tt_wishes.specs.Facts.{root_of}
 use Rattle.tt_proof_sum.specs.Faults.{IsSumStopOn}
 use Rattle.tt_proof_sum.specs.declared.fault.FileFault.{FileFault}

@@ -12,7 +12,7 @@ use Rattle.tt_wishes.specs.Facts.{root_of}
 use Rattle.tt_wishes.specs.Spelling.{SpellsWishes}
 use Rattle.tt_wishes.specs.declared.wish.Wish.{Wish}
 use Rattle.tt_wishes.proofs.RowLaws.{wishes_once}
-use Rattle.tt_wishes_narrow.specs.Narrowed.{narrowed}
+use Rattle.tt_wishes.specs.Narrowed.{narrowed}
 use Rattle.tt_call_answers.specs.FaultMaps.{fault_from_sum}
 use Rattle.tt_call_answers.specs.declared.answer.Answer.{Answer}
 use Rattle.tt_call_checks.specs.Kept.{IsKeptAnswer, IsNarrowed, IsSumKept, IsSummedKept, IsSumRefusal, HoldsOfKept, SpellsKept}

@@ -15,7 +15,7 @@ use Rattle.tt_wishes.specs.Wishes.{broken_wishes}
 use Rattle.tt_wishes.specs.declared.fault.WishesFault.{WishesFault}
 use Rattle.tt_wishes.specs.declared.fault.WishesFault.TheVariants as wishes
 use Rattle.tt_wishes.specs.declared.wish.Wish.{Wish}
-use Rattle.tt_wishes_narrow.specs.Narrowed.{narrowed}
+use Rattle.tt_wishes.specs.Narrowed.{narrowed}
 use Rattle.tt_leaf.specs.declared.leaf.Bound.{Bound}
 use Rattle.tt_leaf.specs.declared.leaf.Bound.TheVariants.{AtLeast}
 use Rattle.tt_leaf_rules.specs.Bounds.{Respects}

@@ -21,8 +21,7 @@ use tt_instance_read::read_instance;
 use tt_rules::score;
 use tt_table::read_solution;
 use tt_text::Peek;
-use tt_wishes::{broken_wishes, list_root, read_wishes};
-use tt_wishes_narrow::narrow;
+use tt_wishes::{broken_wishes, list_root, narrow, read_wishes};
 
 /// Checks whether a solution breaks no hard rule and no wish, and returns its cost and the sum of the lower bounds that proofs derive for the
 /// timetables that keep the wishes. The proofs are read only if neither a hard rule nor a wish is broken.

@@ -5,15 +5,14 @@ ghost use Rattle.tt_instance.specs.Problem.{Problem};
 ghost use Rattle.tt_wishes.specs.declared.wish.Wish.{Wish};
 ghost use Rattle.tt_wishes.specs.Facts.{root_of};
 ghost use Rattle.tt_call_checks.specs.Kept.{IsFileRefusal, IsNarrowed, SpellsKept, out_of_memory};
-ghost use Rattle.tt_wishes_narrow.specs.Narrowed.{narrowed};
+ghost use Rattle.tt_wishes.specs.Narrowed.{narrowed};
 
 use crate::fault::KeptFault;
 use std::alloc::Global;
 use tt_instance::Instance;
 use tt_instance_read::read_instance;
 use tt_path::Fact;
-use tt_wishes::{list_root, read_wishes};
-use tt_wishes_narrow::narrow;
+use tt_wishes::{list_root, narrow, read_wishes};
 
 /// The bytes of an instance and of wishes.
 #[derive(Clone, Copy, Debug)]

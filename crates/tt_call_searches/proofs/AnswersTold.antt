@@ -7,7 +7,7 @@ use Rattle.tt_table.specs.Table.{IsTimetable}
 use Rattle.tt_path.specs.declared.facts.Fact.{Fact}
 use Rattle.tt_wishes.specs.Facts.{root_of}
 use Rattle.tt_wishes.specs.declared.wish.Wish.{Wish}
-use Rattle.tt_wishes_narrow.specs.Narrowed.{narrowed}
+use Rattle.tt_wishes.specs.Narrowed.{narrowed}
 use Rattle.tt_leaf.specs.declared.leaf.Bound.{Bound}
 use Rattle.tt_proof_read.specs.declared.node.Node.{Node}
 use Rattle.tt_branch.specs.Outcomes.{IsOutcomeUntil}

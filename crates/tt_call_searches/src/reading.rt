@@ -16,8 +16,7 @@ use tt_instance_read::read_instance;
 use tt_page_text::Labels;
 use tt_path::Fact;
 use tt_table::Timetable;
-use tt_wishes::{Wish, list_root, read_wishes};
-use tt_wishes_narrow::narrow;
+use tt_wishes::{Wish, list_root, narrow, read_wishes};
 
 /// An instance, wishes, the instance that they narrow, and the facts that they put at the root of its trees.
 #[derive(Drop)]

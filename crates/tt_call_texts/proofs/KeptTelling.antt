@@ -34,7 +34,7 @@ use Rattle.tt_wishes.specs.Spelling.{SpellsWishes}
 use Rattle.tt_wishes.specs.declared.fault.WishesFault.{WishesFault}
 use Rattle.tt_wishes.specs.declared.fault.WishesFault.TheVariants as wishes
 use Rattle.tt_wishes.specs.declared.wish.Wish.{Wish}
-use Rattle.tt_wishes_narrow.specs.Narrowed.{narrowed}
+use Rattle.tt_wishes.specs.Narrowed.{narrowed}
 use Rattle.tt_call_answers.specs.FaultMaps.{fault_at_file, fault_from_instance, fault_from_labels, fault_from_page, fault_from_solution, fault_from_sum}
 use Rattle.tt_call_checks.specs.Kept.{IsSumKept, fault_from_wishes}
 use Rattle.tt_call_checks.specs.declared.fault.KeptFault.TheVariants as fault

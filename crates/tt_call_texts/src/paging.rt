@@ -12,8 +12,7 @@ use tt_page::{Look, Proved, Shown};
 use tt_proof_sum::sum_proofs_on;
 use tt_table::read_solution;
 use tt_text::{Peek, Sink};
-use tt_wishes::{list_root, read_wishes};
-use tt_wishes_narrow::narrow;
+use tt_wishes::{list_root, narrow, read_wishes};
 
 /// What a page is made of.
 #[derive(Clone, Copy, Debug)]

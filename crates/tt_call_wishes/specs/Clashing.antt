@@ -10,7 +10,7 @@ use Rattle.tt_wishes.specs.Spelling.{SpellsWishes}
 use Rattle.tt_wishes.specs.Wishes.{broken_wishes}
 use Rattle.tt_wishes.specs.declared.fault.WishesFault.{WishesFault}
 use Rattle.tt_wishes.specs.declared.wish.Wish.{Wish}
-use Rattle.tt_wishes_narrow.specs.Reasons.{HasNoClash}
+use Rattle.tt_wishes.specs.Reasons.{HasNoClash}
 use Rattle.tt_call_wishes.specs.declared.fault.ValidateFault.{ValidateFault}
 use Rattle.tt_call_wishes.specs.declared.fault.ValidateFault.TheVariants as fault
 

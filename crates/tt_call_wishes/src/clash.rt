@@ -7,8 +7,7 @@ use crate::fault::ValidateFault;
 use crate::lines::{ClashingLines, lines_of};
 use std::alloc::Global;
 use tt_instance_read::read_instance;
-use tt_wishes::read_wishes;
-use tt_wishes_narrow::find_clash;
+use tt_wishes::{find_clash, read_wishes};
 
 /// Returns the lines of the wishes for which no feasible timetable keeps all wishes, if such a reason is found: two of which none keeps both, one
 /// that none keeps, or one with which more lectures of a course stay than it has.

@@ -2,7 +2,7 @@
 
 use std::fmt;
 use tt_text::Tokens;
-use tt_wishes_narrow::Clash;
+use tt_wishes::Clash;
 
 /// The end of a line.
 const LINE_END: u8 = b'\n';

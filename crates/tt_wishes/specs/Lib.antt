@@ -1,6 +1,10 @@
+pub mod Clashes
 pub mod Facts
 pub mod Inner
 pub mod Lines
+pub mod Narrowed
+pub mod Periods
 pub mod Reading
+pub mod Reasons
 pub mod Spelling
 pub mod Wishes

@@ -3,7 +3,7 @@ use Rattle.std.specs.Prelude.{◌≡◌, ℕ, List, Option, Err, ⊤}
 use Rattle.tt_instance.specs.Problem.{Problem}
 use Rattle.tt_wishes.specs.Facts.{root_of}
 use Rattle.tt_wishes.specs.Spelling.{AreWishes}
-use Rattle.tt_wishes_narrow.specs.Narrowed.{narrowed}
+use Rattle.tt_wishes.specs.Narrowed.{narrowed}
 use Rattle.tt_page_text.specs.declared.fault.LabelsFault.TheVariants as labels
 use Rattle.tt_call_answers.specs.declared.fault.AppFault.TheVariants as app
 use Rattle.tt_call_answers.specs.Names.{labels_for}

@@ -2,7 +2,7 @@ use Rattle.std.proofs.Common.{length, sym, ap, ◌∙◌}
 use Rattle.std.proofs.lemmas.Result.{err_from_is_err_and}
 use Rattle.tt_call_checks.proofs.Refused.{tells_instance, tells_wishes, only_memory}
 use Rattle.tt_wishes.specs.Facts.{root_of}
-use Rattle.tt_wishes_narrow.specs.Narrowed.{narrowed}
+use Rattle.tt_wishes.specs.Narrowed.{narrowed}
 use Rattle.tt_call_checks.proofs.Summed.{narrowed_once}
 use Rattle.tt_call_checks.proofs.files.read_narrowed.Goals as goal
 

@@ -4,7 +4,7 @@ use Rattle.tt_instance.specs.Problem.{Problem}
 use Rattle.tt_instance_read.proofs.Laws.{spelled_once}
 use Rattle.tt_wishes.specs.Facts.{root_of}
 use Rattle.tt_wishes.specs.declared.wish.Wish.{Wish}
-use Rattle.tt_wishes_narrow.specs.Narrowed.{narrowed}
+use Rattle.tt_wishes.specs.Narrowed.{narrowed}
 use Rattle.tt_call_searches.proofs.Refused.{tells_instance, tells_wishes}
 use Rattle.tt_call_searches.proofs.reading.read_kept.Goals as goal
 

@@ -3,7 +3,7 @@ use Rattle.std.specs.Io.KnownBytes.{Appends}
 use Rattle.std.proofs.lemmas.Result.{err_from_is_err_and}
 use Rattle.tt_wishes.specs.Facts.{root_of}
 use Rattle.tt_wishes.specs.declared.wish.Wish.{Wish}
-use Rattle.tt_wishes_narrow.specs.Narrowed.{narrowed}
+use Rattle.tt_wishes.specs.Narrowed.{narrowed}
 use Rattle.tt_proof_sum.specs.Added.{Give}
 use Rattle.tt_text.specs.Sinks.{TakesPart}
 use Rattle.tt_page.specs.Faults.{ExplainsSize}
