@@ -6,7 +6,7 @@ use Rattle.tt_instance.specs.declared.cell.Cell.{Cell}
 use Rattle.tt_rules.specs.Score.{cost}
 use Rattle.tt_wishes.specs.Wishes.{is_kept}
 use Rattle.tt_wishes.specs.declared.wish.Wish.{Wish}
-use Rattle.tt_wishes_search.specs.Wished.{stays_kept}
+use Rattle.tt_stay.specs.Wished.{stays_kept}
 use Rattle.tt_best.specs.Kept.{IsLighter, IsNoWorse, IsNoWorseThan, breaks_in_all}
 
 -- a wish that is kept stays kept

@@ -7,7 +7,7 @@ use Rattle.tt_wishes.specs.Facts.{root_of}
 use Rattle.tt_wishes.specs.Spelling.{AreWishes}
 use Rattle.tt_wishes.specs.declared.wish.Wish.{Wish}
 use Rattle.tt_wishes.specs.Narrowed.{narrowed}
-use Rattle.tt_wishes_search.specs.Wished.{breaks, stays_kept}
+use Rattle.tt_stay.specs.Wished.{breaks, stays_kept}
 use Rattle.tt_best.specs.declared.wishing.Wishing.{Wishing}
 
 -- The wishes are the instance's, the second instance is the first one, narrowed by them, and the root has their facts.

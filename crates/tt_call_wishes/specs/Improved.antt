@@ -12,9 +12,9 @@ use Rattle.tt_wishes.specs.Spelling.{SpellsWishes}
 use Rattle.tt_wishes.specs.declared.wish.Wish.{Wish}
 use Rattle.tt_stay.specs.Rearranged.{IsRearranged}
 use Rattle.tt_stay.specs.declared.stay.Stay.{Stay}
-use Rattle.tt_wishes_search.specs.Wished.{IsLower, IsWishedWeight, stays_kept}
-use Rattle.tt_wishes_search.specs.declared.searching.Wished.{Wished}
-use Rattle.tt_wishes_search.specs.declared.weight.WishedWeight.{WishedWeight}
+use Rattle.tt_stay.specs.Wished.{IsLower, IsWishedWeight, stays_kept}
+use Rattle.tt_stay.specs.declared.wished_searching.Wished.{Wished}
+use Rattle.tt_stay.specs.declared.wish_weight.WishedWeight.{WishedWeight}
 use Rattle.tt_call_answers.specs.declared.answer.Answer.{Answer}
 use Rattle.tt_call_wishes.specs.Wished.{IsWishesRefusal}
 use Rattle.tt_call_wishes.specs.declared.fault.ValidateFault.TheVariants as files

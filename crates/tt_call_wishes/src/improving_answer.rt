@@ -10,7 +10,7 @@ use tt_call_answers::Answer;
 use tt_instance::Instance;
 use tt_table::write_solution;
 use tt_text::{put_line_end, put_next_number, put_next_token, put_token};
-use tt_wishes_search::{Wished, WishedWeight};
+use tt_stay::{Wished, WishedWeight};
 
 /// Returns the line of a weight: the hard count, the cost, the number of broken wishes, and how many lectures left their period and how many only
 /// their room.

@@ -15,4 +15,4 @@ pub use fault::ValidateFault;
 pub use improving::{WishedFiles, improve_under_wishes};
 pub use improving_fault::WishedFault;
 pub use lines::ClashingLines;
-pub use tt_wishes_search::{Search, Stay};
+pub use tt_stay::{Search, Stay};

@@ -1,2 +1,3 @@
 pub mod Rearranging
 mod Weighing
+pub mod Wishing

@@ -1,2 +1,3 @@
 pub mod Rearranged
 pub mod Staying
+pub mod Wished

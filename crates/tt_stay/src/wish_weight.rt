@@ -2,12 +2,13 @@
 
 ghost use Rattle.std.specs.Prelude.{◌↔◌, IfOk, IsTrue};
 ghost use Rattle.tt_table.specs.Table.{IsTimetable};
-ghost use Rattle.tt_wishes_search.specs.Wished.{IsLower, IsWishedWeight};
+ghost use Rattle.tt_stay.specs.Wished.{IsLower, IsWishedWeight};
 
 use crate::breaks::count_all_breaks;
 use std::alloc::{AllocError, Global};
 use tt_instance::Instance;
-use tt_stay::{Stay, Weight, weigh};
+use crate::stay::Stay;
+use crate::weight::{Weight, weigh};
 use tt_table::Timetable;
 use tt_wishes::{Wish, broken_wishes};
 

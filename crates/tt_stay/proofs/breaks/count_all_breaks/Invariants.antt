@@ -1,8 +1,8 @@
 use Rattle.std.proofs.Common.{◌≡◌, ◌≤◌, ◌*◌, take}
 use Rattle.std.specs.Prelude.{sum_by}
 use Rattle.tt_table.specs.declared.table.TheConstants.{MAX_ENTRIES}
-use Rattle.tt_wishes_search.specs.Wished.{breaks}
-use Rattle.tt_wishes_search.proofs.breaks.count_all_breaks.Given as goal
+use Rattle.tt_stay.specs.Wished.{breaks}
+use Rattle.tt_stay.proofs.breaks.count_all_breaks.Given as goal
 
 abbrev pub invariant-loop-wish : goal.invariant-loop-wish
 invariant-loop-wish l = record {

@@ -3,7 +3,7 @@
 use std::alloc::{AllocError, Global};
 use tt_instance::Instance;
 use tt_plans_odds::Dice;
-use tt_stay::Shift;
+use crate::prices::Shift;
 use tt_table::Entry;
 use tt_wishes::Place;
 

@@ -5,7 +5,8 @@ use crate::places::PlacePrices;
 use std::alloc::{AllocError, Global};
 use tt_instance::Instance;
 use tt_plans_odds::Dice;
-use tt_stay::{Homes, Prices, Shift};
+use crate::homes::Homes;
+use crate::prices::{Prices, Shift};
 use tt_table::{Entry, Timetable};
 use tt_wishes::{Wish, keeps};
 

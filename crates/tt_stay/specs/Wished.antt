@@ -11,9 +11,9 @@ use Rattle.tt_wishes.specs.declared.wish.Wish.TheVariants.{Hold, Rooms, Closed}
 use Rattle.tt_stay.specs.Rearranged.{IsRearranged}
 use Rattle.tt_stay.specs.declared.stay.Stay.{Stay}
 use Rattle.tt_stay.specs.Staying.{IsWeight, total}
-use Rattle.tt_wishes_search.specs.declared.searching.Wished.{Wished}
-use Rattle.tt_wishes_search.specs.declared.weight.Basis.{Basis}
-use Rattle.tt_wishes_search.specs.declared.weight.WishedWeight.{WishedWeight}
+use Rattle.tt_stay.specs.declared.wished_searching.Wished.{Wished}
+use Rattle.tt_stay.specs.declared.wish_weight.Basis.{Basis}
+use Rattle.tt_stay.specs.declared.wish_weight.WishedWeight.{WishedWeight}
 
 -- Whether the second timetable keeps each wish that the first one keeps.
 abbrev pub stays_kept : List Cell → List Cell → List Wish → Bool

@@ -1,7 +1,7 @@
 //! Wishes that a timetable keeps.
 
 ghost use Rattle.std.specs.Prelude.{◌≡◌};
-ghost use Rattle.tt_wishes_search.specs.Wished.{stays_kept};
+ghost use Rattle.tt_stay.specs.Wished.{stays_kept};
 
 use tt_table::Timetable;
 use tt_wishes::{Wish, keeps};

@@ -5,7 +5,7 @@ ghost use Rattle.tt_list_laws.specs.Words.{has_number};
 ghost use Rattle.tt_instance.specs.Cells.{is_of};
 ghost use Rattle.tt_table.specs.declared.table.TheConstants.{MAX_ENTRIES};
 ghost use Rattle.tt_wishes.specs.Wishes.{is_there};
-ghost use Rattle.tt_wishes_search.specs.Wished.{breaks};
+ghost use Rattle.tt_stay.specs.Wished.{breaks};
 
 use tt_table::{Entry, Timetable};
 use tt_wishes::{Place, RoomList, Wish, keeps};

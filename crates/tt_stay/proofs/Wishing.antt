@@ -8,9 +8,9 @@ use Rattle.tt_wishes.specs.Wishes.{is_kept}
 use Rattle.tt_wishes.specs.declared.wish.Wish.{Wish}
 use Rattle.tt_stay.specs.declared.stay.Stay.{Stay}
 use Rattle.tt_stay.proofs.Rearranging.{rearranged_self}
-use Rattle.tt_wishes_search.specs.Wished.{IsLower, IsWished, IsWishedWeight, stays_kept, total_of}
-use Rattle.tt_wishes_search.specs.declared.weight.Basis.{Basis}
-use Rattle.tt_wishes_search.specs.declared.weight.WishedWeight.{WishedWeight}
+use Rattle.tt_stay.specs.Wished.{IsLower, IsWished, IsWishedWeight, stays_kept, total_of}
+use Rattle.tt_stay.specs.declared.wish_weight.Basis.{Basis}
+use Rattle.tt_stay.specs.declared.wish_weight.WishedWeight.{WishedWeight}
 
 -- a timetable keeps what it keeps
 kept_or_not : (b : Bool) → (not b || b) ≡ true
