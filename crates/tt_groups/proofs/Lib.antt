@@ -1,9 +1,21 @@
 pub mod Built
+pub mod Cost
+pub mod Courses
 pub mod Exact
 pub mod Examples
+pub mod Groups
 pub mod Lists
+pub mod Placed
+pub mod Planned
+mod PriceExamples
+pub mod Priced
 pub mod Program
 pub mod Projection
 pub mod Radix
+pub mod Recounted
+pub mod Rents
+pub mod Rooms
 pub mod Seen
+pub mod Signed
 pub mod Weeks
+pub mod Whole

@@ -1,5 +1,10 @@
+pub mod Days
 pub mod Group
+pub mod Limits
 pub mod Listed
 pub mod Places
 pub mod Plans
+pub mod Prices
+pub mod Rows
+pub mod Signed
 pub mod Tables

@@ -8,7 +8,7 @@ use rand_pcg::Pcg32;
 use std::alloc::AllocError;
 use tt_parts_least::lectures_of;
 use tt_parts_priced::{Program, Tables};
-use tt_prices::MAX_PRICE;
+use tt_groups::MAX_PRICE;
 
 /// The part of a direction that stays from step to step, in tenths.
 pub const MOMENTUM: i64 = 7;

@@ -1,12 +1,12 @@
 //! What a search for prices found.
 
 ghost use Rattle.std.specs.Prelude.{All, IfOk, OnOk};
-ghost use Rattle.tt_prices.specs.Limits.{IsPrice};
+ghost use Rattle.tt_groups.specs.Limits.{IsPrice};
 
 use crate::climb::Climb;
 use std::alloc::{AllocError, Global};
 use tt_parts_drafts::{Aim, Group, SCALE, points};
-use tt_prices::{MAX_PRICE, PriceRow, PricedGroup};
+use tt_groups::{MAX_PRICE, PriceRow, PricedGroup};
 use tt_prices_read::Rent;
 
 /// Groups with prices and rents of rooms, the units of price in a point, and the bound in cost points that they are to prove.

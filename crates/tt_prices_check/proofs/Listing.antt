@@ -4,7 +4,7 @@ use Rattle.std.specs.Prelude.{Contains, ℤ, pos, negsuc, ◌+ℤ◌, ◌≤ℤ�
 use Rattle.std.proofs.lemmas.Int.{ints}
 use Rattle.std.proofs.lemmas.List.Elements.{Contains-append_left, Contains-append_right, Contains-append_cases}
 use Rattle.tt_list_laws.proofs.Members.{member_cases}
-use Rattle.tt_prices.specs.declared.day.PricedDay.{PricedDay}
+use Rattle.tt_groups.specs.declared.day.PricedDay.{PricedDay}
 use Rattle.tt_prices_check.specs.Moves.{IsMoveOf, AreMovesOf}
 use Rattle.tt_prices_check.specs.declared.moves.PricedMove.{PricedMove}
 use lib.IntN.{nat_abs}

@@ -13,10 +13,10 @@ use Rattle.tt_groups.proofs.Program.{used-more, capped-more}
 use Rattle.tt_groups.proofs.Radix.{place_below, at_left, length-two}
 use Rattle.tt_groups_tables.specs.Digits.{digit}
 use Rattle.tt_groups_tables.specs.WeekLists.{is_full}
-use Rattle.tt_prices.specs.Days.{counted_of, IsDayList, IsPricedPlan}
-use Rattle.tt_prices.specs.Prices.{PricedGroup}
-use Rattle.tt_prices.specs.declared.day.PricedDay.{PricedDay}
-use Rattle.tt_prices.proofs.Planned.{claimed}
+use Rattle.tt_groups.specs.Days.{counted_of, IsDayList, IsPricedPlan}
+use Rattle.tt_groups.specs.Prices.{PricedGroup}
+use Rattle.tt_groups.specs.declared.day.PricedDay.{PricedDay}
+use Rattle.tt_groups.proofs.Planned.{claimed}
 use Rattle.tt_prices_check.specs.Inner.Fold.{IsRelaxed, AreWithin}
 use Rattle.tt_prices_check.specs.Moves.{AreMovesOf}
 use Rattle.tt_prices_check.specs.Week.{week_sizes}

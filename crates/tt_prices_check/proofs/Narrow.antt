@@ -19,9 +19,9 @@ use Rattle.tt_groups.proofs.Lists.{passing_member, member_before}
 use Rattle.tt_groups.proofs.Projection.{course_own}
 use Rattle.tt_groups_check.specs.Limits as plain
 use Rattle.tt_groups_check.proofs.CoursesAndSizes.{concerned_below}
-use Rattle.tt_prices.specs.Days.{unpriced, courses_of, counted_of}
-use Rattle.tt_prices.specs.Prices.{PricedGroup, concerns}
-use Rattle.tt_prices.proofs.Recounted.{concerns_same}
+use Rattle.tt_groups.specs.Days.{unpriced, courses_of, counted_of}
+use Rattle.tt_groups.specs.Prices.{PricedGroup, concerns}
+use Rattle.tt_groups.proofs.Recounted.{concerns_same}
 use Rattle.tt_prices_check.specs.Groups.{IsGroupOf, is_too_wide}
 use Rattle.tt_prices_day.specs.Shapes.{IsNarrow}
 use Rattle.tt_prices_day.proofs.Growing.{length-filter_le}

@@ -19,10 +19,10 @@ use Rattle.tt_groups_tables.specs.WeekLists.{is_full}
 use Rattle.tt_groups_tables.specs.declared.state.Step.{Step}
 use Rattle.tt_groups_tables.proofs.Listing.{zero_place, all_zero}
 use Rattle.tt_groups_tables.proofs.Moving.{fitting_of_room, step-none}
-use Rattle.tt_prices.specs.Days.{unpriced, counted_of, day_paid, IsPricedDay, HasAmounts, IsPricedPlan}
-use Rattle.tt_prices.specs.Prices.{PricedGroup}
-use Rattle.tt_prices.specs.declared.day.PricedDay.{PricedDay}
-use Rattle.tt_prices.proofs.Planned.{claimed}
+use Rattle.tt_groups.specs.Days.{unpriced, counted_of, day_paid, IsPricedDay, HasAmounts, IsPricedPlan}
+use Rattle.tt_groups.specs.Prices.{PricedGroup}
+use Rattle.tt_groups.specs.declared.day.PricedDay.{PricedDay}
+use Rattle.tt_groups.proofs.Planned.{claimed}
 use Rattle.tt_prices_check.specs.Moves.{IsMoveOf}
 use Rattle.tt_prices_check.specs.Week.{week_sizes}
 use Rattle.tt_prices_check.specs.declared.moves.PricedMove.{PricedMove}

@@ -10,11 +10,11 @@ use Rattle.tt_list_laws.proofs.Tests.{sum_by-same_below}
 use Rattle.tt_instance.specs.Problem.{Problem}
 use Rattle.tt_groups.specs.Plans.{Week, lectures_on, day_cost, used, further, slack, capped, spent}
 use Rattle.tt_groups.proofs.Program.{spent-more}
-use Rattle.tt_prices.specs.Days.{unpriced, further_on, day_prices, day_paid, plan_paid}
-use Rattle.tt_prices.specs.Prices.{PricedGroup}
-use Rattle.tt_prices.specs.Signed.{signed_sum}
-use Rattle.tt_prices.proofs.Planned.{claimed, points_spent}
-use Rattle.tt_prices.proofs.Signed.{signed_sum-append, signed_sum-same_member}
+use Rattle.tt_groups.specs.Days.{unpriced, further_on, day_prices, day_paid, plan_paid}
+use Rattle.tt_groups.specs.Prices.{PricedGroup}
+use Rattle.tt_groups.specs.Signed.{signed_sum}
+use Rattle.tt_groups.proofs.Planned.{claimed, points_spent}
+use Rattle.tt_groups.proofs.Signed.{signed_sum-append, signed_sum-same_member}
 use Rattle.tt_prices_check.specs.Week.{base_paid}
 use Rattle.tt_prices_check.specs.declared.moves.TheConstants.{MAX_PAID}
 

@@ -7,9 +7,9 @@ use Rattle.tt_instance.specs.Problem.{Problem}
 use Rattle.tt_groups.specs.Places.{weights_from, places}
 use Rattle.tt_groups.specs.Plans.{Week}
 use Rattle.tt_groups_tables.specs.WeekLists.{is_full}
-use Rattle.tt_prices.specs.Days.{counted_of, IsDayList, IsPricedPlan}
-use Rattle.tt_prices.specs.Prices.{PricedGroup}
-use Rattle.tt_prices.specs.declared.day.PricedDay.{PricedDay}
+use Rattle.tt_groups.specs.Days.{counted_of, IsDayList, IsPricedPlan}
+use Rattle.tt_groups.specs.Prices.{PricedGroup}
+use Rattle.tt_groups.specs.declared.day.PricedDay.{PricedDay}
 use Rattle.tt_prices_check.specs.Inner.Fold.{IsRelaxed, IsMadeFrom, AreWithin}
 use Rattle.tt_prices_check.specs.Moves.{AreMovesOf}
 use Rattle.tt_prices_check.specs.Week.{week_sizes, Suits, IsLeastPlan}

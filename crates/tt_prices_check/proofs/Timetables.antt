@@ -3,9 +3,9 @@ use Rattle.std.proofs.Common.{◌≡◌, ℕ, ◌<◌, true, length, Option, Som
 use Rattle.std.specs.Prelude.{ℤ, pos, ◌+ℤ◌, ◌≤ℤ◌}
 use Rattle.tt_instance.specs.Problem.{Problem}
 use Rattle.tt_groups.specs.Plans.{week_of}
-use Rattle.tt_prices.specs.Prices.{PricedGroup, concerns}
-use Rattle.tt_prices.proofs.Placed.{placed, placed_relaxed, placed_pays}
-use Rattle.tt_prices.proofs.Planned.{plan_of, plan_pays}
+use Rattle.tt_groups.specs.Prices.{PricedGroup, concerns}
+use Rattle.tt_groups.proofs.Placed.{placed, placed_relaxed, placed_pays}
+use Rattle.tt_groups.proofs.Planned.{plan_of, plan_pays}
 use Rattle.tt_prices_check.specs.Week.{base_paid, IsLeastPlan, IsLeastTimetable}
 
 module _ (p : Problem) (scale : ℕ) (g : PricedGroup) (there : (c : ℕ) → concerns p g c ≡ true → c < length p.courses) where

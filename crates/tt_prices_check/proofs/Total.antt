@@ -2,9 +2,9 @@
 use Rattle.std.proofs.Common.{◌≡◌, ℕ, ◌+◌, ◌^◌, List, length, Some, sym, ap, subst, ◌∙◌, arith, Vec, w64, ℤ, pos, ◌+ℤ◌, to_z, of_z}
 use Rattle.std.specs.Global.{Global}
 use Rattle.tt_instance.specs.Problem.{Problem}
-use Rattle.tt_prices.specs.Days.{counted_of}
-use Rattle.tt_prices.specs.Limits.{IsWithin}
-use Rattle.tt_prices.specs.Prices.{PricedGroup}
+use Rattle.tt_groups.specs.Days.{counted_of}
+use Rattle.tt_groups.specs.Limits.{IsWithin}
+use Rattle.tt_groups.specs.Prices.{PricedGroup}
 use Rattle.tt_prices_check.specs.Groups.{IsLeast}
 use Rattle.tt_prices_check.specs.Inner.Days.{HasDays}
 use Rattle.tt_prices_day.proofs.Within.{within-more, within-plus, sum-of}

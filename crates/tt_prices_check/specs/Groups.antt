@@ -9,8 +9,8 @@ use Rattle.tt_groups.specs.Places.{places}
 use Rattle.tt_groups_tables.specs.Counting.{sets_count}
 use Rattle.tt_groups_tables.specs.declared.sets.TheConstants.{MAX_SETS}
 use Rattle.tt_groups_tables.specs.declared.digits.TheConstants.{MAX_PLACES}
-use Rattle.tt_prices.specs.Days.{courses_of}
-use Rattle.tt_prices.specs.Prices.{PricedGroup, IsRelaxedTimetable, IsGroupBound, paid}
+use Rattle.tt_groups.specs.Days.{courses_of}
+use Rattle.tt_groups.specs.Prices.{PricedGroup, IsRelaxedTimetable, IsGroupBound, paid}
 use Rattle.tt_prices_check.specs.Week.{week_sizes}
 use Rattle.tt_prices_check.specs.declared.fault.PricedFault.{PricedFault}
 use Rattle.tt_prices_check.specs.declared.fault.PricedFault.TheVariants.{TooWide, TooManyStates, TooManySets, TooMuchWork}

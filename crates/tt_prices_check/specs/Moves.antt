@@ -1,7 +1,7 @@
 -- The entries of a day as moves.
 use Rattle.std.specs.Prelude.{◌≡◌, ℕ, pos, neg_ℤ, ◌+ℤ◌, ◌≤ℤ◌, List, All, Contains}
 use Rattle.tt_groups_tables.specs.Fold.{index_of, floor_of}
-use Rattle.tt_prices.specs.declared.day.PricedDay.{PricedDay}
+use Rattle.tt_groups.specs.declared.day.PricedDay.{PricedDay}
 use Rattle.tt_prices_check.specs.declared.moves.PricedMove.{PricedMove}
 use Rattle.tt_prices_check.specs.declared.moves.TheConstants.{MAX_PAID}
 

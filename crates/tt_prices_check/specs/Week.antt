@@ -6,9 +6,9 @@ use Rattle.tt_instance.specs.Problem.{Problem}
 use Rattle.tt_instance.specs.Courses.{lectures, min_days}
 use Rattle.tt_instance.specs.declared.cell.Cell.{Cell}
 use Rattle.tt_groups.specs.Plans.{Week, slack}
-use Rattle.tt_prices.specs.Days.{counted_of, IsDayList, IsPricedPlan, plan_paid}
-use Rattle.tt_prices.specs.Prices.{PricedGroup, IsRelaxedTimetable, IsGroupBound, paid}
-use Rattle.tt_prices.specs.declared.day.PricedDay.{PricedDay}
+use Rattle.tt_groups.specs.Days.{counted_of, IsDayList, IsPricedPlan, plan_paid}
+use Rattle.tt_groups.specs.Prices.{PricedGroup, IsRelaxedTimetable, IsGroupBound, paid}
+use Rattle.tt_groups.specs.declared.day.PricedDay.{PricedDay}
 use Rattle.tt_prices_check.specs.Moves.{AreMovesOf}
 use Rattle.tt_prices_check.specs.declared.moves.PricedMove.{PricedMove}
 

@@ -5,15 +5,15 @@ ghost use Rattle.tt_groups.specs.Plans.{slack};
 ghost use Rattle.std.specs.List.{list_any};
 ghost use Rattle.tt_list_laws.specs.Words.{has_number};
 ghost use Rattle.tt_instance.specs.Courses.{in_curriculum, lectures};
-ghost use Rattle.tt_prices.specs.Days.{courses_of, counted_of};
-ghost use Rattle.tt_prices.specs.Prices.{concerns};
-ghost use Rattle.tt_prices.specs.Rows.{group_of};
+ghost use Rattle.tt_groups.specs.Days.{courses_of, counted_of};
+ghost use Rattle.tt_groups.specs.Prices.{concerns};
+ghost use Rattle.tt_groups.specs.Rows.{group_of};
 ghost use Rattle.tt_prices_check.specs.Groups.{IsGroupOf};
 ghost use Rattle.tt_prices_check.specs.Week.{week_sizes};
 
 use std::alloc::{AllocError, Global};
 use tt_instance::Instance;
-use tt_prices::PricedGroup;
+use tt_groups::PricedGroup;
 
 /// Checks whether a course is one of the further ones.
 fn is_further(group: &PricedGroup, course: u32) -> bool

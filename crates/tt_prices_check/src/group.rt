@@ -2,9 +2,9 @@
 
 ghost use Rattle.std.specs.Prelude.{◌≡◌, ◌⊎◌, ◌+◌, ◌*◌, ◌^◌, ◌≤◌, ◌<◌, min, pos, false, length, All, Err, IfOk, IfSome, OnOk};
 ghost use Rattle.tt_text.specs.Stops.{IfFault, is_read_failed};
-ghost use Rattle.tt_prices.specs.Limits.{IsWithin};
-ghost use Rattle.tt_prices.specs.Rows.{group_of};
-ghost use Rattle.tt_prices.specs.declared.price.TheConstants.{MAX_SCALE};
+ghost use Rattle.tt_groups.specs.Limits.{IsWithin};
+ghost use Rattle.tt_groups.specs.Rows.{group_of};
+ghost use Rattle.tt_groups.specs.declared.price.TheConstants.{MAX_SCALE};
 ghost use Rattle.tt_prices_check.specs.Groups.{IsGroupOf, IsLeast, IsRefusal, IsWithinLimits};
 ghost use Rattle.tt_prices_check.specs.declared.fault.PricedFault.TheVariants as fault;
 ghost use Rattle.tt_prices_check.specs.declared.work.TheConstants.{MAX_GROUP_STEPS};
@@ -19,7 +19,7 @@ use crate::work::PricedWork;
 use std::alloc::Global;
 use tt_groups_tables::Digits;
 use tt_instance::{Instance, MISSING_DAY_COST};
-use tt_prices::PricedGroup;
+use tt_groups::PricedGroup;
 use tt_prices_day::Shape;
 use tt_text::Stop;
 

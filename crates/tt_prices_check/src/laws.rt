@@ -2,7 +2,7 @@
 
 ghost use Rattle.std.specs.Prelude.{◌≡◌, ℕ, ◌<◌, ℤ, true, length, Option};
 ghost use Rattle.tt_instance.specs.Problem.{Problem};
-ghost use Rattle.tt_prices.specs.Prices.{PricedGroup, concerns};
+ghost use Rattle.tt_groups.specs.Prices.{PricedGroup, concerns};
 ghost use Rattle.tt_prices_check.specs.Week.{IsLeastPlan, IsLeastTimetable};
 
 /// The least that a plan pays is the least that the group pays in a relaxed timetable. The courses that the group concerns are the instance's.

@@ -6,9 +6,8 @@ ghost use Rattle.tt_prices_check.specs.Inner.Sorted.{AreSorted, AreSortedMoves, 
 ghost use Rattle.tt_prices_check.specs.Moves.{IsSmall, IsMoveOf, AreReady, AreMovesOf};
 
 use std::alloc::{AllocError, Global};
-use tt_groups::{DIGITS, DayEntry};
+use tt_groups::{DIGITS, DayEntry, PricedDay};
 use tt_groups_tables::{Digits, Move, moves_of};
-use tt_prices::PricedDay;
 
 /// The most that a day may pay, and the most that it may get.
 pub const MAX_PAID: i64 = 1_099_511_627_776;

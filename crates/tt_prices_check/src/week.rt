@@ -1,7 +1,7 @@
 //! The moves of the days of a group with prices.
 
 ghost use Rattle.std.specs.Prelude.{◌≡◌, ◌⊎◌, ◌+◌, ◌++◌, ◌∷◌, [], ◌≤◌, min, length, All, Err, IfErr, IfOk, OnOk};
-ghost use Rattle.tt_prices.specs.Rows.{group_of};
+ghost use Rattle.tt_groups.specs.Rows.{group_of};
 ghost use Rattle.tt_prices_check.specs.Inner.Days.{HasDays};
 ghost use Rattle.tt_prices_check.specs.declared.fault.PricedFault.TheVariants as fault;
 ghost use Rattle.tt_prices_day.specs.Shapes.{IsShape};
@@ -13,7 +13,7 @@ use crate::work::MAX_GROUP_STEPS;
 use std::alloc::{AllocError, Global};
 use tt_groups_tables::Digits;
 use tt_instance::Instance;
-use tt_prices::PricedGroup;
+use tt_groups::PricedGroup;
 use tt_prices_day::{Shape, list_days};
 use tt_text::Stop;
 

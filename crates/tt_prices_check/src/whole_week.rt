@@ -6,8 +6,8 @@ ghost use Rattle.tt_groups_tables.specs.declared.digits.TheConstants.{MAX_PLACES
 ghost use Rattle.tt_groups_tables.specs.declared.week_fault.WeekFault.TheVariants as fault;
 ghost use Rattle.tt_instance.specs.Problem.{Problem};
 ghost use Rattle.tt_instance.specs.declared.limit.TheConstants.{MAX_DAYS};
-ghost use Rattle.tt_prices.specs.Limits.{IsWithin};
-ghost use Rattle.tt_prices.specs.Prices.{PricedGroup};
+ghost use Rattle.tt_groups.specs.Limits.{IsWithin};
+ghost use Rattle.tt_groups.specs.Prices.{PricedGroup};
 ghost use Rattle.tt_prices_check.specs.Moves.{AreReady};
 ghost use Rattle.tt_prices_check.specs.Week.{Suits, all_moves, IsLeastPlan};
 ghost use Rattle.tt_prices_check.specs.declared.fold.TheConstants.{NOT_REACHED};

@@ -3,12 +3,12 @@
 ghost use Rattle.std.specs.Prelude.{◌≡◌, ◌<◌, nat_lt, length, All};
 ghost use Rattle.std.specs.List.{list_any};
 ghost use Rattle.tt_instance.specs.Courses.{lectures};
-ghost use Rattle.tt_prices.specs.Days.{courses_of};
-ghost use Rattle.tt_prices.specs.Rows.{group_of};
+ghost use Rattle.tt_groups.specs.Days.{courses_of};
+ghost use Rattle.tt_groups.specs.Rows.{group_of};
 ghost use Rattle.tt_prices_check.specs.Groups.{is_too_wide};
 
 use tt_instance::Instance;
-use tt_prices::PricedGroup;
+use tt_groups::PricedGroup;
 use tt_prices_day::MAX_LECTURES;
 
 /// The maximum number of curricula of a group.

@@ -18,8 +18,8 @@ use Rattle.tt_groups_tables.specs.Sets.{has_course, Begins}
 use Rattle.tt_groups_tables.specs.declared.morning.CourseSet.{CourseSet}
 use Rattle.tt_groups_tables.proofs.Beginning.{ones-of_word, count_prefix}
 use Rattle.tt_groups_tables.proofs.Running.{day_cost-pending}
-use Rattle.tt_prices.specs.Days.{unpriced, courses_of, day_prices, further_on}
-use Rattle.tt_prices.specs.Prices.{PricedGroup}
+use Rattle.tt_groups.specs.Days.{unpriced, courses_of, day_prices, further_on}
+use Rattle.tt_groups.specs.Prices.{PricedGroup}
 use Rattle.tt_prices_day.specs.Inner.Following.{is_counted, is_paying, cap, AreRules, beyond}
 use Rattle.tt_prices_day.specs.Inner.Layers.{IsBegun}
 use Rattle.tt_prices_day.specs.declared.node.Key.{Key}

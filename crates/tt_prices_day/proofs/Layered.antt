@@ -20,8 +20,8 @@ use Rattle.tt_groups_tables.specs.declared.morning.CourseSet.{CourseSet}
 use Rattle.tt_groups_tables.proofs.Beginning.{count_prefix, count_one_more, one_if_course}
 use Rattle.tt_groups_tables.proofs.Finding.{nothing_there, open_first, open_more}
 use Rattle.tt_groups_tables.proofs.Searching.{begins-more}
-use Rattle.tt_prices.specs.Days.{unpriced, courses_of, IsPricedDay}
-use Rattle.tt_prices.specs.Prices.{PricedGroup}
+use Rattle.tt_groups.specs.Days.{unpriced, courses_of, IsPricedDay}
+use Rattle.tt_groups.specs.Prices.{PricedGroup}
 use Rattle.tt_prices_day.specs.Inner.Following.{is_counted, cap, AreRules}
 use Rattle.tt_prices_day.specs.Inner.Layers.{AreLetters, AreFollowed, AreReached, IsBegun, IsOver, set_price}
 use Rattle.tt_prices_day.specs.declared.letters.Letter.{Letter}

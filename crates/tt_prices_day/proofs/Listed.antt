@@ -26,9 +26,9 @@ use Rattle.tt_groups_tables.specs.Sets.{Begins, IsComplete, IsCourseSet}
 use Rattle.tt_groups_tables.specs.declared.morning.CourseSet.{CourseSet}
 use Rattle.tt_groups_tables.proofs.Finding.{is_there, day_of, held, begins_day}
 use Rattle.tt_groups_tables.proofs.Searching.{no_set}
-use Rattle.tt_prices.specs.Days.{unpriced, courses_of, counted_of, day_paid, further_on, HasAmounts, IsPricedDay, IsDayList}
-use Rattle.tt_prices.specs.Prices.{PricedGroup, concerns}
-use Rattle.tt_prices.specs.declared.day.PricedDay.{PricedDay}
+use Rattle.tt_groups.specs.Days.{unpriced, courses_of, counted_of, day_paid, further_on, HasAmounts, IsPricedDay, IsDayList}
+use Rattle.tt_groups.specs.Prices.{PricedGroup, concerns}
+use Rattle.tt_groups.specs.declared.day.PricedDay.{PricedDay}
 use Rattle.tt_prices_day.specs.Inner.Entries.{further_at, IsEntryOf}
 use Rattle.tt_prices_day.specs.Inner.Following.{is_counted, is_paying, cap, AreRules, beyond}
 use Rattle.tt_prices_day.specs.Inner.Layers.{IsBegun, AreEnded, AreEndsOf}

@@ -12,10 +12,10 @@ use Rattle.tt_groups.specs.Plans.{Day}
 use Rattle.tt_groups.proofs.Lists.{member_before}
 use Rattle.tt_groups_tables.specs.Sets.{has_course, Begins}
 use Rattle.tt_groups_tables.specs.declared.morning.CourseSet.{CourseSet}
-use Rattle.tt_prices.specs.Days.{unpriced, courses_of, day_prices}
-use Rattle.tt_prices.specs.Prices.{PricedGroup}
-use Rattle.tt_prices.specs.Signed.{signed_sum}
-use Rattle.tt_prices.proofs.Signed.{signed_sum-same, signed_sum-same_member, signed_sum-of_filter, signed_sum-append}
+use Rattle.tt_groups.specs.Days.{unpriced, courses_of, day_prices}
+use Rattle.tt_groups.specs.Prices.{PricedGroup}
+use Rattle.tt_groups.specs.Signed.{signed_sum}
+use Rattle.tt_groups.proofs.Signed.{signed_sum-same, signed_sum-same_member, signed_sum-of_filter, signed_sum-append}
 use Rattle.tt_prices_day.specs.Inner.Layers.{set_price, sum_of, prices_from}
 
 -- one more term at the end

@@ -12,8 +12,8 @@ use Rattle.tt_groups_tables.specs.declared.morning.CourseSet.{CourseSet}
 use Rattle.tt_groups_tables.specs.declared.morning.Morning.{Morning}
 use Rattle.tt_groups_tables.proofs.Beginning.{morning-more}
 use Rattle.tt_groups_tables.proofs.Starting.{morning-start}
-use Rattle.tt_prices.specs.Days.{unpriced}
-use Rattle.tt_prices.specs.Prices.{PricedGroup}
+use Rattle.tt_groups.specs.Days.{unpriced}
+use Rattle.tt_groups.specs.Prices.{PricedGroup}
 use Rattle.tt_prices_day.specs.Inner.Following.{beyond}
 use Rattle.tt_prices_day.specs.Inner.Layers.{IsBegun, IsNext, set_price}
 use Rattle.tt_prices_day.specs.declared.letters.Letter.{Letter}

@@ -7,9 +7,9 @@ use Rattle.tt_groups.specs.Listed.{AreCourses}
 use Rattle.tt_groups.specs.Plans.{slack}
 use Rattle.tt_groups_tables.specs.Choosing.{IsApart}
 use Rattle.tt_groups_tables.specs.Sets.{IsComplete, IsCourseSet}
-use Rattle.tt_prices.specs.Prices.{PricedGroup}
-use Rattle.tt_prices.specs.Days.{unpriced, courses_of, counted_of}
-use Rattle.tt_prices.specs.declared.price.TheConstants.{MAX_SCALE}
+use Rattle.tt_groups.specs.Prices.{PricedGroup}
+use Rattle.tt_groups.specs.Days.{unpriced, courses_of, counted_of}
+use Rattle.tt_groups.specs.declared.price.TheConstants.{MAX_SCALE}
 use Rattle.tt_prices_day.specs.Inner.Following.{AreRules}
 use Rattle.tt_prices_day.specs.declared.shape.Own.{Own}
 use Rattle.tt_prices_day.specs.declared.shape.Shape.{Shape}

@@ -2,11 +2,11 @@
 
 ghost use Rattle.std.specs.Prelude.{◌≡◌, ◌^◌, ◌≤◌, ◌∷◌, [], All, IfOk, Err};
 ghost use Rattle.tt_groups_tables.specs.declared.fault.DaysFault.TheVariants as fault;
-ghost use Rattle.tt_prices.specs.Days.{IsDayList};
-ghost use Rattle.tt_prices.specs.Limits.{IsWithin};
+ghost use Rattle.tt_groups.specs.Days.{IsDayList};
+ghost use Rattle.tt_groups.specs.Limits.{IsWithin};
 ghost use Rattle.tt_prices_day.specs.Inner.Layers.{first_node};
 ghost use Rattle.tt_prices_day.specs.Shapes.{IsShape};
-ghost use Rattle.tt_prices.specs.Rows.{group_of};
+ghost use Rattle.tt_groups.specs.Rows.{group_of};
 
 use crate::entries::entries_of;
 use crate::layer::{last_layer, next_layer};
@@ -16,7 +16,7 @@ use crate::shape::Shape;
 use std::alloc::{AllocError, Global};
 use tt_groups_tables::{COURSES, DaysFault};
 use tt_instance::Instance;
-use tt_prices::{PricedDay, PricedGroup};
+use tt_groups::{PricedDay, PricedGroup};
 
 /// Returns the layer before the first period of a day.
 fn first_layer(alloc: Global) -> Result<Vec<Node>, AllocError>

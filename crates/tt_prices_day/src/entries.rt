@@ -2,21 +2,20 @@
 
 ghost use Rattle.std.specs.Prelude.{◌≡◌, ℕ, ◌+◌, ◌^◌, ◌<◌, ◌≤◌, All, IfOk, Contains, length, slice_index, slice_index_or};
 ghost use Rattle.tt_groups.specs.declared.entry.TheConstants.{DIGITS};
-ghost use Rattle.tt_prices.specs.declared.day.PricedDay.{PricedDay};
+ghost use Rattle.tt_groups.specs.declared.day.PricedDay.{PricedDay};
 ghost use Rattle.tt_prices_day.specs.Inner.Entries.{IsEntryOf};
 ghost use Rattle.tt_prices_day.specs.Inner.Layers.{IsNodeWithin};
-ghost use Rattle.tt_prices.specs.Limits.{IsWithin};
-ghost use Rattle.tt_prices.specs.declared.price.TheConstants.{MAX_SCALE};
+ghost use Rattle.tt_groups.specs.Limits.{IsWithin};
+ghost use Rattle.tt_groups.specs.declared.price.TheConstants.{MAX_SCALE};
 ghost use Rattle.tt_prices_day.specs.declared.node.Node.{Node};
 ghost use Rattle.tt_prices_day.specs.declared.shape.Own.{Own};
 
 use crate::node::Node;
 use crate::shape::Shape;
 use std::alloc::{AllocError, Global};
-use tt_groups::DIGITS;
+use tt_groups::{DIGITS, PricedDay};
 use tt_groups_tables::COURSES;
 use tt_instance::MISSING_DAY_COST;
-use tt_prices::PricedDay;
 
 /// Returns the entry of a node at the end of the day.
 fn entry_of(shape: &Shape, node: &Node) -> PricedDay

@@ -3,8 +3,8 @@
 ghost use Rattle.std.specs.Prelude.{◌≡◌, ◌⊎◌, ℕ, ◌+◌, ◌*◌, ◌^◌, ◌<◌, ◌≤◌, ◌≤ℤ◌, length, slice_index, Contains, All, OnOk, OnErr, IfOk, Err};
 ghost use Rattle.tt_groups_tables.specs.declared.fault.DaysFault.TheVariants as fault;
 ghost use Rattle.tt_prices_day.specs.Inner.Layers.{IsNext, IsOver, IsNodeWithin, IsLetterWithin, HasCheaper, AreFollowed, AreReached, IsEndOf, AreEnded, AreEndsOf};
-ghost use Rattle.tt_prices.specs.Limits.{IsWithin};
-ghost use Rattle.tt_prices.specs.declared.price.TheConstants.{MAX_SCALE};
+ghost use Rattle.tt_groups.specs.Limits.{IsWithin};
+ghost use Rattle.tt_groups.specs.declared.price.TheConstants.{MAX_SCALE};
 ghost use Rattle.tt_prices_day.specs.declared.letters.Letter.{Letter};
 ghost use Rattle.tt_prices_day.specs.declared.node.Node.{Node};
 

@@ -6,13 +6,13 @@ ghost use Rattle.tt_instance.specs.Courses.{unavailable};
 ghost use Rattle.tt_groups_tables.specs.Sets.{has_course};
 ghost use Rattle.tt_groups_tables.specs.declared.morning.CourseSet.{CourseSet};
 ghost use Rattle.tt_prices_day.specs.Inner.Layers.{AreLetters, sum_of};
-ghost use Rattle.tt_prices.specs.Limits.{IsPrice, IsWithin};
-ghost use Rattle.tt_prices.specs.Rows.{group_of};
+ghost use Rattle.tt_groups.specs.Limits.{IsPrice, IsWithin};
+ghost use Rattle.tt_groups.specs.Rows.{group_of};
 
 use std::alloc::{AllocError, Global};
 use tt_groups_tables::{COURSES, CourseSet};
 use tt_instance::Instance;
-use tt_prices::PricedGroup;
+use tt_groups::PricedGroup;
 
 /// A set of courses and its price in a period.
 #[derive(Clone, Copy, Debug, PartialEq, Eq)]

@@ -3,8 +3,8 @@
 ghost use Rattle.std.specs.Prelude.{◌≡◌, ℕ, ◌+◌, ◌*◌, ◌^◌, ◌<◌, ◌≤◌, ◌≤ℤ◌, ◌<ℤ◌, pos, neg_ℤ, min, max, length, slice_index, IfNone, IfSome, true, false};
 ghost use Rattle.tt_prices_day.specs.Inner.Following.{beyond};
 ghost use Rattle.tt_prices_day.specs.Inner.Layers.{IsNext, IsOver};
-ghost use Rattle.tt_prices.specs.Limits.{IsWithin};
-ghost use Rattle.tt_prices.specs.declared.price.TheConstants.{MAX_SCALE};
+ghost use Rattle.tt_groups.specs.Limits.{IsWithin};
+ghost use Rattle.tt_groups.specs.declared.price.TheConstants.{MAX_SCALE};
 
 use crate::letters::Letter;
 use crate::rules::Rules;

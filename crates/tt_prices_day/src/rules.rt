@@ -3,11 +3,11 @@
 ghost use Rattle.std.specs.Prelude.{◌≡◌, ◌+◌, ◌≤◌, ◌<◌, true, false, length, All, if◌then◌else◌};
 ghost use Rattle.tt_instance.specs.Courses.{lectures};
 ghost use Rattle.tt_prices_day.specs.Inner.Following.{is_counted, is_paying, cap, AreRules};
-ghost use Rattle.tt_prices.specs.Rows.{group_of};
+ghost use Rattle.tt_groups.specs.Rows.{group_of};
 
 use tt_groups_tables::COURSES;
 use tt_instance::Instance;
-use tt_prices::PricedGroup;
+use tt_groups::PricedGroup;
 
 /// The most lectures of a course.
 pub const MAX_LECTURES: u32 = 253;

@@ -5,17 +5,16 @@ ghost use Rattle.tt_list_laws.specs.Words.{has_number};
 ghost use Rattle.tt_instance.specs.Courses.{lectures};
 ghost use Rattle.tt_groups_tables.specs.Counting.{sets_count};
 ghost use Rattle.tt_groups_tables.specs.declared.sets.SetsFault.TheVariants as fault;
-ghost use Rattle.tt_prices.specs.Days.{unpriced, courses_of};
-ghost use Rattle.tt_prices.specs.declared.price.TheConstants.{MAX_SCALE};
+ghost use Rattle.tt_groups.specs.Days.{unpriced, courses_of};
+ghost use Rattle.tt_groups.specs.declared.price.TheConstants.{MAX_SCALE};
 ghost use Rattle.tt_prices_day.specs.Shapes.{ArePlaces, AreOwn, IsNarrow, IsShape};
-ghost use Rattle.tt_prices.specs.Rows.{group_of};
+ghost use Rattle.tt_groups.specs.Rows.{group_of};
 
 use crate::rules::{MAX_LECTURES, Rules, rules_of};
 use std::alloc::{AllocError, Global};
-use tt_groups::Group;
+use tt_groups::{Group, PricedGroup};
 use tt_groups_tables::{COURSES, CourseSet, MAX_SETS, SetsFault, list_sets};
 use tt_instance::Instance;
-use tt_prices::PricedGroup;
 
 /// A course whose working days count: its place among all courses of the group, and its slack.
 #[derive(Clone, Copy, Debug, PartialEq, Eq)]

@@ -8,13 +8,13 @@ use Rattle.std.proofs.lemmas.List.{get_or-map, length-map, map-append}
 use Rattle.std.proofs.lemmas.List.Elements.{All-append}
 use Rattle.tt_list_laws.specs.Words.{are_distinct, has_number}
 use Rattle.tt_instance.specs.Problem.{Problem}
-use Rattle.tt_prices.specs.Limits.{IsWithin}
-use Rattle.tt_prices.specs.Prices.{PricedGroup, AreApart}
-use Rattle.tt_prices.specs.Rows.{Row, row_of, price_in, group_of}
-use Rattle.tt_prices.specs.Signed.{signed_sum}
-use Rattle.tt_prices.specs.declared.group.PriceRow.{PriceRow}
-use Rattle.tt_prices.specs.declared.group.PricedGroup as program
-use Rattle.tt_prices.proofs.Signed.{signed_sum-append}
+use Rattle.tt_groups.specs.Limits.{IsWithin}
+use Rattle.tt_groups.specs.Prices.{PricedGroup, AreApart}
+use Rattle.tt_groups.specs.Rows.{Row, row_of, price_in, group_of}
+use Rattle.tt_groups.specs.Signed.{signed_sum}
+use Rattle.tt_groups.specs.declared.priced_group.PriceRow.{PriceRow}
+use Rattle.tt_groups.specs.declared.priced_group.PricedGroup as program
+use Rattle.tt_groups.proofs.Signed.{signed_sum-append}
 use Rattle.tt_prices_check.specs.Groups.{IsLeast, IsWithinLimits}
 use Rattle.tt_prices_day.proofs.Within.{within-plus}
 use Rattle.tt_prices_read.specs.Parts as parts

@@ -14,11 +14,11 @@ use Rattle.tt_instance.specs.declared.cell.Cell.{Cell}
 use Rattle.tt_instance.specs.declared.cell.Slot.{Slot}
 use Rattle.tt_rules.specs.Score.{IsFeasible}
 use Rattle.tt_rules.specs.Soft.{capacity_count, compactness_cost, days_cost, stability_count}
-use Rattle.tt_prices.specs.Prices.{PricedGroup, points, working_days_cost, cell_cost, IsGroupBound, IsCourseBound}
-use Rattle.tt_prices.specs.Signed.{signed_sum}
-use Rattle.tt_prices.proofs.Groups.{days_paid}
-use Rattle.tt_prices.proofs.Signed.{signed_sum-same_member}
-use Rattle.tt_prices.proofs.Whole.{all_pay}
+use Rattle.tt_groups.specs.Prices.{PricedGroup, points, working_days_cost, cell_cost, IsGroupBound, IsCourseBound}
+use Rattle.tt_groups.specs.Signed.{signed_sum}
+use Rattle.tt_groups.proofs.Groups.{days_paid}
+use Rattle.tt_groups.proofs.Signed.{signed_sum-same_member}
+use Rattle.tt_groups.proofs.Whole.{all_pay}
 use Rattle.tt_prices_check.specs.Groups.{IsLeast}
 use Rattle.tt_prices_read.specs.Reading.{Part}
 use Rattle.tt_prices_read.specs.declared.header.Header.{Header}

@@ -6,7 +6,7 @@ use Rattle.tt_instance.specs.Problem.{Problem}
 use Rattle.tt_instance.specs.Cells.{slot, cell}
 use Rattle.tt_instance.specs.Courses.{lectures}
 use Rattle.tt_instance.specs.declared.cell.Slot.{Slot}
-use Rattle.tt_prices.specs.Prices.{PricedGroup, cell_cost}
+use Rattle.tt_groups.specs.Prices.{PricedGroup, cell_cost}
 use Rattle.tt_prices_rooms.specs.Least.{IsSumOf}
 use Rattle.tt_prices_rooms.specs.Terms.{IsTerm, open_slots}
 use Rattle.tt_prices_file.specs.Faults.{HasTooFewPlaces}

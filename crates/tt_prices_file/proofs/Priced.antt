@@ -14,13 +14,13 @@ use Rattle.tt_list_laws.proofs.Grid.{within_row}
 use Rattle.tt_instance.specs.Problem.{Problem}
 use Rattle.tt_instance.specs.Cells.{slot}
 use Rattle.tt_instance.specs.declared.cell.Slot.{Slot}
-use Rattle.tt_prices.specs.Limits.{IsPrice, IsWithin}
-use Rattle.tt_prices.specs.Prices.{PricedGroup, concerns, prices_of}
-use Rattle.tt_prices.specs.Rows.{Row, row_of, price_in, group_of}
-use Rattle.tt_prices.specs.Signed.{signed_sum}
-use Rattle.tt_prices.specs.declared.group.PriceRow.{PriceRow}
-use Rattle.tt_prices.specs.declared.group.PricedGroup as program
-use Rattle.tt_prices.proofs.Signed.{signed_sum-append}
+use Rattle.tt_groups.specs.Limits.{IsPrice, IsWithin}
+use Rattle.tt_groups.specs.Prices.{PricedGroup, concerns, prices_of}
+use Rattle.tt_groups.specs.Rows.{Row, row_of, price_in, group_of}
+use Rattle.tt_groups.specs.Signed.{signed_sum}
+use Rattle.tt_groups.specs.declared.priced_group.PriceRow.{PriceRow}
+use Rattle.tt_groups.specs.declared.priced_group.PricedGroup as program
+use Rattle.tt_groups.proofs.Signed.{signed_sum-append}
 use Rattle.tt_prices_day.proofs.Within.{within-more, within-plus}
 use Rattle.tt_prices_file.specs.Inner.Tables.{number_at, listed, AddsRow, AreRowsOf, IsGrownBy, IsPriceTable}
 use Rattle.tt_prices_file.specs.declared.prices.PriceTable.{PriceTable}

@@ -11,10 +11,10 @@ use Rattle.tt_list_laws.specs.Words.{range_below}
 use Rattle.tt_list_laws.proofs.Grid.{within_row}
 use Rattle.tt_list_laws.proofs.Range.{below_member}
 use Rattle.tt_instance.specs.Problem.{Problem}
-use Rattle.tt_prices.specs.Limits.{IsWithin}
-use Rattle.tt_prices.specs.Prices.{PricedGroup}
-use Rattle.tt_prices.specs.Signed.{signed_sum}
-use Rattle.tt_prices.proofs.Signed.{signed_sum-append, signed_sum-same_member}
+use Rattle.tt_groups.specs.Limits.{IsWithin}
+use Rattle.tt_groups.specs.Prices.{PricedGroup}
+use Rattle.tt_groups.specs.Signed.{signed_sum}
+use Rattle.tt_groups.proofs.Signed.{signed_sum-append, signed_sum-same_member}
 use Rattle.tt_prices_day.proofs.Within.{within-more}
 use Rattle.tt_prices_read.specs.Reading.{RoomRents}
 use Rattle.tt_prices_rooms.specs.Tables.{ArePricesOf, AreRentsOf}

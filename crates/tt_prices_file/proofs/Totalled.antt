@@ -6,8 +6,8 @@ use Rattle.std.proofs.lemmas.Bool.{both_ways}
 use Rattle.std.proofs.lemmas.Int.{ints}
 use Rattle.std.proofs.lemmas.List.{length-map}
 use Rattle.tt_instance.specs.Problem.{Problem}
-use Rattle.tt_prices.specs.Limits.{IsWithin}
-use Rattle.tt_prices.specs.Signed.{signed_sum}
+use Rattle.tt_groups.specs.Limits.{IsWithin}
+use Rattle.tt_groups.specs.Signed.{signed_sum}
 use Rattle.tt_prices_day.proofs.Within.{within-plus}
 use Rattle.tt_prices_read.specs.Reading.{Part, GroupPart, RentPart}
 use Rattle.tt_prices_read.specs.declared.header.Header.{Header}

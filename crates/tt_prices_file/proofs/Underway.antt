@@ -28,9 +28,9 @@ use Rattle.tt_text.specs.Stops as stops
 use Rattle.tt_text.specs.Stops.{OnFault, IfFault}
 use Rattle.tt_text.specs.declared.stop.Stop.{Stop}
 use Rattle.tt_text.specs.declared.stop.Stop.TheVariants.{Fault, ReadFailed, OutOfMemory}
-use Rattle.tt_prices.specs.Prices.{PricedGroup}
-use Rattle.tt_prices.specs.Rows.{row_of, price_in, group_of}
-use Rattle.tt_prices.specs.declared.group.PricedGroup as program
+use Rattle.tt_groups.specs.Prices.{PricedGroup}
+use Rattle.tt_groups.specs.Rows.{row_of, price_in, group_of}
+use Rattle.tt_groups.specs.declared.priced_group.PricedGroup as program
 use Rattle.tt_prices_check.specs.Groups.{IsLeast, IsRefusal}
 use Rattle.tt_prices_read.specs.Faults.{is_environmental, is_failed_read}
 use Rattle.tt_prices_read.specs.Parts as parts

@@ -6,7 +6,7 @@ use Rattle.tt_text.specs.declared.stop.Stop.TheVariants.{Fault, ReadFailed, OutO
 use Rattle.tt_text.specs.Feeds.{Stream}
 use Rattle.tt_instance.specs.Problem.{Problem}
 use Rattle.tt_instance.specs.Courses.{lectures}
-use Rattle.tt_prices.specs.Prices.{PricedGroup, AreApart}
+use Rattle.tt_groups.specs.Prices.{PricedGroup, AreApart}
 use Rattle.tt_prices_check.specs.Groups.{IsLeast, IsWithinLimits, IsRefusal}
 use Rattle.tt_prices_read.specs.Faults.{is_environmental, is_failed_read}
 use Rattle.tt_prices_read.specs.Reading.{Group, RoomRents, Part, GroupPart, RentPart, header_at, item_at}

@@ -4,9 +4,9 @@ use Rattle.tt_list_laws.specs.Words.{are_distinct}
 use Rattle.tt_instance.specs.Problem.{Problem}
 use Rattle.tt_instance.specs.Cells.{all_courses, all_rooms, all_slots}
 use Rattle.tt_instance.specs.declared.cell.Slot.{Slot}
-use Rattle.tt_prices.specs.Prices.{PricedGroup, AreApart}
-use Rattle.tt_prices.specs.Rows.{price_in}
-use Rattle.tt_prices.specs.Signed.{signed_sum}
+use Rattle.tt_groups.specs.Prices.{PricedGroup, AreApart}
+use Rattle.tt_groups.specs.Rows.{price_in}
+use Rattle.tt_groups.specs.Signed.{signed_sum}
 use Rattle.tt_prices_check.specs.Groups.{IsLeast}
 use Rattle.tt_prices_read.specs.Reading.{Group, RoomRents, Part, GroupPart, RentPart}
 use Rattle.tt_prices_read.specs.declared.header.Header.{Header}

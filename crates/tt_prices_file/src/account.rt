@@ -7,7 +7,7 @@ use crate::rents::RentTable;
 use crate::targets::Targets;
 use std::alloc::{AllocError, Global};
 use tt_instance::Instance;
-use tt_prices::PricedGroup;
+use tt_groups::PricedGroup;
 use tt_prices_check::PricedWork;
 use tt_prices_read::Rent;
 use tt_text::Stop;
@@ -29,8 +29,8 @@ pub struct Account {
 impl Account {
     ghost use Rattle.std.specs.Prelude.{◌≡◌, ◌<◌, ◌≤◌, ◌++◌, ◌∷◌, [], List, true, false, IfOk, OnOk};
     ghost use Rattle.tt_text.specs.Stops.{IfFault, is_read_failed};
-    ghost use Rattle.tt_prices.specs.Rows.{group_of};
-    ghost use Rattle.tt_prices.specs.declared.price.TheConstants.{MAX_SCALE};
+    ghost use Rattle.tt_groups.specs.Rows.{group_of};
+    ghost use Rattle.tt_groups.specs.declared.price.TheConstants.{MAX_SCALE};
     ghost use Rattle.tt_prices_read.specs.Parts as parts;
     ghost use Rattle.tt_prices_read.specs.Reading.{Part, GroupPart, RentPart};
     ghost use Rattle.tt_prices_read.specs.Parts.{IsGroup, IsRoomRents};

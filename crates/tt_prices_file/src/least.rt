@@ -2,16 +2,16 @@
 
 ghost use Rattle.std.specs.Prelude.{◌≡◌, ◌+◌, ◌<◌, ◌≤◌, ◌^◌, true, false, Some, None, IfOk, OnOk};
 ghost use Rattle.tt_text.specs.Stops.{IfFault, is_read_failed};
-ghost use Rattle.tt_prices.specs.Limits.{IsWithin};
-ghost use Rattle.tt_prices.specs.Rows.{group_of};
-ghost use Rattle.tt_prices.specs.declared.price.TheConstants.{MAX_SCALE};
+ghost use Rattle.tt_groups.specs.Limits.{IsWithin};
+ghost use Rattle.tt_groups.specs.Rows.{group_of};
+ghost use Rattle.tt_groups.specs.declared.price.TheConstants.{MAX_SCALE};
 ghost use Rattle.tt_prices_check.specs.Groups.{IsGroupOf, IsLeast, IsWithinLimits};
 ghost use Rattle.tt_prices_file.specs.Inner.Groups.{stop_from_group, IsGroupFault};
 
 use crate::fault::PricesFault;
 use std::alloc::Global;
 use tt_instance::Instance;
-use tt_prices::PricedGroup;
+use tt_groups::PricedGroup;
 use tt_prices_check::{PricedFault, PricedWork, least_of_group};
 use tt_text::Stop;
 

@@ -2,7 +2,7 @@
 
 use std::alloc::{AllocError, Global};
 use tt_instance::Instance;
-use tt_prices::{PriceRow, PricedGroup};
+use tt_groups::{PriceRow, PricedGroup};
 use tt_prices_check::is_concerned;
 
 /// The prices of all courses in all periods, of the groups so far that concern them: the courses in turn, and the periods of each
@@ -15,9 +15,9 @@ pub struct PriceTable {
 
 impl PriceTable {
     ghost use Rattle.std.specs.Prelude.{◌≡◌, ℕ, ◌+◌, ◌*◌, ◌^◌, ◌<◌, ◌≤◌, ◌∷◌, ◌++◌, [], List, length, All, IfOk};
-    ghost use Rattle.tt_prices.specs.Limits.{IsWithin};
-    ghost use Rattle.tt_prices.specs.Prices as prices;
-    ghost use Rattle.tt_prices.specs.Rows.{group_of};
+    ghost use Rattle.tt_groups.specs.Limits.{IsWithin};
+    ghost use Rattle.tt_groups.specs.Prices as prices;
+    ghost use Rattle.tt_groups.specs.Rows.{group_of};
     ghost use Rattle.tt_prices_file.specs.Inner.Tables.{number_at, IsPriceTable, AreRowsOf, AddsRow};
 
     /// Creates a table of no groups.

@@ -5,7 +5,7 @@ ghost use Rattle.std.specs.List.{list_any};
 ghost use Rattle.tt_list_laws.specs.Words.{has_number};
 
 use std::alloc::{AllocError, Global};
-use tt_prices::PricedGroup;
+use tt_groups::PricedGroup;
 
 /// Checks whether one of the numbers is in the list.
 fn has_any(list: &[u32], numbers: &[u32]) -> bool
@@ -25,7 +25,7 @@ impl Targets {
     ghost use Rattle.std.specs.Prelude.{◌≡◌, ◌++◌, ◌||◌, [], OnOk};
     ghost use Rattle.std.specs.List.{list_any};
     ghost use Rattle.tt_list_laws.specs.Words.{has_number};
-    ghost use Rattle.tt_prices.specs.Rows.{group_of};
+    ghost use Rattle.tt_groups.specs.Rows.{group_of};
 
     /// Creates an empty list.
     pub fn new(alloc: Global) -> Targets

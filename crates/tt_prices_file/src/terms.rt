@@ -1,10 +1,10 @@
 //! The terms of all courses.
 
 ghost use Rattle.std.specs.Prelude.{◌≡◌, ◌≤◌, ◌^◌, List, IfOk, length, false};
-ghost use Rattle.tt_prices.specs.Limits.{IsWithin};
+ghost use Rattle.tt_groups.specs.Limits.{IsWithin};
 ghost use Rattle.tt_text.specs.Stops.{IfFault, is_read_failed};
-ghost use Rattle.tt_prices.specs.Prices.{PricedGroup};
-ghost use Rattle.tt_prices.specs.declared.price.TheConstants.{MAX_SCALE};
+ghost use Rattle.tt_groups.specs.Prices.{PricedGroup};
+ghost use Rattle.tt_groups.specs.declared.price.TheConstants.{MAX_SCALE};
 ghost use Rattle.tt_prices_read.specs.Reading.{RoomRents};
 ghost use Rattle.tt_prices_file.specs.Inner.Rents.{IsRentTable};
 ghost use Rattle.tt_prices_file.specs.Inner.Tables.{IsPriceTable};

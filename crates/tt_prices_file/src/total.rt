@@ -2,7 +2,7 @@
 
 ghost use Rattle.std.specs.Prelude.{◌≡◌, ◌↔◌, ◌<◌, ◌^◌, List, false, length, IfOk, IsTrue};
 ghost use Rattle.tt_text.specs.Stops.{IfFault, is_read_failed};
-ghost use Rattle.tt_prices.specs.Limits.{IsWithin};
+ghost use Rattle.tt_groups.specs.Limits.{IsWithin};
 ghost use Rattle.tt_prices_read.specs.Readers.{IsHeader};
 ghost use Rattle.tt_prices_read.specs.Reading.{Part};
 ghost use Rattle.tt_prices_read.specs.declared.header.Header.{Header};

@@ -9,12 +9,12 @@ use Rattle.tt_text.specs.Pieces.{Piece, Text, Index, IsPiece}
 use Rattle.tt_text.specs.Feeds.{Stream}
 use Rattle.tt_text.proofs.Steps.{ok_is, bind_ok, refusal_ok}
 use Rattle.tt_text.proofs.Fields.{text_is}
-use Rattle.tt_prices.specs.Limits.{IsPrice}
+use Rattle.tt_groups.specs.Limits.{IsPrice}
 use Rattle.tt_proof_read.specs.declared.format.TheConstants.{COURSE_LETTER}
 use Rattle.tt_proof_read.proofs.Taking.{Took}
 use Rattle.tt_prices_read.specs.Inner.Priced.{IsWordIn}
 use Rattle.tt_prices_read.specs.Parts.{AreRows}
-use Rattle.tt_prices.specs.Rows.{Row}
+use Rattle.tt_groups.specs.Rows.{Row}
 use Rattle.tt_prices_read.specs.Reading.{Rows, no_rows, with_row, all_rows, has_row, with_word, index_of, amount_of, times_of, next_price, repeated, new_course, row_word_in, row_word_of, row_word_at, words_at, rows_at}
 use Rattle.tt_prices_read.specs.Spelling.{SpellsPrice, IsMore, SpellsMore, SpellsRows}
 use Rattle.tt_prices_read.specs.declared.fault.PricesTextFault.{PricesTextFault}

@@ -9,13 +9,13 @@ use Rattle.std.proofs.lemmas.List.Folds.{list_any-append}
 use Rattle.tt_list_laws.specs.Words.{each_two}
 use Rattle.tt_list_laws.proofs.Sums.{list_any-of_map}
 use Rattle.tt_text.specs.Feeds.{Stream}
-use Rattle.tt_prices.specs.Limits.{IsPrice}
-use Rattle.tt_prices.specs.declared.group.PriceRow.{PriceRow}
+use Rattle.tt_groups.specs.Limits.{IsPrice}
+use Rattle.tt_groups.specs.declared.priced_group.PriceRow.{PriceRow}
 use Rattle.tt_proof_read.specs.Inner.Contract.{State}
 use Rattle.tt_proof_read.proofs.Distinct.{each_two_push}
 use Rattle.tt_prices_read.specs.Inner.Priced.{rows_of, IsWordIn}
 use Rattle.tt_prices_read.specs.Parts.{row_list, IsRow, AreRows}
-use Rattle.tt_prices.specs.Rows.{Row}
+use Rattle.tt_groups.specs.Rows.{Row}
 use Rattle.tt_prices_read.specs.Reading.{Rows, no_rows, with_row, all_rows, has_row, with_word, row_word_at, words_at}
 use Rattle.tt_prices_read.specs.declared.rows.RowBuilder.{RowBuilder}
 use Rattle.tt_prices_read.specs.declared.rows.RowForm.{RowForm}

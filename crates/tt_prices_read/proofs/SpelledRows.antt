@@ -14,7 +14,7 @@ use Rattle.tt_proof_read.proofs.Distinct.{is_new}
 use Rattle.tt_proof_read.proofs.Taking.{Took}
 use Rattle.tt_proof_read.proofs.TokenLaws.{not_single}
 use Rattle.tt_prices_read.specs.Parts.{IsRow, AreRows}
-use Rattle.tt_prices.specs.Rows.{Row}
+use Rattle.tt_groups.specs.Rows.{Row}
 use Rattle.tt_prices_read.specs.Reading.{Rows, no_rows, with_row, all_rows, has_row, with_word, new_course, row_word_in, row_word_of, row_word_at, words_at, rows_at}
 use Rattle.tt_prices_read.specs.Spelling.{SpellsPrice, IsMore, SpellsMore, SpellsRows}
 use Rattle.tt_prices_read.specs.declared.fault.PricesTextFault.{PricesTextFault}

@@ -2,10 +2,10 @@
 use Rattle.std.specs.Prelude.{◌≡◌, ℕ, ◌<◌, ◌≤◌, Bool, true, List, All, length, map}
 use Rattle.tt_list_laws.specs.Words.{are_distinct}
 use Rattle.tt_leaf.specs.Ranges.{AreBelow}
-use Rattle.tt_prices.specs.Limits.{IsPrice}
-use Rattle.tt_prices.specs.Rows.{Row, row_of}
-use Rattle.tt_prices.specs.declared.group.PriceRow.{PriceRow}
-use Rattle.tt_prices.specs.declared.group.PricedGroup.{PricedGroup}
+use Rattle.tt_groups.specs.Limits.{IsPrice}
+use Rattle.tt_groups.specs.Rows.{Row, row_of}
+use Rattle.tt_groups.specs.declared.priced_group.PriceRow.{PriceRow}
+use Rattle.tt_groups.specs.declared.priced_group.PricedGroup.{PricedGroup}
 use Rattle.tt_proof_read.specs.declared.sizes.Sizes.{Sizes}
 use Rattle.tt_prices_read.specs.Reading as text
 use Rattle.tt_prices_read.specs.declared.format.TheConstants.{MAX_AMOUNT}

@@ -9,7 +9,7 @@ use Rattle.tt_text.specs.Feeds.{Stream}
 use Rattle.tt_text.specs.Reading.{◌>>=◌}
 use Rattle.tt_text.specs.declared.numbers.NumberFault.{NumberFault}
 use Rattle.tt_text.specs.declared.numbers.NumberFault.TheVariants as number
-use Rattle.tt_prices.specs.Rows.{Row}
+use Rattle.tt_groups.specs.Rows.{Row}
 use Rattle.tt_proof_read.specs.Reading as proof
 use Rattle.tt_proof_read.specs.declared.fault.TextFault.{TextFault}
 use Rattle.tt_proof_read.specs.declared.fault.TextFault.TheVariants as fault

@@ -8,7 +8,7 @@ use Rattle.tt_proof_read.specs.declared.format.TheConstants.{COURSE_LETTER, CURR
 use Rattle.tt_proof_read.specs.declared.sizes.Sizes.{Sizes}
 use Rattle.tt_prices_read.specs.Parts.{IsGroup, IsRoomRents}
 use Rattle.tt_prices_read.specs.Readers.{IsHeader}
-use Rattle.tt_prices.specs.Rows.{Row}
+use Rattle.tt_groups.specs.Rows.{Row}
 use Rattle.tt_prices_read.specs.Reading.{Part, GroupPart, RentPart}
 use Rattle.tt_prices_read.specs.declared.format.TheConstants.{MAX_AMOUNT, PLUS, MINUS, TIMES}
 use Rattle.tt_prices_read.specs.declared.header.Header.{Header}

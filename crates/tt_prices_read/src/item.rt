@@ -1,6 +1,6 @@
 //! The parts of a file after its header.
 
-use tt_prices::PricedGroup;
+use tt_groups::PricedGroup;
 
 /// The rents of a room: a number for each period of the week, day by day. Those that are missing are 0.
 #[derive(Debug, Drop)]

@@ -15,7 +15,7 @@ use crate::lists::{ListForm, read_list};
 use crate::rents::read_rents;
 use crate::rows::{RowForm, read_rows};
 use std::alloc::Global;
-use tt_prices::PricedGroup;
+use tt_groups::PricedGroup;
 use tt_proof_read::{COURSE_LETTER, CURRICULUM_LETTER, Sizes, TextFault};
 use tt_text::{Feed, Source};
 

@@ -2,7 +2,7 @@
 
 ghost use Rattle.std.specs.Prelude.{◌≡◌, ◌<◌, ◌==◌, IfOk, IfSome, All};
 ghost use Rattle.std.specs.List.{list_any};
-ghost use Rattle.tt_prices.specs.Limits.{IsPrice};
+ghost use Rattle.tt_groups.specs.Limits.{IsPrice};
 ghost use Rattle.tt_text.specs.Feeds.{room_of};
 ghost use Rattle.tt_prices_read.specs.Inner.Contract.{ReadsAs};
 ghost use Rattle.tt_prices_read.specs.Inner.Priced.{rows_of, IsWordIn};
@@ -16,7 +16,7 @@ use crate::fields::{index, token};
 use crate::format::{ITEM_END, MINUS, PLUS, TIMES};
 use std::alloc::{AllocError, Global};
 use std::mem;
-use tt_prices::PriceRow;
+use tt_groups::PriceRow;
 use tt_proof_read::{COURSE_LETTER, TextFault};
 use tt_text::{Feed, Source};
 
@@ -56,7 +56,7 @@ fn has_row_of(rows: &[PriceRow], course: u32) -> bool
 
 impl RowBuilder {
     ghost use Rattle.std.specs.Prelude.{◌≡◌, ◌-◌, ◌<◌, IfOk, OnOk, slice_get, length, All, [], Some};
-    ghost use Rattle.tt_prices.specs.Limits.{IsPrice};
+    ghost use Rattle.tt_groups.specs.Limits.{IsPrice};
     ghost use Rattle.tt_prices_read.specs.Inner.Priced.{rows_of, IsWordIn};
     ghost use Rattle.tt_prices_read.specs.Faults.{ReportsNoFailedRead, Gives};
     ghost use Rattle.tt_prices_read.specs.Parts.{AreRows, row_list};

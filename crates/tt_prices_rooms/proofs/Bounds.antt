@@ -5,9 +5,9 @@ use Rattle.tt_instance.specs.Problem.{Problem}
 use Rattle.tt_instance.specs.Cells.{cell}
 use Rattle.tt_instance.specs.Courses.{lectures}
 use Rattle.tt_instance.specs.declared.cell.Slot.{Slot}
-use Rattle.tt_prices.specs.Prices.{PricedGroup, cell_cost, IsCourseBound}
-use Rattle.tt_prices.specs.Signed.{signed_sum}
-use Rattle.tt_prices.proofs.Rooms.{course_bounded}
+use Rattle.tt_groups.specs.Prices.{PricedGroup, cell_cost, IsCourseBound}
+use Rattle.tt_groups.specs.Signed.{signed_sum}
+use Rattle.tt_groups.proofs.Rooms.{course_bounded}
 use Rattle.tt_prices_rooms.specs.Least.{IsSumOf}
 use Rattle.tt_prices_rooms.specs.Terms.{open_slots, IsLowest, IsTerm}
 use Rattle.tt_prices_rooms.proofs.Choices.{choice_paid}

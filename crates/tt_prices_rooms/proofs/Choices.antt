@@ -15,9 +15,9 @@ use Rattle.tt_instance.specs.declared.cell.Slot.{Slot}
 use Rattle.tt_instance.proofs.Cells.{is_at-slot}
 use Rattle.tt_instance.proofs.Places.{any_slot, count_slots}
 use Rattle.tt_groups.proofs.Lists.{member_before}
-use Rattle.tt_prices.specs.Prices.{IsChoice}
-use Rattle.tt_prices.specs.Signed.{signed_sum}
-use Rattle.tt_prices.proofs.Signed.{signed_sum-same, signed_sum-same_member, signed_sum-swap, signed_sum-pos}
+use Rattle.tt_groups.specs.Prices.{IsChoice}
+use Rattle.tt_groups.specs.Signed.{signed_sum}
+use Rattle.tt_groups.proofs.Signed.{signed_sum-same, signed_sum-same_member, signed_sum-swap, signed_sum-pos}
 use Rattle.tt_prices_rooms.specs.Least.{IsSumOf}
 use Rattle.tt_prices_rooms.specs.Terms.{open_slots, IsPaid}
 use Rattle.tt_prices_rooms.proofs.Sums.{skip}

@@ -14,8 +14,8 @@ use Rattle.tt_instance.specs.declared.cell.Slot.{Slot}
 use Rattle.tt_instance.proofs.Cells.{IsSlot}
 use Rattle.tt_instance.proofs.Slots.{length-all_slots}
 use Rattle.tt_prices_rooms.specs.Terms.{open_slots}
-use Rattle.tt_prices.specs.Limits.{IsWithin}
-use Rattle.tt_prices.specs.declared.price.TheConstants.{MAX_SCALE}
+use Rattle.tt_groups.specs.Limits.{IsWithin}
+use Rattle.tt_groups.specs.declared.price.TheConstants.{MAX_SCALE}
 use Rattle.tt_prices_rooms.specs.Inner.Places.{place_of, is_open, AreTables}
 use Rattle.tt_prices_rooms.specs.declared.limit.TheConstants.{MAX_RENT, MAX_PRICES}
 use Rattle.tt_prices_rooms.proofs.Tables.{open_in_week}

@@ -8,7 +8,7 @@ use Rattle.std.proofs.lemmas.List.{get_or-replicate}
 use Rattle.std.proofs.lemmas.List.Elements.{All-from_get_or}
 use Rattle.tt_instance.specs.Problem.{Problem}
 use Rattle.tt_instance.specs.Courses.{lectures}
-use Rattle.tt_prices.specs.Limits.{IsWithin}
+use Rattle.tt_groups.specs.Limits.{IsWithin}
 use Rattle.tt_prices_rooms.specs.Least.{IsSumOf, IsLeastSum}
 use Rattle.tt_prices_rooms.specs.Inner.Places.{IsLeastPaid, IsLeastInRoom, AreLowest}
 use Rattle.tt_prices_rooms.specs.declared.limit.TheConstants.{MAX_COST, MAX_TERM}

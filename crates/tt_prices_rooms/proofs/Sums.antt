@@ -8,9 +8,9 @@ use Rattle.std.proofs.lemmas.List.Sorted.{sum_by-IsPermutation}
 use Rattle.std.proofs.lemmas.List.{take_at, take_more, get_or_append_left, get_or-append_right}
 use Rattle.std.proofs.lemmas.List.Sums.{sum_by-cons}
 use Rattle.tt_list_laws.proofs.Sums.{one_if, one_if-le, count_by-cons}
-use Rattle.tt_prices.specs.Signed.{signed_sum}
-use Rattle.tt_prices.specs.Limits.{IsWithin}
-use Rattle.tt_prices.proofs.Signed.{signed_sum-append}
+use Rattle.tt_groups.specs.Signed.{signed_sum}
+use Rattle.tt_groups.specs.Limits.{IsWithin}
+use Rattle.tt_groups.proofs.Signed.{signed_sum-append}
 use Rattle.tt_prices_rooms.specs.Least.{IsSumOf, IsLeastSum}
 use Rattle.tt_prices_rooms.proofs.Within.{within_fits}
 

@@ -12,7 +12,7 @@ use Rattle.tt_instance.specs.Cells.{all_slots, cell, slot}
 use Rattle.tt_instance.specs.Courses.{lectures, excess}
 use Rattle.tt_instance.specs.declared.cell.Slot.{Slot}
 use Rattle.tt_instance.proofs.Cells.{IsSlot, each_slot}
-use Rattle.tt_prices.specs.Prices.{PricedGroup, cell_cost}
+use Rattle.tt_groups.specs.Prices.{PricedGroup, cell_cost}
 use Rattle.tt_prices_rooms.specs.Least.{IsSumOf, IsLeastSum}
 use Rattle.tt_prices_rooms.specs.Tables.{ArePricesOf, AreRentsOf}
 use Rattle.tt_prices_rooms.specs.Terms.{open_slots, IsPaid, IsLowest, IsTerm}

@@ -3,7 +3,7 @@ use Rattle.std.specs.Prelude.{◌≡◌, ℕ, ◌+◌, ◌*◌, ◌<◌, ℤ, po
 use Rattle.tt_instance.specs.Problem.{Problem}
 use Rattle.tt_instance.specs.Cells.{slot}
 use Rattle.tt_instance.specs.declared.cell.Slot.{Slot}
-use Rattle.tt_prices.specs.Prices.{PricedGroup, prices_of}
+use Rattle.tt_groups.specs.Prices.{PricedGroup, prices_of}
 
 -- The number of each period is the sum of the prices of all groups that concern the course.
 abbrev pub ArePricesOf : Problem → List PricedGroup → ℕ → List ℤ → Type 0

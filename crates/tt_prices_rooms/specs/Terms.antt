@@ -4,7 +4,7 @@ use Rattle.tt_instance.specs.Problem.{Problem}
 use Rattle.tt_instance.specs.Cells.{all_slots, cell}
 use Rattle.tt_instance.specs.Courses.{lectures, unavailable}
 use Rattle.tt_instance.specs.declared.cell.Slot.{Slot}
-use Rattle.tt_prices.specs.Prices.{PricedGroup, cell_cost}
+use Rattle.tt_groups.specs.Prices.{PricedGroup, cell_cost}
 use Rattle.tt_prices_rooms.specs.Least.{IsSumOf}
 
 -- The periods in which a course is available.

@@ -3,8 +3,8 @@
 ghost use Rattle.std.specs.Prelude.{◌≡◌, ℕ, ◌+◌, ◌*◌, ◌<◌, ◌≤◌, pos, ◌-ℤ◌, All, length, map, slice_index, slice_index_or};
 ghost use Rattle.std.specs.Int.{int_min};
 ghost use Rattle.tt_instance.specs.declared.limit.TheConstants.{MAX_SEATS};
-ghost use Rattle.tt_prices.specs.Limits.{IsWithin};
-ghost use Rattle.tt_prices.specs.declared.price.TheConstants.{MAX_SCALE};
+ghost use Rattle.tt_groups.specs.Limits.{IsWithin};
+ghost use Rattle.tt_groups.specs.declared.price.TheConstants.{MAX_SCALE};
 ghost use Rattle.tt_prices_rooms.specs.Inner.Places.{cost_at};
 ghost use Rattle.tt_prices_rooms.specs.declared.limit.TheConstants.{MAX_RENT, MAX_PRICES, MAX_COST};
 

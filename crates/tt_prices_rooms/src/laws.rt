@@ -3,7 +3,7 @@
 ghost use Rattle.std.specs.Prelude.{ℕ, ℤ, List};
 ghost use Rattle.tt_instance.specs.Problem.{Problem};
 ghost use Rattle.tt_instance.specs.declared.cell.Slot.{Slot};
-ghost use Rattle.tt_prices.specs.Prices.{PricedGroup, IsCourseBound};
+ghost use Rattle.tt_groups.specs.Prices.{PricedGroup, IsCourseBound};
 ghost use Rattle.tt_prices_rooms.specs.Terms.{IsLowest, IsTerm};
 
 /// The term of a course bounds it.

@@ -2,8 +2,8 @@
 
 ghost use Rattle.std.specs.Prelude.{◌≡◌, ◌≤◌, length, All};
 ghost use Rattle.tt_instance.specs.declared.limit.TheConstants.{MAX_SLOTS};
-ghost use Rattle.tt_prices.specs.Limits.{IsWithin};
-ghost use Rattle.tt_prices.specs.Signed.{signed_sum};
+ghost use Rattle.tt_groups.specs.Limits.{IsWithin};
+ghost use Rattle.tt_groups.specs.Signed.{signed_sum};
 ghost use Rattle.tt_prices_rooms.specs.Least.{IsLeastSum};
 ghost use Rattle.tt_prices_rooms.specs.declared.limit.TheConstants.{MAX_COST, MAX_TERM};
 

@@ -4,9 +4,9 @@ ghost use Rattle.std.specs.Prelude.{◌≡◌, ◌⊎◌, ℕ, ◌+◌, ◌*◌,
 ghost use Rattle.std.specs.Int.{int_min};
 ghost use Rattle.tt_instance.specs.Courses.{lectures};
 ghost use Rattle.tt_instance.specs.declared.cell.Slot.{Slot};
-ghost use Rattle.tt_prices.specs.Limits.{IsWithin};
-ghost use Rattle.tt_prices.specs.Prices.{PricedGroup};
-ghost use Rattle.tt_prices.specs.declared.price.TheConstants.{MAX_SCALE};
+ghost use Rattle.tt_groups.specs.Limits.{IsWithin};
+ghost use Rattle.tt_groups.specs.Prices.{PricedGroup};
+ghost use Rattle.tt_groups.specs.declared.price.TheConstants.{MAX_SCALE};
 ghost use Rattle.tt_prices_rooms.specs.Least.{IsLeastSum};
 ghost use Rattle.tt_prices_rooms.specs.Tables.{ArePricesOf, AreRentsOf};
 ghost use Rattle.tt_prices_rooms.specs.Terms.{IsTerm, open_slots};

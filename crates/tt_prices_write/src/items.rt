@@ -2,7 +2,7 @@
 
 use crate::amounts::Runs;
 use std::alloc::AllocError;
-use tt_prices::{PriceRow, PricedGroup};
+use tt_groups::{PriceRow, PricedGroup};
 use tt_prices_read::Rent;
 use tt_text::{put_line_end, put_next_token, put_number, put_token};
 

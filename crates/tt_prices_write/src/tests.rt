@@ -3,7 +3,7 @@
 use crate::write_prices;
 use std::alloc::{AllocError, Global};
 use std::test::Fail;
-use tt_prices::{PriceRow, PricedGroup};
+use tt_groups::{PriceRow, PricedGroup};
 use tt_prices_read::{Header, Rent};
 
 /// A group with each way in which a row can be shortened, and one of nothing.

@@ -2,7 +2,7 @@
 
 use crate::items::{put_group, put_rent};
 use std::alloc::{AllocError, Global};
-use tt_prices::PricedGroup;
+use tt_groups::PricedGroup;
 use tt_prices_read::{Header, Rent};
 use tt_text::{put_line_end, put_next_number, put_next_token, put_token};
 

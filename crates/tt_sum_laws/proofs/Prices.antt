@@ -8,7 +8,7 @@ use Rattle.std.proofs.lemmas.List.Elements.{All-contains, Contains-append_right}
 use Rattle.tt_list_laws.specs.Words.{are_distinct, has_number}
 use Rattle.tt_instance.specs.Problem.{Problem}
 use Rattle.tt_text.specs.Feeds.{Stream}
-use Rattle.tt_prices.specs.Prices.{PricedGroup}
+use Rattle.tt_groups.specs.Prices.{PricedGroup}
 use Rattle.tt_prices_check.specs.Groups.{IsLeast}
 use Rattle.tt_prices_file.proofs.Once.{header_same, not_twice, part_same}
 use Rattle.tt_prices_file.proofs.Parts.{groups_in-append, rents_in-append, curricula_of, courses_of}

@@ -1,8 +1,8 @@
 //! The terms of courses on a small instance, compared with what was computed by hand.
 
 ghost use Rattle.std.specs.Prelude.{◌≤◌, All, IfOk};
-ghost use Rattle.tt_prices.specs.Limits.{IsWithin};
-ghost use Rattle.tt_prices.specs.declared.price.TheConstants.{MAX_SCALE};
+ghost use Rattle.tt_groups.specs.Limits.{IsWithin};
+ghost use Rattle.tt_groups.specs.declared.price.TheConstants.{MAX_SCALE};
 ghost use Rattle.tt_prices_rooms.specs.declared.limit.TheConstants.{MAX_PRICES, MAX_RENT};
 
 use std::alloc::{AllocError, Global};

@@ -6,9 +6,8 @@ ghost use Rattle.tt_prices_check.specs.Moves.{IsSmall, AreReady};
 use crate::drawn::{Drawn, Entry, draw, least_paid};
 use std::alloc::{AllocError, Global};
 use std::test::Fail;
-use tt_groups::DIGITS;
+use tt_groups::{DIGITS, PricedDay};
 use tt_groups_tables::{Digits, WeekFault};
-use tt_prices::PricedDay;
 use tt_prices_check::{PricedMove, least_week, priced_moves_of};
 
 /// The number of random weeks.

@@ -6,7 +6,7 @@ use Rattle.std.specs.Ordering.{nat_cmp}
 use Rattle.tt_groups.specs.declared.entry.DayEntry.{DayEntry}
 use Rattle.tt_groups_tables.specs.Fold.{index_of, floor_of}
 use Rattle.tt_groups_tables.specs.declared.moves.Move.{Move}
-use Rattle.tt_prices.specs.declared.day.PricedDay.{PricedDay}
+use Rattle.tt_groups.specs.declared.day.PricedDay.{PricedDay}
 
 -- The amounts of an entry, at no cost.
 abbrev pub plain : PricedDay → DayEntry

@@ -1,7 +1,7 @@
 -- The entry of a node at the end of a day.
 use Rattle.std.specs.Prelude.{◌≡◌, ℕ, ◌+◌, ◌-◌, ◌*◌, ◌<◌, min, pos, ◌+ℤ◌, length, sum_by, slice_index, slice_index_or}
 use Rattle.tt_instance.specs.declared.limit.TheConstants.{MISSING_DAY_COST}
-use Rattle.tt_prices.specs.declared.day.PricedDay.{PricedDay}
+use Rattle.tt_groups.specs.declared.day.PricedDay.{PricedDay}
 use Rattle.tt_prices_day.specs.declared.node.Node.{Node}
 use Rattle.tt_prices_day.specs.declared.shape.Own.{Own}
 use Rattle.tt_prices_day.specs.declared.shape.Shape.{Shape}

@@ -4,7 +4,7 @@ use Rattle.tt_list_laws.specs.Words.{has_number, range_below}
 use Rattle.tt_instance.specs.Problem.{Problem}
 use Rattle.tt_instance.specs.Courses.{lectures}
 use Rattle.tt_groups.specs.Plans.{slack}
-use Rattle.tt_prices.specs.Prices.{PricedGroup}
+use Rattle.tt_groups.specs.Prices.{PricedGroup}
 use Rattle.tt_prices_day.specs.declared.rules.Rules.{Rules}
 
 -- Whether the lectures of a course are counted over the week.

@@ -9,10 +9,10 @@ use Rattle.tt_instance.specs.Courses.{unavailable}
 use Rattle.tt_groups_tables.specs.Sets.{has_course, IsMorningOf}
 use Rattle.tt_groups_tables.specs.declared.morning.CourseSet.{CourseSet}
 use Rattle.tt_groups_tables.specs.declared.morning.Morning.{Morning}
-use Rattle.tt_prices.specs.Prices.{PricedGroup}
-use Rattle.tt_prices.specs.Days.{unpriced}
-use Rattle.tt_prices.specs.Limits.{IsWithin}
-use Rattle.tt_prices.specs.Signed.{signed_sum}
+use Rattle.tt_groups.specs.Prices.{PricedGroup}
+use Rattle.tt_groups.specs.Days.{unpriced}
+use Rattle.tt_groups.specs.Limits.{IsWithin}
+use Rattle.tt_groups.specs.Signed.{signed_sum}
 use Rattle.tt_prices_day.specs.Inner.Following.{beyond}
 use Rattle.tt_prices_day.specs.declared.letters.Letter.{Letter}
 use Rattle.tt_prices_day.specs.declared.node.Key.{Key}

@@ -3,7 +3,7 @@ use Rattle.std.specs.Prelude.{◌≡◌, ℕ, None}
 use Rattle.tt_text.specs.Stops.{mapped}
 use Rattle.tt_text.specs.declared.stop.Stop.{Stop}
 use Rattle.tt_instance.specs.Problem.{Problem}
-use Rattle.tt_prices.specs.Prices.{PricedGroup}
+use Rattle.tt_groups.specs.Prices.{PricedGroup}
 use Rattle.tt_prices_check.specs.Groups.{IsLeast, IsRefusal}
 use Rattle.tt_prices_check.specs.declared.fault.PricedFault.{PricedFault}
 use Rattle.tt_prices_file.specs.declared.fault.PricesFault.{PricesFault}

@@ -3,10 +3,10 @@ use Rattle.std.specs.Prelude.{◌≡◌, ℕ, ◌+◌, ◌*◌, ◌<◌, ◌≤�
 use Rattle.tt_list_laws.specs.Words.{are_distinct}
 use Rattle.tt_instance.specs.Problem.{Problem}
 use Rattle.tt_instance.specs.Cells.{slot}
-use Rattle.tt_prices.specs.Limits.{IsWithin}
-use Rattle.tt_prices.specs.Prices.{PricedGroup, concerns, prices_of}
-use Rattle.tt_prices.specs.Rows.{Row, row_of}
-use Rattle.tt_prices.specs.declared.group.PriceRow.{PriceRow}
+use Rattle.tt_groups.specs.Limits.{IsWithin}
+use Rattle.tt_groups.specs.Prices.{PricedGroup, concerns, prices_of}
+use Rattle.tt_groups.specs.Rows.{Row, row_of}
+use Rattle.tt_groups.specs.declared.priced_group.PriceRow.{PriceRow}
 use Rattle.tt_prices_file.specs.declared.prices.PriceTable.{PriceTable}
 
 -- The number at a place of a table; 0 past its end.

@@ -2,8 +2,8 @@
 use Rattle.std.specs.Prelude.{◌≡◌, ℕ, ◌<◌, ℤ, List, length}
 use Rattle.tt_list_laws.specs.Words.{range_below}
 use Rattle.tt_instance.specs.Problem.{Problem}
-use Rattle.tt_prices.specs.Prices.{PricedGroup}
-use Rattle.tt_prices.specs.Signed.{signed_sum}
+use Rattle.tt_groups.specs.Prices.{PricedGroup}
+use Rattle.tt_groups.specs.Signed.{signed_sum}
 use Rattle.tt_prices_read.specs.Reading.{RoomRents}
 use Rattle.tt_prices_rooms.specs.Terms.{IsTerm}
 use Rattle.tt_prices_file.specs.Faults.{IsFirstWithTooFewPlaces}

@@ -13,7 +13,7 @@ use Rattle.tt_prices_read.specs.Spelling.{IsPart}
 use Rattle.tt_prices_read.specs.declared.header.Header.{Header}
 use Rattle.tt_prices_read.specs.declared.item.Item.{Item}
 use Rattle.tt_prices_read.specs.declared.item.Item.TheVariants as item
-use Rattle.tt_prices.specs.Rows.{group_of}
+use Rattle.tt_groups.specs.Rows.{group_of}
 use Rattle.tt_prices_file.specs.Inner.Accounts.{IsAccountOf, ExplainsGroup, ExplainsRent}
 use Rattle.tt_prices_file.specs.declared.account.Account.{Account}
 use Rattle.tt_prices_file.specs.declared.fault.PricesFault.{PricesFault}

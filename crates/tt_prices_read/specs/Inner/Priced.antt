@@ -1,6 +1,6 @@
 -- The rows of prices that are being read.
 use Rattle.std.specs.Prelude.{◌≡◌, ℕ, ◌-◌, ◌<◌, ◌≤◌, false, List, length}
-use Rattle.tt_prices.specs.Limits.{IsPrice}
+use Rattle.tt_groups.specs.Limits.{IsPrice}
 use Rattle.tt_prices_read.specs.Parts.{row_list}
 use Rattle.tt_prices_read.specs.Reading.{Rows, has_row}
 use Rattle.tt_prices_read.specs.declared.format.TheConstants.{MAX_AMOUNT}

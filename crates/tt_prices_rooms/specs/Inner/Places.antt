@@ -4,8 +4,8 @@ use Rattle.tt_instance.specs.declared.limit.TheConstants.{MAX_SLOTS, MAX_SEATS}
 use Rattle.tt_instance.specs.Problem.{Problem}
 use Rattle.tt_instance.specs.Courses.{lectures, students, unavailable, excess}
 use Rattle.tt_instance.specs.declared.cell.Slot.{Slot}
-use Rattle.tt_prices.specs.Limits.{IsWithin}
-use Rattle.tt_prices.specs.declared.price.TheConstants.{MAX_SCALE}
+use Rattle.tt_groups.specs.Limits.{IsWithin}
+use Rattle.tt_groups.specs.declared.price.TheConstants.{MAX_SCALE}
 use Rattle.tt_prices_rooms.specs.Least.{IsSumOf}
 use Rattle.tt_prices_rooms.specs.declared.limit.TheConstants.{MAX_RENT, MAX_PRICES, MAX_COST, MAX_TERM}
 

@@ -5,8 +5,8 @@ use Rattle.tt_list_laws.specs.Words.{range_below}
 use Rattle.tt_list_laws.proofs.Below.{filter_more-passing, filter_more-failing}
 use Rattle.tt_list_laws.proofs.Range.{below_member}
 use Rattle.tt_groups.proofs.Lists.{member_before}
-use Rattle.tt_prices.specs.Prices.{concerns}
-use Rattle.tt_prices.specs.Rows.{group_of}
+use Rattle.tt_groups.specs.Prices.{concerns}
+use Rattle.tt_groups.specs.Rows.{group_of}
 use Rattle.tt_prices_check.proofs.courses.courses_of.Goals as goal
 use Rattle.tt_prices_check.proofs.courses.courses_of.Goals.{then-is_concerned+in_ok-push, else-is_concerned}
 

@@ -1,7 +1,7 @@
 use Rattle.std.proofs.Common.{◌≡◌, ℕ, ◌<◌, ◌≤◌, ◌^◌, List, length, Some, None, sym, ap, subst, ◌∙◌, arith}
 use Rattle.std.specs.Prelude.{slice_index, IfSome}
-use Rattle.tt_prices.specs.Limits.{IsWithin}
-use Rattle.tt_prices.specs.Rows.{group_of}
+use Rattle.tt_groups.specs.Limits.{IsWithin}
+use Rattle.tt_groups.specs.Rows.{group_of}
 use Rattle.tt_prices_check.specs.Inner.Days.{HasDays}
 use Rattle.tt_prices_check.specs.Week.{IsLeastPlan}
 use Rattle.tt_prices_check.proofs.Timetables.{least_timetable}

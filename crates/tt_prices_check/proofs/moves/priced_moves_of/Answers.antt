@@ -4,7 +4,7 @@ use Rattle.std.proofs.lemmas.List.{take_more}
 use Rattle.std.proofs.lemmas.List.Elements.{All-push, All-contains, Contains-get_or}
 use Rattle.tt_groups_tables.specs.Fold.{index_of, floor_of}
 use Rattle.tt_groups_tables.specs.declared.moves.Move.{Move}
-use Rattle.tt_prices.specs.declared.day.PricedDay.{PricedDay}
+use Rattle.tt_groups.specs.declared.day.PricedDay.{PricedDay}
 use Rattle.tt_prices_check.specs.Inner.Sorted.{HasMoveOf}
 use Rattle.tt_prices_check.specs.Moves.{IsReady, AreReady, AreMovesOf}
 use Rattle.tt_prices_check.specs.declared.moves.PricedMove.{PricedMove}

@@ -1,6 +1,6 @@
 use Rattle.std.proofs.Common.{◌≡◌, ◌≤◌, length}
 use Rattle.std.specs.Prelude.{All}
-use Rattle.tt_prices.specs.Rows.{group_of}
+use Rattle.tt_groups.specs.Rows.{group_of}
 use Rattle.tt_prices_check.specs.Inner.Days.{HasDays}
 use Rattle.tt_prices_check.specs.Moves.{AreReady}
 use Rattle.tt_prices_check.proofs.week.week_of.Given as goal

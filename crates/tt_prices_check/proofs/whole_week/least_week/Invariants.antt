@@ -1,6 +1,6 @@
 use Rattle.std.proofs.Common.{◌≡◌, ◌+◌, ◌*◌, ◌≤◌, length, take}
 use Rattle.tt_instance.specs.Problem.{Problem}
-use Rattle.tt_prices.specs.Prices.{PricedGroup}
+use Rattle.tt_groups.specs.Prices.{PricedGroup}
 use Rattle.tt_prices_check.specs.Inner.Fold.{AreWithin}
 use Rattle.tt_prices_check.specs.Week.{Suits, all_moves}
 use Rattle.tt_prices_check.proofs.Lowest.{IsLowTable}

@@ -7,9 +7,9 @@ use Rattle.tt_list_laws.specs.Words.{has_number}
 use Rattle.tt_groups_tables.proofs.Starting.{zeros}
 use Rattle.tt_groups_tables.specs.Sets.{IsCourseSet}
 use Rattle.tt_groups_tables.specs.declared.morning.CourseSet.{CourseSet}
-use Rattle.tt_prices.specs.Days.{unpriced, courses_of}
-use Rattle.tt_prices.specs.Rows.{group_of}
-use Rattle.tt_prices.specs.declared.day.PricedDay.{PricedDay}
+use Rattle.tt_groups.specs.Days.{unpriced, courses_of}
+use Rattle.tt_groups.specs.Rows.{group_of}
+use Rattle.tt_groups.specs.declared.day.PricedDay.{PricedDay}
 use Rattle.tt_prices_day.specs.Inner.Layers.{first_node, AreLetters, AreFollowed, AreReached, AreEnded, AreEndsOf, IsLetterWithin, IsNodeWithin}
 use Rattle.tt_prices_day.specs.Shapes.{no_weights}
 use Rattle.tt_prices_day.specs.declared.letters.Letter.{Letter}

@@ -1,6 +1,6 @@
 use Rattle.std.proofs.Common.{◌*◌, ◌^◌, ◌≤◌}
 use Rattle.std.specs.Prelude.{All}
-use Rattle.tt_prices.specs.Rows.{group_of}
+use Rattle.tt_groups.specs.Rows.{group_of}
 use Rattle.tt_prices_day.specs.Inner.Layers.{IsNodeWithin}
 use Rattle.tt_prices_day.specs.Shapes.{no_weights}
 use Rattle.tt_prices_day.proofs.Layered.{IsLayer}

@@ -1,7 +1,7 @@
 use Rattle.std.proofs.Common.{ℕ, ◌+◌, ◌^◌, take}
 use Rattle.std.specs.Prelude.{All, Contains}
-use Rattle.tt_prices.specs.Limits.{IsWithin}
-use Rattle.tt_prices.specs.declared.day.PricedDay.{PricedDay}
+use Rattle.tt_groups.specs.Limits.{IsWithin}
+use Rattle.tt_groups.specs.declared.day.PricedDay.{PricedDay}
 use Rattle.tt_prices_day.specs.Inner.Entries.{IsEntryOf}
 use Rattle.tt_prices_day.specs.Inner.Layers.{IsNodeWithin}
 use Rattle.tt_prices_day.specs.declared.node.Node.{Node}

@@ -1,5 +1,5 @@
 use Rattle.std.proofs.Common.{◌+◌, ◌*◌, ◌^◌, ◌≤◌, sym, subst, arith}
-use Rattle.tt_prices.specs.Limits.{IsWithin}
+use Rattle.tt_groups.specs.Limits.{IsWithin}
 use Rattle.tt_prices_day.proofs.Within.{within-plus, within-pos, sum-of, scaled-le}
 use Rattle.tt_prices_day.proofs.entries.entry_of.Goals as goal
 

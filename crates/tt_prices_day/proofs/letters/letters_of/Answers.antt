@@ -8,8 +8,8 @@ use Rattle.tt_instance.specs.Courses.{unavailable}
 use Rattle.tt_groups_tables.specs.Sets.{has_course}
 use Rattle.tt_groups_tables.specs.declared.morning.CourseSet.{CourseSet}
 use Rattle.tt_groups_tables.proofs.Searching.{no_set}
-use Rattle.tt_prices.specs.Limits.{IsWithin}
-use Rattle.tt_prices.specs.Rows.{group_of}
+use Rattle.tt_groups.specs.Limits.{IsWithin}
+use Rattle.tt_groups.specs.Rows.{group_of}
 use Rattle.tt_prices_day.specs.Inner.Layers.{AreLetters, set_price}
 use Rattle.tt_prices_day.specs.declared.letters.Letter.{Letter}
 use Rattle.tt_prices_day.proofs.Growing.{pushed_cases, pushed_last, taken_cases, all_pushed}

@@ -1,7 +1,7 @@
 use Rattle.std.proofs.Common.{◌^◌, take}
 use Rattle.std.specs.Prelude.{All}
-use Rattle.tt_prices.specs.Limits.{IsWithin}
-use Rattle.tt_prices.specs.Rows.{group_of}
+use Rattle.tt_groups.specs.Limits.{IsWithin}
+use Rattle.tt_groups.specs.Rows.{group_of}
 use Rattle.tt_prices_day.specs.Inner.Layers.{AreLetters}
 use Rattle.tt_prices_day.proofs.letters.letters_of.Given as goal
 

@@ -5,9 +5,9 @@ use Rattle.std.proofs.lemmas.Int.{ints}
 use Rattle.tt_list_laws.specs.Words.{range_below}
 use Rattle.tt_list_laws.proofs.Below.{filter_more-passing, filter_more-failing}
 use Rattle.tt_groups_tables.specs.Sets.{has_course}
-use Rattle.tt_prices.specs.Limits.{IsPrice, IsWithin}
-use Rattle.tt_prices.specs.Signed.{signed_sum}
-use Rattle.tt_prices.proofs.Signed.{signed_sum-append}
+use Rattle.tt_groups.specs.Limits.{IsPrice, IsWithin}
+use Rattle.tt_groups.specs.Signed.{signed_sum}
+use Rattle.tt_groups.proofs.Signed.{signed_sum-append}
 use Rattle.tt_prices_day.proofs.Within.{within-more, within-plus, word-of, word32-of}
 use Rattle.tt_prices_day.proofs.letters.price_of.Goals as goal
 use Rattle.tt_prices_day.proofs.letters.price_of.Goals.{then-set-i-eq1, else-set-i-eq1}

@@ -2,8 +2,8 @@ use Rattle.std.proofs.Common.{◌≡◌, ◌*◌}
 use Rattle.std.specs.Prelude.{pos, filter, slice_index_or}
 use Rattle.tt_list_laws.specs.Words.{range_below}
 use Rattle.tt_groups_tables.specs.Sets.{has_course}
-use Rattle.tt_prices.specs.Limits.{IsWithin}
-use Rattle.tt_prices.specs.Signed.{signed_sum}
+use Rattle.tt_groups.specs.Limits.{IsWithin}
+use Rattle.tt_groups.specs.Signed.{signed_sum}
 use Rattle.tt_prices_day.proofs.letters.price_of.Given as goal
 
 abbrev pub invariant-loop-i : goal.invariant-loop-i

@@ -2,8 +2,8 @@ use Rattle.std.proofs.Common.{◌≡◌, ℕ, ◌++◌, ◌∷◌, [], List, map
 use Rattle.std.specs.Prelude.{All}
 use Rattle.std.proofs.lemmas.List.{take_more, map-append}
 use Rattle.tt_instance.specs.Cells.{slot}
-use Rattle.tt_prices.specs.Limits.{IsPrice}
-use Rattle.tt_prices.specs.Rows.{group_of}
+use Rattle.tt_groups.specs.Limits.{IsPrice}
+use Rattle.tt_groups.specs.Rows.{group_of}
 use Rattle.tt_prices_day.proofs.Growing.{all_pushed}
 use Rattle.tt_prices_day.proofs.Within.{word32-of}
 use Rattle.tt_prices_day.proofs.letters.prices_of.Goals as goal

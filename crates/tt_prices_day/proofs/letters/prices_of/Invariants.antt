@@ -1,8 +1,8 @@
 use Rattle.std.proofs.Common.{◌≡◌, map, take}
 use Rattle.std.specs.Prelude.{All}
 use Rattle.tt_instance.specs.Cells.{slot}
-use Rattle.tt_prices.specs.Limits.{IsPrice}
-use Rattle.tt_prices.specs.Rows.{group_of}
+use Rattle.tt_groups.specs.Limits.{IsPrice}
+use Rattle.tt_groups.specs.Rows.{group_of}
 use Rattle.tt_prices_day.proofs.letters.prices_of.Given as goal
 
 abbrev pub invariant-loop-course : goal.invariant-loop-course

@@ -4,7 +4,7 @@ use Rattle.std.specs.Int.{bit_not}
 use Rattle.std.proofs.lemmas.Nat.{and_le_l, ones-le}
 use Rattle.tt_list_laws.specs.Words.{range_below}
 use Rattle.tt_list_laws.proofs.Sums.{sum_by-same}
-use Rattle.tt_prices.specs.Limits.{IsWithin}
+use Rattle.tt_groups.specs.Limits.{IsWithin}
 use Rattle.tt_prices_day.proofs.Within.{within-more, within-plus, within-pos, within-fits, word-of, sum-of, scaled-le}
 use Rattle.tt_prices_day.proofs.node.next_node.Goals as goal
 

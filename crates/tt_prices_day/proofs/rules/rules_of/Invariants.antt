@@ -1,7 +1,7 @@
 use Rattle.std.proofs.Common.{◌≡◌, ℕ, ◌<◌, ◌≤◌, true, false, length}
 use Rattle.std.specs.Prelude.{slice_index, if◌then◌else◌}
 use Rattle.tt_instance.specs.Courses.{lectures}
-use Rattle.tt_prices.specs.Rows.{group_of}
+use Rattle.tt_groups.specs.Rows.{group_of}
 use Rattle.tt_prices_day.specs.Inner.Following.{is_counted, is_paying, cap}
 use Rattle.tt_prices_day.proofs.rules.rules_of.Given as goal
 

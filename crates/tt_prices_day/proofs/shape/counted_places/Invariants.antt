@@ -1,7 +1,7 @@
 use Rattle.std.proofs.Common.{not, take}
 use Rattle.std.specs.Prelude.{filter}
 use Rattle.tt_list_laws.specs.Words.{has_number}
-use Rattle.tt_prices.specs.Rows.{group_of}
+use Rattle.tt_groups.specs.Rows.{group_of}
 use Rattle.tt_prices_day.specs.Shapes.{ArePlaces}
 use Rattle.tt_prices_day.proofs.shape.counted_places.Given as goal
 

@@ -1,6 +1,6 @@
 use Rattle.std.proofs.Common.{◌*◌, ◌^◌, List}
-use Rattle.tt_prices.specs.Limits.{IsWithin}
-use Rattle.tt_prices.specs.Prices.{PricedGroup}
+use Rattle.tt_groups.specs.Limits.{IsWithin}
+use Rattle.tt_groups.specs.Prices.{PricedGroup}
 use Rattle.tt_prices_read.specs.Reading.{RoomRents}
 use Rattle.tt_prices_file.specs.Inner.Rents.{IsRentTable}
 use Rattle.tt_prices_file.specs.Inner.Tables.{IsPriceTable}

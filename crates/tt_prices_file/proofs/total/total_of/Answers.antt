@@ -1,6 +1,6 @@
 use Rattle.std.proofs.Common.{◌*◌, ◌^◌, length, sym, ap, subst, ◌∙◌, arith, ◌+ℤ◌, ◌-ℤ◌}
 use Rattle.std.proofs.lemmas.Int.{ints}
-use Rattle.tt_prices.specs.Limits.{IsWithin}
+use Rattle.tt_groups.specs.Limits.{IsWithin}
 use Rattle.tt_prices_file.specs.Files.{groups_of, rents_in}
 use Rattle.tt_prices_file.proofs.Totalled.{groups_within, balance_is, balance_within, has_total}
 use Rattle.tt_prices_file.proofs.total.total_of.Goals as goal

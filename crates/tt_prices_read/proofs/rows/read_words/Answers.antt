@@ -2,7 +2,7 @@ use Rattle.std.proofs.Common.{refl, sym, subst, arith}
 use Rattle.std.specs.Prelude.{All}
 use Rattle.std.proofs.lemmas.Result.{err_from_is_err_and}
 use Rattle.std.proofs.lemmas.List.Elements.{All-nil}
-use Rattle.tt_prices.specs.Limits.{IsPrice}
+use Rattle.tt_groups.specs.Limits.{IsPrice}
 use Rattle.tt_prices_read.specs.Inner.Priced.{rows_of}
 use Rattle.tt_prices_read.specs.Parts.{AreRows}
 use Rattle.tt_prices_read.specs.Reading.{Rows, all_rows}

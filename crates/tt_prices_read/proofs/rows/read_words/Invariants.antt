@@ -1,7 +1,7 @@
 use Rattle.std.proofs.Common.{◌≤◌}
 use Rattle.std.specs.Prelude.{All}
 use Rattle.tt_text.specs.Feeds.{room_of}
-use Rattle.tt_prices.specs.Limits.{IsPrice}
+use Rattle.tt_groups.specs.Limits.{IsPrice}
 use Rattle.tt_proof_read.specs.Inner.Contract.{state_of}
 use Rattle.tt_prices_read.specs.Inner.Priced.{rows_of}
 use Rattle.tt_prices_read.specs.Parts.{AreRows}

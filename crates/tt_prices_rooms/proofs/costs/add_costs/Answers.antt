@@ -4,7 +4,7 @@ use Rattle.std.specs.Int.{int_min}
 use Rattle.std.proofs.lemmas.Int.{to_z-of_z}
 use Rattle.std.proofs.lemmas.List.{ext_get_or, get_or-map, length-map}
 use Rattle.std.proofs.lemmas.List.Elements.{All-from_get_or}
-use Rattle.tt_prices.specs.Limits.{IsWithin}
+use Rattle.tt_groups.specs.Limits.{IsWithin}
 use Rattle.tt_prices_rooms.specs.Inner.Places.{cost_at}
 use Rattle.tt_prices_rooms.specs.declared.limit.TheConstants.{MAX_COST}
 use Rattle.tt_prices_rooms.proofs.Rows.{set_more, set_rest}

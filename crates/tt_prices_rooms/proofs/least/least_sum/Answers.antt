@@ -2,8 +2,8 @@ use Rattle.std.proofs.Common.{◌∷◌, sym, subst, ◌∙◌, w64}
 use Rattle.std.proofs.lemmas.Int.{to_z-of_z}
 use Rattle.std.proofs.lemmas.List.Sorted.{All-permutation}
 use Rattle.std.specs.Prelude.{◌++◌}
-use Rattle.tt_prices.specs.Limits.{IsWithin}
-use Rattle.tt_prices.specs.Signed.{signed_sum}
+use Rattle.tt_groups.specs.Limits.{IsWithin}
+use Rattle.tt_groups.specs.Signed.{signed_sum}
 use Rattle.tt_prices_rooms.specs.Least.{IsLeastSum}
 use Rattle.tt_prices_rooms.specs.declared.limit.TheConstants.{MAX_COST}
 use Rattle.tt_prices_rooms.proofs.Rows.{front_small}

@@ -1,6 +1,6 @@
 use Rattle.std.proofs.Common.{◌≡◌, ◌*◌, ◌^◌, take, pos, ◌≤ℤ◌}
 use Rattle.std.specs.Prelude.{neg_ℤ}
-use Rattle.tt_prices.specs.Signed.{signed_sum}
+use Rattle.tt_groups.specs.Signed.{signed_sum}
 use Rattle.tt_prices_rooms.proofs.least.sum_of.Given as goal
 
 abbrev pub invariant-loop-cost : goal.invariant-loop-cost

@@ -3,7 +3,7 @@ use Rattle.std.specs.Prelude.{neg_ℤ, ◌≤ℤ◌}
 use Rattle.std.specs.Int.{int_min}
 use Rattle.std.proofs.lemmas.Int.{to_z-of_z}
 use Rattle.tt_instance.specs.Courses.{lectures}
-use Rattle.tt_prices.specs.Limits.{IsWithin}
+use Rattle.tt_groups.specs.Limits.{IsWithin}
 use Rattle.tt_prices_rooms.specs.Least.{IsLeastSum}
 use Rattle.tt_prices_rooms.specs.Inner.Places.{room_cost, IsLeastInRoom}
 use Rattle.tt_prices_rooms.specs.declared.limit.TheConstants.{MAX_TERM}

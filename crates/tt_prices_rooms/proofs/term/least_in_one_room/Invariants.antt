@@ -1,6 +1,6 @@
 use Rattle.std.proofs.Common.{◌≡◌, ◌<◌, length}
 use Rattle.std.specs.Prelude.{pos, neg_ℤ, ◌≤ℤ◌}
-use Rattle.tt_prices.specs.Limits.{IsWithin}
+use Rattle.tt_groups.specs.Limits.{IsWithin}
 use Rattle.tt_prices_rooms.specs.Inner.Places.{room_cost, IsLeastInRoom, AreLowest}
 use Rattle.tt_prices_rooms.specs.declared.limit.TheConstants.{MAX_TERM}
 use Rattle.tt_prices_rooms.proofs.term.least_in_one_room.Given as goal

@@ -2,7 +2,7 @@ use Rattle.std.proofs.Common.{◌≡◌, ◌<◌, ℤ, List, length, sym, ap, su
 use Rattle.std.specs.Prelude.{All}
 use Rattle.std.specs.Int.{int_min}
 use Rattle.std.proofs.lemmas.Int.{to_z-of_z}
-use Rattle.tt_prices.specs.Limits.{IsWithin}
+use Rattle.tt_groups.specs.Limits.{IsWithin}
 use Rattle.tt_prices_rooms.specs.Inner.Places.{room_cost}
 use Rattle.tt_prices_rooms.specs.Least.{IsLeastSum}
 use Rattle.tt_prices_rooms.specs.Terms.{IsTerm}

@@ -1,5 +1,5 @@
 use Rattle.std.specs.Prelude.{All}
-use Rattle.tt_prices.specs.Limits.{IsWithin}
+use Rattle.tt_groups.specs.Limits.{IsWithin}
 use Rattle.tt_prices_rooms.specs.declared.limit.TheConstants.{MAX_PRICES}
 use Rattle.tt_tests_prices.proofs.terms.prices_of.Given as goal
 

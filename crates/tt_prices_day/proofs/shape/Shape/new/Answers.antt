@@ -2,8 +2,8 @@ use Rattle.std.proofs.Common.{ℕ, List, sym, subst, ◌∙◌}
 use Rattle.std.specs.Prelude.{Contains}
 use Rattle.std.proofs.lemmas.List.Elements.{Contains-append_left}
 use Rattle.tt_groups.proofs.Projection.{course_own}
-use Rattle.tt_prices.specs.Days.{unpriced}
-use Rattle.tt_prices.specs.Rows.{group_of}
+use Rattle.tt_groups.specs.Days.{unpriced}
+use Rattle.tt_groups.specs.Rows.{group_of}
 use Rattle.tt_prices_day.proofs.shape.Shape.new.Goals as goal
 
 pub own_courses-requires-clause-there : goal.own_courses-requires-clause-there

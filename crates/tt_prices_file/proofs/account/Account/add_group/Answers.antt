@@ -1,6 +1,6 @@
 use Rattle.std.proofs.Common.{◌≡◌, ◌*◌, ◌^◌, length, refl, sym, ap, subst, ◌∙◌, arith, ◌+ℤ◌, Some}
-use Rattle.tt_prices.specs.Limits.{IsWithin}
-use Rattle.tt_prices.specs.Rows.{group_of}
+use Rattle.tt_groups.specs.Limits.{IsWithin}
+use Rattle.tt_groups.specs.Rows.{group_of}
 use Rattle.tt_prices_check.specs.Groups.{IsLeast}
 use Rattle.tt_prices_day.proofs.Within.{word-of}
 use Rattle.tt_prices_file.specs.Files.{groups_of}

@@ -1,6 +1,6 @@
 use Rattle.std.proofs.Common.{◌+◌, ◌≤◌, length, take, sym, subst, ◌∙◌, arith}
 use Rattle.std.proofs.lemmas.List.{take_all}
-use Rattle.tt_prices.specs.Rows.{group_of}
+use Rattle.tt_groups.specs.Rows.{group_of}
 use Rattle.tt_prices_file.specs.Inner.Tables.{AreRowsOf, IsGrownBy}
 use Rattle.tt_prices_file.proofs.Priced.{grown_none, next_other, next_more, next_fits, next_within, grown_table}
 use Rattle.tt_prices_file.proofs.prices.PriceTable.add_group.Goals as goal

@@ -1,5 +1,5 @@
 use Rattle.std.proofs.Common.{take}
-use Rattle.tt_prices.specs.Rows.{group_of}
+use Rattle.tt_groups.specs.Rows.{group_of}
 use Rattle.tt_prices_file.specs.Inner.Tables.{IsGrownBy}
 use Rattle.tt_prices_file.proofs.prices.PriceTable.add_group.Given as goal
 

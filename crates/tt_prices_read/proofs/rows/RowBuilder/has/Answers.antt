@@ -1,7 +1,7 @@
 use Rattle.std.proofs.Common.{◌==◌, List, sym, ap, ◌∙◌}
 use Rattle.std.specs.Prelude.{◌||◌}
 use Rattle.std.specs.List.{list_any}
-use Rattle.tt_prices.specs.declared.group.PriceRow.{PriceRow}
+use Rattle.tt_groups.specs.declared.priced_group.PriceRow.{PriceRow}
 use Rattle.tt_prices_read.proofs.RowTurns.{has_none, has_some}
 use Rattle.tt_prices_read.proofs.rows.RowBuilder.has.Goals as goal
 

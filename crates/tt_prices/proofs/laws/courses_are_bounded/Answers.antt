@@ -1,6 +1,0 @@
-use Rattle.tt_prices.proofs.Rooms.{course_bounded}
-use Rattle.tt_prices.proofs.laws.courses_are_bounded.Goals as goal
-
-pub returns : goal.returns
-returns c = λ p scale groups rent k b lowest none one low more t placing. course_bounded p scale groups rent k b lowest none one low more t
-    placing

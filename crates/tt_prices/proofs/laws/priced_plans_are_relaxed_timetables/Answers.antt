@@ -1,5 +1,0 @@
-use Rattle.tt_prices.proofs.Placed.{placed, placed_relaxed, placed_pays}
-use Rattle.tt_prices.proofs.laws.priced_plans_are_relaxed_timetables.Goals as goal
-
-pub returns : goal.returns
-returns c = λ p g week plan there. (placed p g week plan there, placed_relaxed p g week plan there, placed_pays p g week plan there)

@@ -1,6 +1,0 @@
-use Rattle.tt_prices.proofs.Whole.{all_pay}
-use Rattle.tt_prices.proofs.laws.prices_hold.Goals as goal
-
-pub returns : goal.returns
-returns c = λ p scale rooms groups rent least group_bounds course_bounds t ok. all_pay p scale rooms groups rent least group_bounds
-    course_bounds t ok
