@@ -1,5 +1,10 @@
 pub mod Adding
 pub mod CoursesAndSizes
+pub mod FileLaws
+pub mod GroupLaws
+pub mod ListLaws
+pub mod ListTurns
 pub mod Places
+pub mod Progress
 pub mod Reported
 pub mod Taken

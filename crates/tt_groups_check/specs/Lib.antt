@@ -2,4 +2,9 @@ pub mod Availability
 pub mod Faults
 pub mod Limits
 pub mod Lists
+pub mod Readers
+pub mod Reading
+pub mod Reads
 pub mod Shapes
+pub mod Spelling
+pub mod TextFaults

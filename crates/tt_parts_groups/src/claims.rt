@@ -5,8 +5,7 @@ ghost use Rattle.std.specs.Prelude.{◌<◌, All, IsTrue};
 use crate::draft::Draft;
 use std::alloc::{AllocError, Global};
 use tt_groups::Group;
-use tt_groups_check::{GroupFault, Work, check_group};
-use tt_groups_read::GroupClaim;
+use tt_groups_check::{GroupClaim, GroupFault, Work, check_group};
 use tt_instance::Instance;
 
 /// Checks that all numbers are below a count.

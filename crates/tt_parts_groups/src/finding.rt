@@ -12,7 +12,7 @@ use crate::writing::{KnownProof, bound_of, write_all};
 use rand_core::SeedableRng;
 use rand_pcg::Pcg32;
 use std::alloc::{AllocError, Global};
-use tt_groups_read::GroupClaim;
+use tt_groups_check::GroupClaim;
 use tt_instance::Instance;
 use tt_parts_least::Allowance;
 use tt_table::Entry;

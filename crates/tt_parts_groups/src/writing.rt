@@ -1,7 +1,7 @@
 //! The text of a file of claims.
 
 use std::alloc::{AllocError, Global};
-use tt_groups_read::GroupClaim;
+use tt_groups_check::GroupClaim;
 use tt_text::{put_line_end, put_next_number, put_next_token, put_number, put_token};
 
 /// The text of a proof, and its bound in cost points.

@@ -9,8 +9,8 @@ use Rattle.tt_text.specs.declared.stop.Stop.{Stop}
 use Rattle.tt_text.specs.declared.stop.Stop.TheVariants.{Fault, ReadFailed, OutOfMemory}
 use Rattle.tt_leaf.specs.declared.leaf.Bound.{Bound}
 use Rattle.tt_leaf.specs.declared.leaf.Bound.TheVariants.{AtLeast}
-use Rattle.tt_groups_read.specs.Faults.{is_environmental, is_failed_read}
-use Rattle.tt_groups_read.specs.declared.fault.GroupTextFault.{GroupTextFault}
+use Rattle.tt_groups_check.specs.TextFaults.{is_environmental, is_failed_read}
+use Rattle.tt_groups_check.specs.declared.text_fault.GroupTextFault.{GroupTextFault}
 use Rattle.tt_proof_sum.specs.Faults.{stop_from_text, is_failed_read_at}
 use Rattle.tt_proof_sum.specs.declared.fault.FileFault.{FileFault}
 use Rattle.tt_proof_sum.specs.declared.fault.FileFault.TheVariants as fault

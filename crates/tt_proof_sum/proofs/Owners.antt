@@ -18,8 +18,8 @@ use Rattle.tt_instance.specs.Limits.{IsInstance}
 use Rattle.tt_leaf_rules.specs.Claims.{Target, WorkingDays, Compactness}
 use Rattle.tt_leaf_rules.specs.Inner.NumberSet.{place}
 use Rattle.tt_groups.specs.Group.{Group, IsGroupBound}
-use Rattle.tt_groups_read.specs.Spelling.{IsClaim}
-use Rattle.tt_groups_read.specs.declared.claim.GroupClaim.{GroupClaim}
+use Rattle.tt_groups_check.specs.Spelling.{IsClaim}
+use Rattle.tt_groups_check.specs.declared.claim.GroupClaim.{GroupClaim}
 use Rattle.tt_proof_sum.specs.Inner.Claiming.{Entered}
 use Rattle.tt_proof_sum.specs.Inner.Owned.{FirstTarget}
 use Rattle.tt_proof_sum.specs.declared.claimed.ClaimedTarget.{ClaimedTarget}

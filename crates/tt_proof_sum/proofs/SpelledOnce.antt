@@ -36,12 +36,12 @@ use Rattle.tt_text.specs.Fronts.{kind_of}
 use Rattle.tt_text.specs.declared.kind.FileKind.{FileKind}
 use Rattle.tt_text.specs.declared.kind.FileKind.TheVariants as kind
 use Rattle.tt_text.proofs.Fronts.{kind_of-proof}
-use Rattle.tt_groups_read.specs.Reading.{group_at}
-use Rattle.tt_groups_read.specs.Reads.{ReadsClaims, ReadsFile}
-use Rattle.tt_groups_read.specs.Spelling.{SpellsGroups}
-use Rattle.tt_groups_read.specs.declared.claim.GroupClaim.{GroupClaim}
-use Rattle.tt_groups_read.specs.declared.fault.GroupTextFault.{GroupTextFault}
-use Rattle.tt_groups_read.proofs.FileLaws.{spelled_reads}
+use Rattle.tt_groups_check.specs.Reading.{group_at}
+use Rattle.tt_groups_check.specs.Reads.{ReadsClaims, ReadsFile}
+use Rattle.tt_groups_check.specs.Spelling.{SpellsGroups}
+use Rattle.tt_groups_check.specs.declared.claim.GroupClaim.{GroupClaim}
+use Rattle.tt_groups_check.specs.declared.text_fault.GroupTextFault.{GroupTextFault}
+use Rattle.tt_groups_check.proofs.FileLaws.{spelled_reads}
 use Rattle.tt_proof_sum.specs.declared.groups_fault.GroupsFault.{GroupsFault}
 use Rattle.tt_proof_sum.specs.declared.groups_fault.GroupsFault.TheVariants as groups
 use Rattle.tt_proof_sum.specs.GroupsFaults.{AfterClaims, ExplainsGroups, IsLeftOpen}

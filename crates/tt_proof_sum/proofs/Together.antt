@@ -26,8 +26,8 @@ use Rattle.tt_leaf_rules.proofs.Totals.{same_target-true, same_target-itself, ta
 use Rattle.tt_proof_check.specs.Derives.{HoldsOn}
 use Rattle.tt_groups.specs.Group.{Group, group_cost, IsGroupBound}
 use Rattle.tt_groups.proofs.Seen.{group_bound_holds}
-use Rattle.tt_groups_read.specs.Spelling.{IsClaim}
-use Rattle.tt_groups_read.specs.declared.claim.GroupClaim.{GroupClaim}
+use Rattle.tt_groups_check.specs.Spelling.{IsClaim}
+use Rattle.tt_groups_check.specs.declared.claim.GroupClaim.{GroupClaim}
 use Rattle.tt_proof_sum.specs.Added.{IsPartOf}
 use Rattle.tt_proof_sum.specs.Sums.{claimed_by, is_among, are_among, are_apart, cost_over, every_target, group_targets, targets_of_claims, AreClaimsApart, both_bounds, sum_of, Part, TreeProof, GroupsFile, PricesFile, prices_targets, IsPartOn, ShowsOn, bound_of, claims_of, AreApart, IsSumOn}
 use Rattle.tt_proof_sum.proofs.Over.{are_different, tree_by, most_over, over_all, IsMost}

@@ -26,15 +26,15 @@ use Rattle.tt_proof_check.specs.Streams.{sizes_of}
 use Rattle.tt_proof_check.proofs.FailedReads.{of_given}
 use Rattle.tt_proof_check.proofs.Sizes.{are_sizes_of, sizes_are}
 use Rattle.tt_groups.specs.Group.{IsGroupBound}
-use Rattle.tt_groups_read.specs.Faults.{is_environmental, is_failed_read}
-use Rattle.tt_groups_read.specs.Readers.{Reader, IsReaderAfter, IsReadingOf, IsHeaderReadingOf, HeaderAgreesWhenCut, GroupAgreesWhenCut, IsClaimAt}
-use Rattle.tt_groups_read.specs.Reading.{header_at, group_at}
-use Rattle.tt_groups_read.specs.Reads.{ReadsClaims, ReadsFile}
-use Rattle.tt_groups_read.specs.Spelling.{IsClaim}
-use Rattle.tt_groups_read.specs.declared.claim.GroupClaim.{GroupClaim}
-use Rattle.tt_groups_read.specs.declared.fault.GroupTextFault.{GroupTextFault}
-use Rattle.tt_groups_read.specs.declared.fault.GroupTextFault.TheVariants as group_text
-use Rattle.tt_groups_read.proofs.FileLaws.{reads_spelled}
+use Rattle.tt_groups_check.specs.TextFaults.{is_environmental, is_failed_read}
+use Rattle.tt_groups_check.specs.Readers.{Reader, IsReaderAfter, IsReadingOf, IsHeaderReadingOf, HeaderAgreesWhenCut, GroupAgreesWhenCut, IsClaimAt}
+use Rattle.tt_groups_check.specs.Reading.{header_at, group_at}
+use Rattle.tt_groups_check.specs.Reads.{ReadsClaims, ReadsFile}
+use Rattle.tt_groups_check.specs.Spelling.{IsClaim}
+use Rattle.tt_groups_check.specs.declared.claim.GroupClaim.{GroupClaim}
+use Rattle.tt_groups_check.specs.declared.text_fault.GroupTextFault.{GroupTextFault}
+use Rattle.tt_groups_check.specs.declared.text_fault.GroupTextFault.TheVariants as group_text
+use Rattle.tt_groups_check.proofs.FileLaws.{reads_spelled}
 use Rattle.tt_text.specs.Fronts.{kind_of}
 use Rattle.tt_text.specs.declared.kind.FileKind.TheVariants as kind
 use Rattle.tt_text.specs.Stops.{OnFault, IfFault}

@@ -7,7 +7,7 @@ use Rattle.tt_leaf.specs.declared.leaf.Bound.{Bound}
 use Rattle.tt_proof_check.specs.Derives.{Derives, IsShallowOn}
 use Rattle.tt_proof_read.specs.Spelling.{SpellsProof}
 use Rattle.tt_proof_sum.specs.declared.summed.Sum.{Sum}
-use Rattle.tt_groups_read.specs.Spelling.{IsClaim, SpellsGroups}
+use Rattle.tt_groups_check.specs.Spelling.{IsClaim, SpellsGroups}
 use Rattle.tt_prices_read.specs.Spelling.{SpellsFile}
 use Rattle.tt_text.specs.Fronts.{kind_of}
 use Rattle.tt_text.specs.declared.kind.FileKind.{FileKind}

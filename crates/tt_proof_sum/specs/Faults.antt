@@ -12,8 +12,8 @@ use Rattle.tt_leaf.specs.declared.leaf.Bound.{Bound}
 use Rattle.tt_leaf.specs.declared.leaf.Bound.TheVariants.{AtLeast, Nothing}
 use Rattle.tt_proof_read.specs.Trees.{preorder}
 use Rattle.tt_proof_read.specs.declared.node.Node.{Node}
-use Rattle.tt_groups_read.specs.Faults.{is_environmental, is_failed_read}
-use Rattle.tt_groups_read.specs.declared.fault.GroupTextFault.{GroupTextFault}
+use Rattle.tt_groups_check.specs.TextFaults.{is_environmental, is_failed_read}
+use Rattle.tt_groups_check.specs.declared.text_fault.GroupTextFault.{GroupTextFault}
 use Rattle.tt_text.specs.Fronts.{kind_of}
 use Rattle.tt_text.specs.declared.kind.FileKind.TheVariants as kind
 use Rattle.tt_prices_file.specs.Faults as prices

@@ -13,11 +13,11 @@ use Rattle.tt_groups_check.specs.declared.fault.GroupFault.{GroupFault}
 use Rattle.tt_groups_check.specs.declared.fault.GroupFault.TheVariants as group
 use Rattle.tt_groups_tables.specs.declared.sets.TheConstants.{MAX_SETS}
 use Rattle.tt_groups_tables.specs.declared.digits.TheConstants.{MAX_PLACES}
-use Rattle.tt_groups_read.specs.Faults.{is_environmental}
-use Rattle.tt_groups_read.specs.Reading.{header_at, group_at}
-use Rattle.tt_groups_read.specs.Reads.{ReadsClaims}
-use Rattle.tt_groups_read.specs.declared.claim.GroupClaim.{GroupClaim}
-use Rattle.tt_groups_read.specs.declared.fault.GroupTextFault.TheVariants as text
+use Rattle.tt_groups_check.specs.TextFaults.{is_environmental}
+use Rattle.tt_groups_check.specs.Reading.{header_at, group_at}
+use Rattle.tt_groups_check.specs.Reads.{ReadsClaims}
+use Rattle.tt_groups_check.specs.declared.claim.GroupClaim.{GroupClaim}
+use Rattle.tt_groups_check.specs.declared.text_fault.GroupTextFault.TheVariants as text
 use Rattle.tt_proof_sum.specs.declared.groups_fault.GroupsFault.{GroupsFault}
 use Rattle.tt_proof_sum.specs.declared.groups_fault.GroupsFault.TheVariants.{Text, ClaimedTwice, ClaimedElsewhere, Group, TooCheap}
 use Rattle.tt_proof_sum.specs.Sums.{is_among, are_apart, group_targets, targets_of_claims, AreClaimsApart, Part, claims_of}

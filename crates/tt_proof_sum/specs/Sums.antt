@@ -19,8 +19,8 @@ use Rattle.tt_proof_read.specs.Spelling.{SpellsProof}
 use Rattle.tt_proof_read.specs.Trees.{Tree, Tip, Fork}
 use Rattle.tt_proof_check.specs.Derives.{Derives, IsShallowOn}
 use Rattle.tt_groups.specs.Group.{Group, IsGroupBound}
-use Rattle.tt_groups_read.specs.Spelling.{IsClaim, SpellsGroups}
-use Rattle.tt_groups_read.specs.declared.claim.GroupClaim.{GroupClaim}
+use Rattle.tt_groups_check.specs.Spelling.{IsClaim, SpellsGroups}
+use Rattle.tt_groups_check.specs.declared.claim.GroupClaim.{GroupClaim}
 use Rattle.tt_prices_read.specs.Readers.{IsHeader}
 use Rattle.tt_prices_read.specs.Reading as text
 use Rattle.tt_prices_read.specs.Spelling as prices

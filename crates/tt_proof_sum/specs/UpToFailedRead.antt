@@ -6,8 +6,8 @@ use Rattle.tt_path.specs.declared.facts.Fact.{Fact}
 use Rattle.tt_proof_check.specs.FailedReads.{HoldsOfGiven, IsCheckedUpToFailedRead}
 use Rattle.tt_proof_check.specs.Streams.{sizes_of}
 use Rattle.tt_proof_read.specs.Faults.{read_failed}
-use Rattle.tt_groups_read.specs.Reading.{header_at, group_at}
-use Rattle.tt_groups_read.specs.declared.fault.GroupTextFault.TheVariants.{Text}
+use Rattle.tt_groups_check.specs.Reading.{header_at, group_at}
+use Rattle.tt_groups_check.specs.declared.text_fault.GroupTextFault.TheVariants.{Text}
 use Rattle.tt_prices_file.specs.UpToFailedRead.{ArePricesCutOff}
 use Rattle.tt_text.specs.Fronts.{kind_of}
 use Rattle.tt_text.specs.declared.kind.FileKind.TheVariants as kind

@@ -1,7 +1,7 @@
 //! Why files can't be added up.
 
 ghost use Rattle.std.specs.Prelude.{◌≡◌, false};
-ghost use Rattle.tt_groups_read.specs.Faults.{is_failed_read, is_environmental};
+ghost use Rattle.tt_groups_check.specs.TextFaults.{is_failed_read, is_environmental};
 ghost use Rattle.tt_proof_sum.specs.Faults.{stop_from_check, stop_from_prices, stop_from_text};
 
 use crate::claimed::ClaimedTarget;
@@ -9,7 +9,7 @@ use crate::groups_fault::GroupsFault;
 use std::alloc::AllocError;
 use std::error::Error;
 use std::fmt;
-use tt_groups_read::GroupTextFault;
+use tt_groups_check::GroupTextFault;
 use tt_prices_file::PricesFault;
 use tt_proof_check::CheckFault;
 use tt_proof_read::TextFault;

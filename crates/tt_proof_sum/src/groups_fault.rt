@@ -1,8 +1,7 @@
 //! Why a file of groups can't be added.
 
 use std::fmt;
-use tt_groups_check::GroupFault;
-use tt_groups_read::GroupTextFault;
+use tt_groups_check::{GroupFault, GroupTextFault};
 
 /// Why a file of groups can't be added. Groups are counted from 0 in the order of the file.
 #[derive(Clone, Copy, Debug, PartialEq, Eq)]

@@ -11,8 +11,8 @@ ghost use Rattle.tt_leaf.specs.declared.leaf.Bound.TheVariants.{AtLeast};
 ghost use Rattle.tt_proof_read.specs.Trees.{Tree};
 ghost use Rattle.tt_proof_check.specs.Derives.{Derives, HoldsOn, HoldsOfAll};
 ghost use Rattle.tt_groups.specs.Group.{IsGroupBound};
-ghost use Rattle.tt_groups_read.specs.Spelling.{IsClaim};
-ghost use Rattle.tt_groups_read.specs.declared.claim.GroupClaim.{GroupClaim};
+ghost use Rattle.tt_groups_check.specs.Spelling.{IsClaim};
+ghost use Rattle.tt_groups_check.specs.declared.claim.GroupClaim.{GroupClaim};
 ghost use Rattle.tt_proof_sum.specs.Sums.{claimed_by, are_among, every_target, HoldsOver, IsWithinCost, group_targets, Part, ShowsOn, AreApart, sum_of, IsSum, IsSumOn};
 
 /// A bound that a tree derives on a path holds for the part of the cost that belongs to the targets, if these include those that its leaves claim.

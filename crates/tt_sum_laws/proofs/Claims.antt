@@ -3,9 +3,9 @@ use Rattle.std.proofs.Common.{◌≡◌, List, [], ◌∷◌, ◌++◌, Some, Ok
 use Rattle.std.specs.Prelude.{◌⊎◌}
 use Rattle.tt_text.specs.Feeds.{Stream}
 use Rattle.tt_proof_read.specs.declared.sizes.Sizes.{Sizes}
-use Rattle.tt_groups_read.specs.Reading.{group_at}
-use Rattle.tt_groups_read.specs.Reads.{ReadsClaims}
-use Rattle.tt_groups_read.specs.declared.claim.GroupClaim.{GroupClaim}
+use Rattle.tt_groups_check.specs.Reading.{group_at}
+use Rattle.tt_groups_check.specs.Reads.{ReadsClaims}
+use Rattle.tt_groups_check.specs.declared.claim.GroupClaim.{GroupClaim}
 use Rattle.tt_proof_sum.proofs.SpelledOnce.{claim_same}
 
 -- the longer list goes on with a claim where the shorter one ends

@@ -8,11 +8,11 @@ use Rattle.tt_text.specs.Feeds.{Stream}
 use Rattle.tt_leaf_rules.specs.Claims.{Target}
 use Rattle.tt_groups.specs.Group.{IsGroupBound}
 use Rattle.tt_groups_check.specs.declared.fault.GroupFault.TheVariants as group
-use Rattle.tt_groups_read.specs.Reading.{header_at, group_at}
-use Rattle.tt_groups_read.specs.Reads.{ReadsClaims}
-use Rattle.tt_groups_read.specs.declared.claim.GroupClaim.{GroupClaim}
-use Rattle.tt_groups_read.specs.declared.fault.GroupTextFault.{GroupTextFault}
-use Rattle.tt_groups_read.specs.declared.fault.GroupTextFault.TheVariants as text
+use Rattle.tt_groups_check.specs.Reading.{header_at, group_at}
+use Rattle.tt_groups_check.specs.Reads.{ReadsClaims}
+use Rattle.tt_groups_check.specs.declared.claim.GroupClaim.{GroupClaim}
+use Rattle.tt_groups_check.specs.declared.text_fault.GroupTextFault.{GroupTextFault}
+use Rattle.tt_groups_check.specs.declared.text_fault.GroupTextFault.TheVariants as text
 use Rattle.tt_proof_check.specs.Streams.{sizes_of}
 use Rattle.tt_proof_read.specs.declared.fault.TextFault.{TextFault}
 use Rattle.tt_proof_sum.specs.GroupsFaults.{Pass, AfterClaims, ExplainsGroups, IsLeftOpen}

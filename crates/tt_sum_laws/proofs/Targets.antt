@@ -6,7 +6,7 @@ use Rattle.std.specs.Option.{option_or}
 use Rattle.std.proofs.lemmas.Bool.{and_parts}
 use Rattle.tt_list_laws.specs.Words.{each_two}
 use Rattle.tt_list_laws.proofs.Tested.{all_at}
-use Rattle.tt_groups_read.specs.declared.claim.GroupClaim.{GroupClaim}
+use Rattle.tt_groups_check.specs.declared.claim.GroupClaim.{GroupClaim}
 use Rattle.tt_leaf_rules.specs.Claims.{Target, RoomCapacity, WorkingDays, Compactness, Stability}
 use Rattle.tt_proof_sum.specs.Faults.{IsCalled}
 use Rattle.tt_proof_sum.specs.GroupsFaults.{is_unclaimed, FirstClaimed, IsClaimedBy}

@@ -2,7 +2,7 @@
 
 use std::alloc::Global;
 use std::test::Fail;
-use tt_groups_read::GroupReader;
+use tt_groups_check::GroupReader;
 use tt_instance::Instance;
 use tt_instance_read::read_instance;
 use tt_parts_groups::{GroupSearch, find_groups, write_groups};

@@ -8,11 +8,11 @@ use Rattle.tt_instance.specs.Problem.{Problem}
 use Rattle.tt_leaf_rules.specs.Inner.NumberSet.{place}
 use Rattle.tt_proof_check.specs.Streams.{sizes_of}
 use Rattle.tt_proof_read.specs.Answers.{StaysKnown}
-use Rattle.tt_groups_read.specs.Readers.{Reader}
-use Rattle.tt_groups_read.specs.Reading.{header_at}
-use Rattle.tt_groups_read.specs.Reads.{ReadsClaims}
-use Rattle.tt_groups_read.specs.Spelling.{IsClaim}
-use Rattle.tt_groups_read.specs.declared.claim.GroupClaim.{GroupClaim}
+use Rattle.tt_groups_check.specs.Readers.{Reader}
+use Rattle.tt_groups_check.specs.Reading.{header_at}
+use Rattle.tt_groups_check.specs.Reads.{ReadsClaims}
+use Rattle.tt_groups_check.specs.Spelling.{IsClaim}
+use Rattle.tt_groups_check.specs.declared.claim.GroupClaim.{GroupClaim}
 use Rattle.tt_proof_sum.specs.declared.fault.FileFault.{FileFault}
 use Rattle.tt_proof_sum.specs.declared.fault.FileFault.TheVariants as fault
 use Rattle.tt_proof_sum.specs.declared.groups_fault.GroupsFault.{GroupsFault}

@@ -5,9 +5,9 @@ use Rattle.tt_text.specs.Feeds.{stream_at, room_of}
 use Rattle.tt_proof_read.specs.Faults.{is_failed_read}
 use Rattle.tt_proof_read.specs.declared.fault.TextFault.{TextFault}
 use Rattle.tt_proof_check.proofs.TextFaults.{err_same}
-use Rattle.tt_groups_read.specs.Readers.{Reader, IsReaderAfter, IsReadingOf, GroupAgreesWhenCut, IsClaimAt}
-use Rattle.tt_groups_read.specs.declared.claim.GroupClaim.{GroupClaim}
-use Rattle.tt_groups_read.specs.declared.fault.GroupTextFault.TheVariants.{Text}
+use Rattle.tt_groups_check.specs.Readers.{Reader, IsReaderAfter, IsReadingOf, GroupAgreesWhenCut, IsClaimAt}
+use Rattle.tt_groups_check.specs.declared.claim.GroupClaim.{GroupClaim}
+use Rattle.tt_groups_check.specs.declared.text_fault.GroupTextFault.TheVariants.{Text}
 use Rattle.tt_text.proofs.Stops.{OnFault-weaker, not_read, unread, passed_reads}
 use Rattle.tt_text.specs.declared.stop.Stop.TheVariants.{ReadFailed}
 use Rattle.tt_proof_sum.proofs.FailedReads.{reported_reads, result_reads, reached_read, reached_unread}
