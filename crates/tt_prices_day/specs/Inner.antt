@@ -2,3 +2,4 @@
 pub mod Entries
 pub mod Following
 pub mod Layers
+pub mod Places

@@ -1,2 +1,5 @@
 pub mod Inner
+pub mod Least
 pub mod Shapes
+pub mod Tables
+pub mod Terms

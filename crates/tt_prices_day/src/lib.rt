@@ -2,14 +2,24 @@
 #![tactic(auto)]
 
 mod cheapest;
+mod costs;
 mod days;
 mod entries;
+mod laws;
 mod layer;
+mod least;
 mod letters;
+mod limit;
 mod node;
+mod places;
 mod rules;
 mod shape;
+mod term;
 
 pub use days::list_days;
+pub use laws::terms_are_bounds;
+pub use least::least_sum;
+pub use limit::{MAX_COST, MAX_PRICES, MAX_RENT, MAX_TERM};
 pub use rules::MAX_LECTURES;
 pub use shape::Shape;
+pub use term::{RoomPrices, TermBuffers, term_of};

@@ -17,8 +17,8 @@ use Rattle.tt_groups.specs.Signed.{signed_sum}
 use Rattle.tt_groups.proofs.Signed.{signed_sum-append, signed_sum-same_member}
 use Rattle.tt_prices_day.proofs.Within.{within-more}
 use Rattle.tt_prices_read.specs.Reading.{RoomRents}
-use Rattle.tt_prices_rooms.specs.Tables.{ArePricesOf, AreRentsOf}
-use Rattle.tt_prices_rooms.specs.Terms.{IsTerm}
+use Rattle.tt_prices_day.specs.Tables.{ArePricesOf, AreRentsOf}
+use Rattle.tt_prices_day.specs.Terms.{IsTerm}
 use Rattle.tt_prices_file.specs.Files.{rent_at}
 use Rattle.tt_prices_file.specs.Inner.Rents.{IsRentTable}
 use Rattle.tt_prices_file.specs.Inner.Tables.{number_at, IsPriceTable}

@@ -13,7 +13,7 @@ use Rattle.tt_prices_read.specs.Reading.{Group, RoomRents, Part, GroupPart, Rent
 use Rattle.tt_prices_read.specs.Reads.{ReadsParts}
 use Rattle.tt_prices_read.specs.declared.fault.PricesTextFault.{PricesTextFault}
 use Rattle.tt_prices_read.specs.declared.header.Header.{Header}
-use Rattle.tt_prices_rooms.specs.Terms.{open_slots}
+use Rattle.tt_prices_day.specs.Terms.{open_slots}
 use Rattle.tt_proof_check.specs.Streams.{sizes_of}
 use Rattle.tt_prices_file.specs.Files.{priced, groups_of, curricula_in, courses_in, rented, HasTotal}
 use Rattle.tt_prices_file.specs.declared.fault.PricesFault.{PricesFault}

@@ -10,7 +10,7 @@ use Rattle.tt_groups.specs.Signed.{signed_sum}
 use Rattle.tt_prices_check.specs.Groups.{IsLeast}
 use Rattle.tt_prices_read.specs.Reading.{Group, RoomRents, Part, GroupPart, RentPart}
 use Rattle.tt_prices_read.specs.declared.header.Header.{Header}
-use Rattle.tt_prices_rooms.specs.Terms.{IsTerm}
+use Rattle.tt_prices_day.specs.Terms.{IsTerm}
 
 -- ---- the groups and the rents of a file
 

@@ -3,7 +3,7 @@
 use std::alloc::{AllocError, Global};
 use tt_instance::Instance;
 use tt_prices_read::Rent;
-use tt_prices_rooms::RoomPrices;
+use tt_prices_day::RoomPrices;
 
 /// The rents of all rooms so far, and which rooms have some.
 #[derive(Debug, Drop)]

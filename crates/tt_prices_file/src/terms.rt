@@ -15,7 +15,7 @@ use crate::prices::PriceTable;
 use crate::rents::RentTable;
 use std::alloc::Global;
 use tt_instance::Instance;
-use tt_prices_rooms::{TermBuffers, term_of};
+use tt_prices_day::{TermBuffers, term_of};
 use tt_text::Stop;
 
 /// Returns the terms of all courses, added up.

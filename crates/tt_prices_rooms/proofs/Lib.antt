@@ -1,8 +1,0 @@
-pub mod Bounds
-pub mod Choices
-pub mod Listing
-pub mod Rooms
-pub mod Rows
-pub mod Sums
-pub mod Tables
-pub mod Within

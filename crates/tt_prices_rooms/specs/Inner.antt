@@ -1,2 +1,0 @@
--- Definitions on which no part of the trusted statement rests.
-pub mod Places

@@ -1,4 +1,0 @@
-pub mod Inner
-pub mod Least
-pub mod Tables
-pub mod Terms
