@@ -9,9 +9,9 @@ use Rattle.tt_rules.specs.Hard.{entries_of, lectures_off}
 use Rattle.tt_rules.specs.Soft.{days_of, stability_cost}
 use Rattle.tt_page_text.specs.Shown.{shown}
 use Rattle.tt_page_text.specs.Markup.{markup, counted}
-use Rattle.tt_page_plan.specs.Kinds.{course_name, teacher_of}
-use Rattle.tt_page_plan.specs.Counts.{is_taught_in}
-use Rattle.tt_page_plan.specs.Links.{week_link}
+use Rattle.tt_page_text.specs.Kinds.{course_name, teacher_of}
+use Rattle.tt_page_text.specs.Counts.{is_taught_in}
+use Rattle.tt_page_text.specs.Links.{week_link}
 use Rattle.tt_table.specs.declared.kind.Kind.TheVariants.{Room, Teacher}
 
 -- A room, if the course is taught in it.

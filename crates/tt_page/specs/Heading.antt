@@ -7,7 +7,7 @@ use Rattle.tt_instance.specs.declared.cell.Cell.{Cell}
 use Rattle.tt_rules.specs.Score.{hard, cost}
 use Rattle.tt_page_text.specs.Markup.{markup}
 use Rattle.tt_page_lists.specs.Reasons.{next_course}
-use Rattle.tt_page_plan.specs.Names.{name_text}
+use Rattle.tt_page_text.specs.PlanNames.{name_text}
 use Rattle.tt_page.specs.declared.proved.Proved.{Proved}
 use Rattle.tt_page.specs.declared.proved.Proved.TheVariants.{Unproved, AtLeast, Infeasible, Clique, Slots, KeptAtLeast, NoneKept}
 

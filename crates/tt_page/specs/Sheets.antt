@@ -3,7 +3,7 @@ use Rattle.std.specs.Prelude.{ℕ, false, List, ◌++◌, codes}
 use Rattle.tt_instance.specs.Problem.{Problem}
 use Rattle.tt_instance.specs.declared.cell.Cell.{Cell}
 use Rattle.tt_page_text.specs.Labelled.{Labelled}
-use Rattle.tt_page_plan.specs.Names.{name_text}
+use Rattle.tt_page_text.specs.PlanNames.{name_text}
 use Rattle.tt_page_weeks.specs.Grids.{section_text}
 use Rattle.tt_page_weeks.specs.Named.{named_text}
 use Rattle.tt_page_weeks.specs.Days.{days_text}

@@ -13,8 +13,7 @@ use crate::proved::Proved;
 use tt_changes::Changes;
 use tt_instance::Instance;
 use tt_page_lists::{put_changes, put_cost_table, put_hard_table, put_lists, put_marks};
-use tt_page_plan::{Plan, put_name};
-use tt_page_text::{Labels, Names, PageText, put_token};
+use tt_page_text::{Labels, Names, PageText, Plan, put_name, put_token};
 use tt_rules::Score;
 
 /// What changed since an older timetable.

@@ -2,7 +2,7 @@
 
 use crate::look::Look;
 use crate::sheet::Shown;
-use tt_page_plan::Plan;
+use tt_page_text::Plan;
 use tt_rules::Score;
 
 /// What a page is made of: a timetable, what is shown of it, its score, and how it looks.

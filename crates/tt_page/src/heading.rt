@@ -10,8 +10,7 @@ ghost use Rattle.tt_page.specs.Proofs.{IsProvedOf};
 use crate::proved::Proved;
 use tt_instance::Instance;
 use tt_page_lists::put_next_courses;
-use tt_page_plan::{Plan, put_name};
-use tt_page_text::{PageText, Part, put, put_token};
+use tt_page_text::{PageText, Part, Plan, put, put_name, put_token};
 use tt_rules::Score;
 
 /// The text before the title.

@@ -9,8 +9,7 @@ use crate::heading::{put_head, put_marks};
 use crate::look::Look;
 use crate::proved::Proved;
 use tt_instance::Instance;
-use tt_page_plan::{Plan, put_name};
-use tt_page_text::{Labels, PageText, put_token};
+use tt_page_text::{Labels, PageText, Plan, put_name, put_token};
 use tt_page_weeks::{View, put_days, put_named, put_section};
 use tt_table::Kind;
 

@@ -18,8 +18,8 @@ use Rattle.tt_instance.specs.declared.cell.Cell.{Cell}
 use Rattle.tt_page_lists.specs.Items.{item_head, is_odd, at_odds, odds_count, pair_text, odds_item, odds_text, pairs_item, entry_item, entry_items}
 use Rattle.tt_page_lists.specs.declared.rule.Rule.{Rule}
 use Rattle.tt_page_lists.specs.declared.rule.Rule.TheVariants as rule
-use Rattle.tt_page_plan.proofs.Counting.{filter-filter}
-use Rattle.tt_page_plan.proofs.First.{first-filter}
+use Rattle.tt_page_text.proofs.Counting.{filter-filter}
+use Rattle.tt_page_text.proofs.First.{first-filter}
 
 -- the later entries of an entry's period that break the rule together with it
 pub odds_behind : (p : Problem) (r : Rule) (e : Cell) (later : List Cell) → filter (is_odd p r e) (filter (is_at (slot_of e)) later)

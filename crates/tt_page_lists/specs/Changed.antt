@@ -8,7 +8,7 @@ use Rattle.tt_changes.specs.declared.change.Changes.{Changes}
 use Rattle.tt_page_text.specs.Labelled.{Labelled}
 use Rattle.tt_page_text.specs.Labels.{when_text}
 use Rattle.tt_page_text.specs.Markup.{markup}
-use Rattle.tt_page_plan.specs.Links.{course_link, week_link, when_link}
+use Rattle.tt_page_text.specs.Links.{course_link, week_link, when_link}
 use Rattle.tt_table.specs.declared.kind.Kind.TheVariants.{Room}
 
 -- ---- places

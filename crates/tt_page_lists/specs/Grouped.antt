@@ -9,7 +9,7 @@ use Rattle.tt_instance.specs.declared.cell.Cell.{Cell}
 use Rattle.tt_rules.specs.Soft.{is_isolated, compactness_cost}
 use Rattle.tt_page_text.specs.Markup.{markup}
 use Rattle.tt_page_text.specs.Labelled.{Labelled}
-use Rattle.tt_page_plan.specs.Links.{week_link, when_link}
+use Rattle.tt_page_text.specs.Links.{week_link, when_link}
 use Rattle.tt_table.specs.declared.kind.Kind.TheVariants.{Room, Curriculum}
 use Rattle.tt_page_lists.specs.Items.{item, course_and_teacher, course_item, entry_items}
 use Rattle.tt_page_lists.specs.declared.rule.Rule.{Rule}

@@ -10,8 +10,8 @@ use Rattle.tt_rules.specs.Soft.{days_of, days_cost, stability_cost}
 use Rattle.tt_page_text.specs.Markup.{markup}
 use Rattle.tt_page_text.specs.Labelled.{Labelled}
 use Rattle.tt_page_text.specs.Labels.{when_text}
-use Rattle.tt_page_plan.specs.Kinds.{teacher_of}
-use Rattle.tt_page_plan.specs.Links.{course_link, week_link, cell_link}
+use Rattle.tt_page_text.specs.Kinds.{teacher_of}
+use Rattle.tt_page_text.specs.Links.{course_link, week_link, cell_link}
 use Rattle.tt_table.specs.declared.kind.Kind.TheVariants.{Room, Teacher}
 use Rattle.tt_page_lists.specs.declared.rule.Rule.{Rule}
 use Rattle.tt_page_lists.specs.declared.rule.Rule.TheVariants as rule

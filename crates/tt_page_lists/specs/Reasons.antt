@@ -1,7 +1,7 @@
 -- The reason why every timetable breaks a hard rule, where a broken rule is listed.
 use Rattle.std.specs.Prelude.{ℕ, ◌==◌, List, [], ◌++◌, length, flat_map, codes, if◌then◌else◌}
 use Rattle.tt_instance.specs.Problem.{Problem}
-use Rattle.tt_page_plan.specs.Links.{course_link}
+use Rattle.tt_page_text.specs.Links.{course_link}
 use Rattle.tt_page_lists.specs.Rules.{is_hard}
 use Rattle.tt_page_lists.specs.declared.rule.Rule.{Rule}
 

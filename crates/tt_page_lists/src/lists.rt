@@ -9,8 +9,7 @@ ghost use Rattle.tt_page_lists.specs.Lists.{row_begin, count_row, total_row, rul
 use crate::grouped::put_items;
 use crate::reason::put_reason;
 use crate::rule::Rule;
-use tt_page_plan::Plan;
-use tt_page_text::{Labels, PageText, Part, put, put_token};
+use tt_page_text::{Labels, PageText, Part, Plan, put, put_token};
 use tt_rules::Score;
 
 /// Returns the beginning of a row: a row of a count of 0 has a class of its own.

@@ -7,8 +7,7 @@ ghost use Rattle.tt_page_lists.specs.Reasons.{next_course, courses_line, reason_
 
 use crate::rule::Rule;
 use tt_instance::Instance;
-use tt_page_plan::put_course_link;
-use tt_page_text::{PageText, put_token};
+use tt_page_text::{PageText, put_course_link, put_token};
 
 /// Appends a space and a link to the row of a course.
 #[tactic(auto, using(tt_page_text::proofs::Growing::puts), unfolding(crate::specs::Reasons::next_course))]

@@ -4,7 +4,7 @@ ghost use Rattle.std.specs.Prelude.{◌≡◌};
 ghost use Rattle.tt_rules.specs.Score.{IsScore};
 ghost use Rattle.tt_page_lists.specs.Rules.{rule_count, is_hard, rule_word, rule_title, rule_meaning};
 
-use tt_page_plan::Plan;
+use tt_page_text::Plan;
 use tt_rules::Score;
 
 /// A count of a score.

@@ -1,7 +1,7 @@
 -- Texts of the elements that pass a test.
 use Rattle.std.proofs.Common.{◌≡◌, ℕ, Bool, true, false, List, ◌∷◌, sym, ap, ◌∙◌}
 use Rattle.std.specs.Prelude.{flat_map, filter}
-use Rattle.tt_page_plan.proofs.Passing.{kept, left_out}
+use Rattle.tt_page_text.proofs.Passing.{kept, left_out}
 use Rattle.tt_page_text.specs.Puts.{put_text}
 use Rattle.tt_page_text.specs.Windowed.{PageState}
 use Rattle.tt_page_text.proofs.Growing.{text_ahead}

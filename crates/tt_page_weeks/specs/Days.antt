@@ -8,7 +8,7 @@ use Rattle.tt_instance.specs.declared.cell.Cell.{Cell}
 use Rattle.tt_page_text.specs.Markup.{markup}
 use Rattle.tt_page_text.specs.Labelled.{Labelled}
 use Rattle.tt_page_text.specs.Labels.{day_text, period_text}
-use Rattle.tt_page_plan.specs.Orders.{numbers_of}
+use Rattle.tt_page_text.specs.Orders.{numbers_of}
 use Rattle.tt_table.specs.declared.kind.Kind.TheVariants.{Room}
 use Rattle.tt_page_weeks.specs.Lectures.{lecture_text, week_text}
 use Rattle.tt_page_weeks.specs.Grids.{entries_at, paper_name}

@@ -10,11 +10,11 @@ use Rattle.tt_page_text.specs.Shown.{shown}
 use Rattle.tt_page_text.specs.Markup.{markup}
 use Rattle.tt_page_text.specs.Labelled.{Labelled}
 use Rattle.tt_page_text.specs.Labels.{day_text, period_text, when_text}
-use Rattle.tt_page_plan.specs.Names.{name_text}
+use Rattle.tt_page_text.specs.PlanNames.{name_text}
 use Rattle.tt_table.specs.Kinds.{count_of, name_of, word_of}
-use Rattle.tt_page_plan.specs.Kinds.{course_name, belongs_to, own_courses, caption_of, section_of, title_of}
-use Rattle.tt_page_plan.specs.Orders.{numbers_of}
-use Rattle.tt_page_plan.specs.Links.{week_link}
+use Rattle.tt_page_text.specs.Kinds.{course_name, belongs_to, own_courses, caption_of, section_of, title_of}
+use Rattle.tt_page_text.specs.Orders.{numbers_of}
+use Rattle.tt_page_text.specs.Links.{week_link}
 use Rattle.tt_page_weeks.specs.Lectures.{hue_class, lecture_text}
 use Rattle.tt_table.specs.declared.kind.Kind.{Kind}
 use Rattle.tt_table.specs.declared.kind.Kind.TheVariants.{Room, Curriculum}

@@ -9,8 +9,8 @@ use Rattle.tt_page_text.specs.Shown.{shown}
 use Rattle.tt_page_text.specs.Labelled.{Labelled}
 use Rattle.tt_page_text.specs.Labels.{when_text}
 use Rattle.tt_page_text.specs.Markup.{markup, counted}
-use Rattle.tt_page_plan.specs.Kinds.{course_name, teacher_of, first_curriculum}
-use Rattle.tt_page_plan.specs.Links.{week_link}
+use Rattle.tt_page_text.specs.Kinds.{course_name, teacher_of, first_curriculum}
+use Rattle.tt_page_text.specs.Links.{week_link}
 use Rattle.tt_page_weeks.specs.Marks.{in_conflict, room_taken, repeated, in_other_room}
 use Rattle.tt_page_weeks.specs.declared.hues.TheConstants.{HUES}
 use Rattle.tt_table.specs.Kinds.{name_of}

@@ -6,7 +6,7 @@ use Rattle.tt_text.specs.Texts.{is_text}
 use Rattle.tt_instance.specs.Problem.{Problem}
 use Rattle.tt_instance.specs.declared.cell.Cell.{Cell}
 use Rattle.tt_page_text.specs.Labelled.{Labelled}
-use Rattle.tt_page_plan.specs.Orders.{numbers_of}
+use Rattle.tt_page_text.specs.Orders.{numbers_of}
 use Rattle.tt_page_weeks.specs.Grids.{grid_text}
 use Rattle.tt_table.specs.Kinds.{count_of, name_of}
 use Rattle.tt_table.specs.declared.kind.Kind.{Kind}

@@ -9,8 +9,7 @@ use crate::grids::{put_lectures, put_paper_name};
 use crate::lectures::put_week;
 use crate::view::View;
 use tt_instance::Instance;
-use tt_page_plan::Plan;
-use tt_page_text::{Labels, PageText, Part, put, put_day, put_period, put_token};
+use tt_page_text::{Labels, PageText, Part, Plan, put, put_day, put_period, put_token};
 use tt_table::Kind;
 
 /// Appends the lectures in a room in a period of a day.

@@ -5,7 +5,7 @@ ghost use Rattle.tt_list_laws.specs.Words.{range_below};
 ghost use Rattle.tt_instance.specs.Cells.{InRange};
 ghost use Rattle.tt_page_text.specs.Puts.{put_text};
 ghost use Rattle.tt_table.specs.Kinds.{count_of};
-ghost use Rattle.tt_page_plan.specs.Kinds.{belongs_to};
+ghost use Rattle.tt_page_text.specs.Kinds.{belongs_to};
 ghost use Rattle.tt_page_weeks.specs.Lectures.{lecture_text};
 ghost use Rattle.tt_page_weeks.specs.Grids.{barred_when, barred_course, barred_text, cell_head, cell_text, row_head, row_text, seats_text, grid_head, paper_name, table_head, grid_title, day_head, grid_text, curriculum_of, index_item, section_head, section_text};
 
@@ -14,10 +14,7 @@ use crate::hues::put_hue;
 use crate::lectures::put_lecture;
 use crate::view::View;
 use tt_instance::{Instance, Slot};
-use tt_page_plan::{
-    Plan, caption_of, course_name, is_in_week, put_name, put_week_link, section_of, title_of,
-};
-use tt_page_text::{Labels, PageText, Part, put, put_day, put_period, put_token, put_when};
+use tt_page_text::{Labels, PageText, Part, Plan, caption_of, course_name, is_in_week, put, put_day, put_name, put_period, put_token, put_week_link, put_when, section_of, title_of};
 use tt_table::{Group, Kind};
 
 /// Appends the beginning of the text for a course to which a period is unavailable.

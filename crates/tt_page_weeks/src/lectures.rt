@@ -5,15 +5,14 @@ ghost use Rattle.tt_instance.specs.Cells.{InRange};
 ghost use Rattle.tt_page_text.specs.Puts.{put_text};
 ghost use Rattle.tt_table.specs.Kinds.{count_of};
 ghost use Rattle.tt_table.specs.declared.kind.Kind.TheVariants as kinds;
-ghost use Rattle.tt_page_plan.specs.Kinds.{teacher_of};
+ghost use Rattle.tt_page_text.specs.Kinds.{teacher_of};
 ghost use Rattle.tt_page_weeks.specs.Lectures.{plain_week, week_text, further_text, mark, isolated_mark, marks_text, lecture_head, lecture_when, plain_course, linked_course, lecture_course, lecture_text};
 
 use crate::hues::put_hue;
 use crate::marks::{is_in_conflict, is_in_other_room, is_repeated, is_room_taken};
 use crate::view::View;
 use tt_instance::Instance;
-use tt_page_plan::{Plan, course_name, is_isolated, is_unavailable, put_week_link, teacher_of};
-use tt_page_text::{Labels, PageText, Part, put, put_counted, put_token, put_when};
+use tt_page_text::{Labels, PageText, Part, Plan, course_name, is_isolated, is_unavailable, put, put_counted, put_token, put_week_link, put_when, teacher_of};
 use tt_rules::without_seat;
 use tt_table::{Entry, Kind};
 

@@ -5,7 +5,7 @@ ghost use Rattle.tt_instance.specs.Cells.{InRange};
 ghost use Rattle.tt_page_weeks.specs.Marks.{in_conflict, room_taken, repeated, in_other_room};
 
 use crate::groups::{count_in, count_of, has_conflict_with};
-use tt_page_plan::Plan;
+use tt_page_text::Plan;
 use tt_table::Entry;
 
 /// Checks whether an entry of its period has a course that conflicts with its own.

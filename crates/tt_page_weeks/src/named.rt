@@ -8,8 +8,7 @@ ghost use Rattle.tt_page_weeks.specs.Named.{has_named, has_week, named_grid, nam
 use crate::grids::put_grid;
 use crate::view::View;
 use tt_instance::Instance;
-use tt_page_plan::Plan;
-use tt_page_text::{PageText, put_token};
+use tt_page_text::{PageText, Plan, put_token};
 use tt_table::Kind;
 
 /// Checks whether a room, a teacher or a curriculum has a name.

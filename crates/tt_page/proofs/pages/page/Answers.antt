@@ -1,6 +1,6 @@
 use Rattle.std.proofs.Common.{◌≡◌, ap, subst, sym, ◌∙◌}
 use Rattle.tt_rules.specs.Score.{IsScore}
-use Rattle.tt_page_plan.specs.Planned.{Planned}
+use Rattle.tt_page_text.specs.Planned.{Planned}
 use Rattle.tt_page_text.specs.Puts.{put_text, too_many, window}
 use Rattle.tt_page_text.specs.Windowed.{PageState}
 use Rattle.tt_page_text.specs.declared.page_text.TheConstants.{PAGE_PIECE_BYTES}

@@ -2,7 +2,7 @@ use Rattle.std.proofs.Common.{◌≡◌, true, false, All, subst, sym, ap, ◌�
 use Rattle.std.proofs.lemmas.List.Elements.{All-tail}
 use Rattle.tt_instance.specs.Problem.{Problem}
 use Rattle.tt_instance.specs.Cells.{InRange}
-use Rattle.tt_page_plan.specs.Kinds.{belongs_to}
+use Rattle.tt_page_text.specs.Kinds.{belongs_to}
 use Rattle.tt_page_weeks.specs.Lectures.{lecture_text}
 use Rattle.tt_page_weeks.proofs.Passing.{shown_one, passed_one}
 use Rattle.tt_page_weeks.proofs.grids.put_lectures.Goals as goal

@@ -1,7 +1,7 @@
 use Rattle.std.proofs.Common.{◌≡◌, All}
 use Rattle.std.specs.Prelude.{flat_map, filter}
 use Rattle.tt_instance.specs.Cells.{InRange}
-use Rattle.tt_page_plan.specs.Kinds.{belongs_to}
+use Rattle.tt_page_text.specs.Kinds.{belongs_to}
 use Rattle.tt_page_text.specs.Puts.{put_text}
 use Rattle.tt_page_weeks.specs.Lectures.{lecture_text}
 use Rattle.tt_page_weeks.proofs.grids.put_lectures.Given as goal

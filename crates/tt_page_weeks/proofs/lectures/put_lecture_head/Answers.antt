@@ -1,7 +1,7 @@
 use Rattle.std.proofs.Common.{◌≡◌}
 use Rattle.std.specs.Prelude.{codes}
 use Rattle.tt_page_weeks.specs.Lectures.{hue_class, lecture_head}
-use Rattle.tt_page_plan.specs.Kinds.{first_curriculum}
+use Rattle.tt_page_text.specs.Kinds.{first_curriculum}
 use Rattle.tt_page_text.proofs.Growing.{then_put}
 use Rattle.tt_page_text.specs.Puts.{put_text}
 use Rattle.tt_page_weeks.proofs.lectures.put_lecture_head.Goals as goal

@@ -3,7 +3,7 @@ use Rattle.std.specs.List.{list_any}
 use Rattle.tt_instance.specs.Problem.{Problem}
 use Rattle.tt_instance.specs.Cells.{slot, is_at}
 use Rattle.tt_instance.specs.Courses.{conflict}
-use Rattle.tt_page_plan.proofs.Counting.{any_in_group}
+use Rattle.tt_page_text.proofs.Counting.{any_in_group}
 use Rattle.tt_page_weeks.proofs.marks.is_in_conflict.Goals as goal
 
 pub returns : goal.returns

@@ -1,7 +1,7 @@
 use Rattle.std.proofs.Common.{ap, ◌∙◌}
 use Rattle.std.specs.Prelude.{nat_lt}
 use Rattle.tt_instance.specs.Cells.{slot, is_at, is_in}
-use Rattle.tt_page_plan.proofs.Counting.{count_in_group}
+use Rattle.tt_page_text.proofs.Counting.{count_in_group}
 use Rattle.tt_page_weeks.proofs.marks.is_room_taken.Goals as goal
 
 pub returns : goal.returns
