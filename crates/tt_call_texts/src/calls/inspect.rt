@@ -9,7 +9,7 @@ ghost use Rattle.tt_call_answers.specs.declared.fault.AppFault.TheVariants as fa
 use std::alloc::Global;
 use tt_call_answers::{Answer, AppFault};
 use tt_inspect::{Inspected, inspect_instance, inspect_solution};
-use tt_inspect_faults::{explain_instance, explain_solution};
+use tt_inspect_words::{explain_instance, explain_solution};
 use tt_instance_read::{InstanceFault, read_instance};
 use tt_rules::score;
 use tt_table::{SolutionFault, read_solution};

@@ -5,7 +5,7 @@ use crate::place::{Place, place_of};
 use crate::reason::Reason;
 use std::alloc::AllocError;
 use std::fmt;
-use tt_inspect_words::Name;
+use crate::shown::Name;
 use tt_text::Tokens;
 
 /// The word found at a fault; `None` at the end of the file.

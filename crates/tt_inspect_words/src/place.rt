@@ -2,7 +2,7 @@
 
 ghost use Rattle.std.specs.Prelude.{◌≡◌, length, reverse};
 ghost use Rattle.std.specs.List.{take_while};
-ghost use Rattle.tt_inspect_faults.specs.Places.{is_in_line, line_of, column_of};
+ghost use Rattle.tt_inspect_words.specs.Places.{is_in_line, line_of, column_of};
 
 /// A line and a column, both counted from 1. A column counts bytes.
 #[derive(Clone, Copy, Debug, PartialEq, Eq)]

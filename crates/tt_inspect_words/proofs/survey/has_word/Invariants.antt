@@ -1,5 +1,5 @@
 use Rattle.std.proofs.Common.{length}
-use Rattle.tt_inspect_faults.proofs.survey.has_word.Given as goal
+use Rattle.tt_inspect_words.proofs.survey.has_word.Given as goal
 
 abbrev pub decreases-loop-token : goal.decreases-loop-token
 decreases-loop-token l = length l.tokens

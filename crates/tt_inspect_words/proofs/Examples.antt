@@ -1,6 +1,6 @@
 -- Examples of lines and columns.
 use Rattle.std.proofs.Common.{◌≡◌, [], ◌∷◌, refl}
-use Rattle.tt_inspect_faults.specs.Places.{line_of, column_of}
+use Rattle.tt_inspect_words.specs.Places.{line_of, column_of}
 
 -- a text without bytes has one place
 pub empty : (line_of [] 0 ≡ 1) × (column_of [] 0 ≡ 1)

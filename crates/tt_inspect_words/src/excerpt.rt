@@ -4,7 +4,7 @@ use crate::place::{is_line_feed, place_of};
 use bstr::ByteSlice;
 use std::alloc::AllocError;
 use std::fmt;
-use tt_inspect_words::Shown;
+use crate::shown::Shown;
 
 /// The maximum number of letters of a line that are shown before the mark.
 const MAX_BEFORE: usize = 60;
