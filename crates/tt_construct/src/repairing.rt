@@ -6,7 +6,7 @@ use crate::place::Place;
 use crate::seating::seat;
 use std::alloc::{AllocError, Global};
 use tt_instance::Instance;
-use tt_plans_odds::{CERTAIN, Dice, Heat, POINT, logarithm};
+use tt_plans_tables::{CERTAIN, Dice, Heat, POINT, logarithm};
 
 /// The maximum number of attempts, of which each has twice as many steps as the one before.
 const MOST_ATTEMPTS: u32 = 6;

@@ -3,7 +3,7 @@
 use crate::scale::Load;
 use crate::schedule::Part;
 use tt_plans::DAY_COST;
-use tt_plans_odds::{CERTAIN, Dice, Heat, NAT, POINT, logarithm};
+use tt_plans_tables::{CERTAIN, Dice, Heat, NAT, POINT, logarithm};
 
 /// The number of rounds after which the temperature is set again.
 pub const ROUNDS: u64 = 40;

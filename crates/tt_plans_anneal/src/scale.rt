@@ -1,7 +1,7 @@
 //! How the search follows the number of curricula of a course.
 
 use tt_plans::Facts;
-use tt_plans_odds::{Heat, POINT};
+use tt_plans_tables::{Heat, POINT};
 
 /// The number of units of a load of 1.
 const UNIT: u64 = 1_024;

@@ -3,8 +3,7 @@
 use crate::matching::Matching;
 use std::alloc::{AllocError, Global};
 use tt_plans::{CLASH_COST, DAY_COST, Facts, Plan};
-use tt_plans_odds::POINT;
-use tt_plans_tables::{Counts, put};
+use tt_plans_tables::{Counts, POINT, put};
 
 /// The weight of a missing seat.
 const SEAT: i32 = 8;

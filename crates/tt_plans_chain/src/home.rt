@@ -1,7 +1,7 @@
 //! New homes.
 
 use tt_plans::{CLASH_COST, Facts, Plan};
-use tt_plans_odds::POINT;
+use tt_plans_tables::POINT;
 
 /// Returns how many more lectures of a course have a home that is taken, once the course moves from one room to another.
 fn more_clashes(facts: &Facts, plan: &Plan<'_, '_>, course: usize, from: usize, to: usize) -> i64 {

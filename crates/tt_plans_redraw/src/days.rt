@@ -5,8 +5,7 @@ use crate::ends::Ends;
 use crate::group::Group;
 use std::alloc::{AllocError, Global};
 use tt_plans::Facts;
-use tt_plans_odds::{Dice, Heat};
-use tt_plans_tables::put;
+use tt_plans_tables::{Dice, Heat, put};
 
 /// The maximum number of patterns of a day.
 const MOST_PATTERNS: usize = 5_000;

@@ -1,7 +1,7 @@
 //! The courses whose lectures are drawn again.
 
 use tt_plans::Facts;
-use tt_plans_odds::Dice;
+use tt_plans_tables::Dice;
 
 /// The maximum number of courses of a group.
 pub const MOST_MEMBERS: usize = 3;

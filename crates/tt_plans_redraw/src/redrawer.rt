@@ -8,8 +8,7 @@ use crate::weeks::{LONGEST_WAIT, Limits, Weeks};
 use std::alloc::{AllocError, Global};
 use tt_instance::Instance;
 use tt_plans::{CLASH_COST, Facts, ISOLATION_COST, Plan, isolated_on};
-use tt_plans_odds::{Dice, Heat};
-use tt_plans_tables::put;
+use tt_plans_tables::{Dice, Heat, put};
 
 /// Draws the lectures of a few courses again.
 #[derive(Drop)]

@@ -4,8 +4,7 @@ use crate::days::{Days, Vector};
 use crate::group::{Group, MOST_STATES};
 use std::alloc::{AllocError, Global};
 use tt_plans::Facts;
-use tt_plans_odds::{Dice, NAT};
-use tt_plans_tables::put;
+use tt_plans_tables::{Dice, NAT, put};
 
 /// The wait after which nothing is drawn: what is a thousand times less likely than the present plan isn't worth the time.
 pub const LONGEST_WAIT: i64 = 7 * NAT as i64;

@@ -5,7 +5,7 @@ ghost use Rattle.std.specs.Prelude.{◌≡◌, map};
 use crate::prices::{Prices, Shift};
 use tt_moves::{Step, apply, can_step, change};
 use tt_occupancy::Occupied;
-use tt_plans_odds::Dice;
+use tt_plans_tables::Dice;
 use tt_table::Entry;
 
 /// One of this many draws goes to where the older timetable has the entry.

@@ -2,7 +2,7 @@
 
 use std::alloc::{AllocError, Global};
 use tt_instance::Instance;
-use tt_plans_odds::Dice;
+use tt_plans_tables::Dice;
 use crate::prices::Shift;
 use tt_table::Entry;
 use tt_wishes::Place;

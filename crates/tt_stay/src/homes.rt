@@ -4,7 +4,7 @@ use crate::prices::{Prices, Shift};
 use crate::stay::Stay;
 use std::alloc::{AllocError, Global};
 use tt_instance::Instance;
-use tt_plans_odds::Dice;
+use tt_plans_tables::Dice;
 use tt_table::Entry;
 
 /// Where the lectures of each course were, and what it costs to leave these places.

@@ -1,6 +1,6 @@
 //! Prices of the entries' places.
 
-use tt_plans_odds::Dice;
+use tt_plans_tables::Dice;
 use tt_table::Entry;
 
 /// An entry that goes to another place.

@@ -11,7 +11,7 @@ use crate::stay::Search;
 use std::alloc::{AllocError, Global};
 use tt_instance::Instance;
 use tt_occupancy::Occupied;
-use tt_plans_odds::Dice;
+use tt_plans_tables::Dice;
 use tt_table::Timetable;
 use tt_watch::{Progress, Unit, Watch};
 

@@ -4,7 +4,7 @@ use crate::holds::Holds;
 use crate::places::PlacePrices;
 use std::alloc::{AllocError, Global};
 use tt_instance::Instance;
-use tt_plans_odds::Dice;
+use tt_plans_tables::Dice;
 use crate::homes::Homes;
 use crate::prices::{Prices, Shift};
 use tt_table::{Entry, Timetable};
