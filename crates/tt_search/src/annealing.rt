@@ -8,7 +8,7 @@ ghost use Rattle.tt_walk.specs.Inner.Pairs.{IsBest};
 
 use crate::planning::make_steps;
 use crate::restoring::restore;
-use tt_plans_anneal::Annealing;
+use crate::slow_cooling::Annealing;
 use tt_table::Entry;
 use tt_walk::{Span, Standing};
 use tt_watch::Watch;

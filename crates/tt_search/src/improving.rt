@@ -15,7 +15,7 @@ use std::alloc::{AllocError, Global};
 use tt_instance::Instance;
 use tt_moves::descend_in;
 use tt_occupancy::Occupied;
-use tt_plans_anneal::{Annealing, can_anneal};
+use crate::slow_cooling::{Annealing, can_anneal};
 use tt_replan::{Replanner, can_replan};
 use tt_table::Timetable;
 use tt_walk::{Cooling, Schedule, Span, Standing, Walker, is_settled, phases_for, samples, walk};
