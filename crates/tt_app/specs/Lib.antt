@@ -2,7 +2,7 @@ pub use Rattle.tt_call_answers.specs.FaultMaps
 pub use Rattle.tt_call_answers.specs.Lines
 pub use Rattle.tt_call_answers.specs.Refusals
 pub use Rattle.tt_call_answers.specs.Sums
-pub use Rattle.tt_call_changes.specs.Changed
+pub use Rattle.tt_call_checks.specs.Changed
 pub use Rattle.tt_call_checks.specs.Bounded
 pub use Rattle.tt_call_checks.specs.Checked
 pub use Rattle.tt_call_checks.specs.Rewritten

@@ -2,7 +2,7 @@
 #![tactic(auto)]
 
 pub use tt_call_answers::{Answer, AppFault, PageNames, UNNAMED};
-pub use tt_call_changes::{
+pub use tt_call_checks::{
     ChangedForm, ChangedPageFault, ChangedTexts, ChangesFault, changed_page, changes,
 };
 pub use tt_call_checks::{bound, check, check_sum, sum, upgrade, validate};

@@ -1,10 +1,12 @@
 pub mod Adding
 pub mod AddingBoth
 pub mod Answering
+pub mod ChangesRefused
 pub mod Checked
 pub mod DerivedBounds
 pub mod Holding
 pub mod Refused
 pub mod Rewriting
 pub mod Summed
+pub mod Telling
 pub mod Validating

@@ -1,6 +1,9 @@
 pub mod Bounded
+pub mod Changed
+pub mod ChangedPaged
 pub mod Checked
 pub mod Kept
 pub mod Rewritten
+pub mod Said
 pub mod Summed
 pub mod Validated

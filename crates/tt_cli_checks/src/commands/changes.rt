@@ -1,6 +1,6 @@
 //! The files of `report --changes`.
 
-use tt_call_changes::changes;
+use tt_call_checks::changes;
 use tt_cli_arguments::ChangesRequest;
 use tt_cli_progress::{ShownLines, World};
 use tt_cli_saving::{CommandFault, Input, Inputs, Reply};

@@ -1,7 +1,7 @@
 //! The reasons why the changes of a timetable aren't found.
 
 ghost use Rattle.std.specs.Prelude.{◌≡◌};
-ghost use Rattle.tt_call_changes.specs.Changed.{fault_from_older};
+ghost use Rattle.tt_call_checks.specs.Changed.{fault_from_older};
 
 use std::alloc::AllocError;
 use thiserror::Error;
@@ -36,7 +36,7 @@ impl ChangesFault {
 
 impl From<AllocError> for ChangesFault {
     ghost use Rattle.std.specs.Prelude.{◌≡◌};
-    ghost use Rattle.tt_call_changes.specs.declared.fault.ChangesFault.TheVariants as fault;
+    ghost use Rattle.tt_call_checks.specs.declared.changes_fault.ChangesFault.TheVariants as fault;
 
     ghost from_gives = { λ _ e. e ≡ fault.OutOfMemory };
 
@@ -47,7 +47,7 @@ impl From<AllocError> for ChangesFault {
 
 impl From<InstanceFault> for ChangesFault {
     ghost use Rattle.std.specs.Prelude.{◌≡◌};
-    ghost use Rattle.tt_call_changes.specs.Changed.{fault_from_instance};
+    ghost use Rattle.tt_call_checks.specs.Changed.{fault_from_instance};
 
     ghost from_gives = { λ f e. e ≡ fault_from_instance f };
 
@@ -61,7 +61,7 @@ impl From<InstanceFault> for ChangesFault {
 
 impl From<SolutionFault> for ChangesFault {
     ghost use Rattle.std.specs.Prelude.{◌≡◌};
-    ghost use Rattle.tt_call_changes.specs.Changed.{fault_from_solution};
+    ghost use Rattle.tt_call_checks.specs.Changed.{fault_from_solution};
 
     ghost from_gives = { λ f e. e ≡ fault_from_solution f };
 

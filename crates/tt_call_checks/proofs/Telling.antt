@@ -30,10 +30,10 @@ use Rattle.tt_call_answers.specs.FaultMaps.{fault_from_labels, fault_from_page, 
 use Rattle.tt_call_answers.specs.Refusals as refusals
 use Rattle.tt_call_answers.specs.declared.fault.AppFault.{AppFault}
 use Rattle.tt_call_answers.specs.declared.fault.AppFault.TheVariants as app
-use Rattle.tt_call_changes.specs.ChangedPaged.{AreSpelled, IsChangedPage, IsChangedPageRefusal, IsBeforeProofs, IsUnwritten, fault_from_older, is_failed_write, is_failed_read_at}
-use Rattle.tt_call_changes.specs.Said.{IsSaid, IsSumRefusal}
-use Rattle.tt_call_changes.specs.declared.calls.changed_page.ChangedForm.{ChangedForm}
-use Rattle.tt_call_changes.specs.declared.page_fault.ChangedPageFault.TheVariants as fault
+use Rattle.tt_call_checks.specs.ChangedPaged.{AreSpelled, IsChangedPage, IsChangedPageRefusal, IsBeforeProofs, IsUnwritten, fault_from_older, is_failed_write, is_failed_read_at}
+use Rattle.tt_call_checks.specs.Said.{IsSaid, IsSumRefusal}
+use Rattle.tt_call_checks.specs.declared.calls.changed_page.ChangedForm.{ChangedForm}
+use Rattle.tt_call_checks.specs.declared.page_fault.ChangedPageFault.TheVariants as fault
 
 -- ---- the sum of the proofs
 

@@ -4,10 +4,10 @@ use Rattle.tt_page.specs.Pages.{changed_text}
 use Rattle.tt_proof_sum.specs.Added.{Give}
 use Rattle.tt_call_answers.specs.FaultMaps.{fault_from_instance, fault_from_solution, fault_from_labels, fault_from_page}
 use Rattle.tt_call_answers.proofs.FailedReads.{passed, calm, unread, instance_read_at, solution_read_at, labels_read_at, page_read_at, instance_write, solution_write, labels_write, page_write}
-use Rattle.tt_call_changes.specs.ChangedPaged.{is_failed_write, is_failed_read_at}
-use Rattle.tt_call_changes.specs.declared.page_fault.ChangedPageFault.TheVariants as fault
-use Rattle.tt_call_changes.proofs.Telling.{sum_write, sum_after, older_write, older_read_at, page_after, page_unwritten, older_tells, names_tell, sum_tells, the_page, page_tells}
-use Rattle.tt_call_changes.proofs.calls.changed_page.changed_page.Goals as goal
+use Rattle.tt_call_checks.specs.ChangedPaged.{is_failed_write, is_failed_read_at}
+use Rattle.tt_call_checks.specs.declared.page_fault.ChangedPageFault.TheVariants as fault
+use Rattle.tt_call_checks.proofs.Telling.{sum_write, sum_after, older_write, older_read_at, page_after, page_unwritten, older_tells, names_tell, sum_tells, the_page, page_tells}
+use Rattle.tt_call_checks.proofs.calls.changed_page.changed_page.Goals as goal
 
 -- ---- the older solution is refused
 

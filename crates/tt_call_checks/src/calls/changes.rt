@@ -4,10 +4,10 @@ ghost use Rattle.std.specs.Prelude.{◌≡◌, List, IfOk, IfErr, MatchResult, �
 ghost use Rattle.tt_instance.specs.Problem.{Problem};
 ghost use Rattle.tt_instance.specs.declared.cell.Cell.{Cell};
 ghost use Rattle.tt_table.specs.Spelling.{SpellsBoth};
-ghost use Rattle.tt_call_changes.specs.Changed.{IsChangesText, IsChangesRefusal};
-ghost use Rattle.tt_call_changes.specs.declared.fault.ChangesFault.TheVariants as fault;
+ghost use Rattle.tt_call_checks.specs.Changed.{IsChangesText, IsChangesRefusal};
+ghost use Rattle.tt_call_checks.specs.declared.changes_fault.ChangesFault.TheVariants as fault;
 
-use crate::fault::ChangesFault;
+use crate::changes_fault::ChangesFault;
 use std::alloc::Global;
 use tt_changes::{find_changes, write_changes};
 use tt_instance_read::read_instance;

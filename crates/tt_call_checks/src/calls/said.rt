@@ -10,7 +10,7 @@ ghost use Rattle.tt_proof_sum.specs.Faults.{all_points};
 ghost use Rattle.tt_proof_sum.specs.Sums.{IsSum};
 ghost use Rattle.tt_call_answers.specs.FaultMaps.{HoldsNoStop};
 ghost use Rattle.tt_call_answers.specs.Refusals.{IsSilentRefusal, is_failed_read_at};
-ghost use Rattle.tt_call_changes.specs.Said.{IsSaid, IsSumRefusal};
+ghost use Rattle.tt_call_checks.specs.Said.{IsSaid, IsSumRefusal};
 
 use std::alloc::Global;
 use tt_call_answers::{AppFault, explain_bound};

@@ -12,9 +12,9 @@ use Rattle.tt_table.specs.Spelling.{SpellsBoth}
 use Rattle.tt_table.specs.declared.fault.SolutionFault.{SolutionFault}
 use Rattle.tt_table.specs.declared.fault.SolutionFault.TheVariants as solution
 use Rattle.tt_table.proofs.EntryLaws.{solution_read}
-use Rattle.tt_call_changes.specs.Changed.{IsChangesRefusal, fault_from_instance, fault_from_solution, fault_from_older}
-use Rattle.tt_call_changes.specs.declared.fault.ChangesFault.{ChangesFault}
-use Rattle.tt_call_changes.specs.declared.fault.ChangesFault.TheVariants as fault
+use Rattle.tt_call_checks.specs.Changed.{IsChangesRefusal, fault_from_instance, fault_from_solution, fault_from_older}
+use Rattle.tt_call_checks.specs.declared.changes_fault.ChangesFault.{ChangesFault}
+use Rattle.tt_call_checks.specs.declared.changes_fault.ChangesFault.TheVariants as fault
 
 -- an error of the instance is reported
 pub tells_instance : (i s o : List ℕ) (f : InstanceFault) → Fails f (instance_of i) → IsChangesRefusal i s o (fault_from_instance f)

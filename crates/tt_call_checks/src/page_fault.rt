@@ -1,7 +1,7 @@
 //! The reasons why a page with what changed isn't written.
 
 ghost use Rattle.std.specs.Prelude.{◌≡◌};
-ghost use Rattle.tt_call_changes.specs.ChangedPaged.{fault_from_older};
+ghost use Rattle.tt_call_checks.specs.ChangedPaged.{fault_from_older};
 
 use std::alloc::AllocError;
 use thiserror::Error;
@@ -36,7 +36,7 @@ impl ChangedPageFault {
 
 impl From<AppFault> for ChangedPageFault {
     ghost use Rattle.std.specs.Prelude.{◌≡◌};
-    ghost use Rattle.tt_call_changes.specs.declared.page_fault.ChangedPageFault.TheVariants as fault;
+    ghost use Rattle.tt_call_checks.specs.declared.page_fault.ChangedPageFault.TheVariants as fault;
 
     ghost from_gives = { λ f e. e ≡ fault.Call f };
 
@@ -48,7 +48,7 @@ impl From<AppFault> for ChangedPageFault {
 impl From<AllocError> for ChangedPageFault {
     ghost use Rattle.std.specs.Prelude.{◌≡◌};
     ghost use Rattle.tt_call_answers.specs.declared.fault.AppFault.TheVariants as app;
-    ghost use Rattle.tt_call_changes.specs.declared.page_fault.ChangedPageFault.TheVariants as fault;
+    ghost use Rattle.tt_call_checks.specs.declared.page_fault.ChangedPageFault.TheVariants as fault;
 
     ghost from_gives = { λ _ e. e ≡ fault.Call app.OutOfMemory };
 
@@ -60,7 +60,7 @@ impl From<AllocError> for ChangedPageFault {
 impl From<InstanceFault> for ChangedPageFault {
     ghost use Rattle.std.specs.Prelude.{◌≡◌};
     ghost use Rattle.tt_call_answers.specs.FaultMaps.{fault_from_instance};
-    ghost use Rattle.tt_call_changes.specs.declared.page_fault.ChangedPageFault.TheVariants as fault;
+    ghost use Rattle.tt_call_checks.specs.declared.page_fault.ChangedPageFault.TheVariants as fault;
 
     ghost from_gives = { λ f e. e ≡ fault.Call (fault_from_instance f) };
 
@@ -72,7 +72,7 @@ impl From<InstanceFault> for ChangedPageFault {
 impl From<SolutionFault> for ChangedPageFault {
     ghost use Rattle.std.specs.Prelude.{◌≡◌};
     ghost use Rattle.tt_call_answers.specs.FaultMaps.{fault_from_solution};
-    ghost use Rattle.tt_call_changes.specs.declared.page_fault.ChangedPageFault.TheVariants as fault;
+    ghost use Rattle.tt_call_checks.specs.declared.page_fault.ChangedPageFault.TheVariants as fault;
 
     ghost from_gives = { λ f e. e ≡ fault.Call (fault_from_solution f) };
 
@@ -84,7 +84,7 @@ impl From<SolutionFault> for ChangedPageFault {
 impl From<LabelsFault> for ChangedPageFault {
     ghost use Rattle.std.specs.Prelude.{◌≡◌};
     ghost use Rattle.tt_call_answers.specs.FaultMaps.{fault_from_labels};
-    ghost use Rattle.tt_call_changes.specs.declared.page_fault.ChangedPageFault.TheVariants as fault;
+    ghost use Rattle.tt_call_checks.specs.declared.page_fault.ChangedPageFault.TheVariants as fault;
 
     ghost from_gives = { λ f e. e ≡ fault.Call (fault_from_labels f) };
 
@@ -96,7 +96,7 @@ impl From<LabelsFault> for ChangedPageFault {
 impl From<PageFault> for ChangedPageFault {
     ghost use Rattle.std.specs.Prelude.{◌≡◌};
     ghost use Rattle.tt_call_answers.specs.FaultMaps.{fault_from_page};
-    ghost use Rattle.tt_call_changes.specs.declared.page_fault.ChangedPageFault.TheVariants as fault;
+    ghost use Rattle.tt_call_checks.specs.declared.page_fault.ChangedPageFault.TheVariants as fault;
 
     ghost from_gives = { λ f e. e ≡ fault.Call (fault_from_page f) };
 

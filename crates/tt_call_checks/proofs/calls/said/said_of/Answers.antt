@@ -9,8 +9,8 @@ use Rattle.tt_call_answers.specs.Refusals.{is_failed_read_at}
 use Rattle.tt_call_answers.proofs.FailedReads.{passed, unread, sum_read}
 use Rattle.tt_call_answers.proofs.ReportedMemory.{lower_sum}
 use Rattle.tt_call_answers.proofs.Sums.{silent_refusal}
-use Rattle.tt_call_changes.proofs.Telling.{stops_sum}
-use Rattle.tt_call_changes.proofs.calls.said.said_of.Goals as goal
+use Rattle.tt_call_checks.proofs.Telling.{stops_sum}
+use Rattle.tt_call_checks.proofs.calls.said.said_of.Goals as goal
 
 -- there are proofs
 not_empty : (n : ℕ) → (n == 0) ≡ false → 0 < n

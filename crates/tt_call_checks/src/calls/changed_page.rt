@@ -3,7 +3,7 @@
 ghost use Rattle.std.specs.Prelude.{◌≡◌, ◌+◌, ℕ, Some, true, if◌then◌else◌, length, IfOk, IfErr, slice_get, slice_index_or};
 ghost use Rattle.tt_text.specs.Failures.{is_err_and};
 ghost use Rattle.tt_proof_sum.specs.Added.{Give};
-ghost use Rattle.tt_call_changes.specs.ChangedPaged.{IsChangedPaged, IsChangedPageRefusal, IsBeforeProofs, IsUnwritten, is_failed_write, is_failed_read_at};
+ghost use Rattle.tt_call_checks.specs.ChangedPaged.{IsChangedPaged, IsChangedPageRefusal, IsBeforeProofs, IsUnwritten, is_failed_write, is_failed_read_at};
 
 use crate::calls::said::said_of;
 use crate::page_fault::ChangedPageFault;

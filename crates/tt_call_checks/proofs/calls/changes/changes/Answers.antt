@@ -2,8 +2,8 @@ use Rattle.std.proofs.Common.{ℕ, length, ap, ◌∙◌}
 use Rattle.std.proofs.lemmas.Result.{err_from_is_err_and}
 use Rattle.tt_changes.specs.Counts.{moved_count}
 use Rattle.tt_changes.specs.Lines.{changes_text}
-use Rattle.tt_call_changes.proofs.Refused.{tells_instance, tells_solution, tells_older, only_memory}
-use Rattle.tt_call_changes.proofs.calls.changes.changes.Goals as goal
+use Rattle.tt_call_checks.proofs.ChangesRefused.{tells_instance, tells_solution, tells_older, only_memory}
+use Rattle.tt_call_checks.proofs.calls.changes.changes.Goals as goal
 
 pub returns-in_err-instance-clause-only : goal.returns-in_err-instance-clause-only
 returns-in_err-instance-clause-only c =

@@ -18,15 +18,15 @@ use Rattle.tt_page_text.specs.Puts.{IsTooLarge}
 use Rattle.tt_page_text.specs.declared.fault.LabelsFault.{LabelsFault}
 use Rattle.tt_page_text.specs.declared.fault.LabelsFault.TheVariants as labels
 use Rattle.tt_proof_check.specs.Verdicts.{FailsSolution}
-use Rattle.tt_call_changes.specs.Changed.{FailsOlder}
+use Rattle.tt_call_checks.specs.Changed.{FailsOlder}
 use Rattle.tt_call_answers.specs.Names.{labels_for}
 use Rattle.tt_call_answers.specs.Refusals as refusals
 use Rattle.tt_call_answers.specs.declared.fault.AppFault.{AppFault}
 use Rattle.tt_call_answers.specs.declared.fault.AppFault.TheVariants as app
-use Rattle.tt_call_changes.specs.Said.{IsSaid, IsSumRefusal}
-use Rattle.tt_call_changes.specs.declared.calls.changed_page.ChangedForm.{ChangedForm}
-use Rattle.tt_call_changes.specs.declared.page_fault.ChangedPageFault.{ChangedPageFault}
-use Rattle.tt_call_changes.specs.declared.page_fault.ChangedPageFault.TheVariants as fault
+use Rattle.tt_call_checks.specs.Said.{IsSaid, IsSumRefusal}
+use Rattle.tt_call_checks.specs.declared.calls.changed_page.ChangedForm.{ChangedForm}
+use Rattle.tt_call_checks.specs.declared.page_fault.ChangedPageFault.{ChangedPageFault}
+use Rattle.tt_call_checks.specs.declared.page_fault.ChangedPageFault.TheVariants as fault
 
 -- The fault of a call for a fault of the older solution.
 abbrev pub fault_from_older : SolutionFault → ChangedPageFault

@@ -14,8 +14,8 @@ use Rattle.tt_changes.specs.Counts.{moved_count, rooms_count}
 use Rattle.tt_changes.specs.Lists.{IsChanges}
 use Rattle.tt_changes.specs.Lines.{changes_text}
 use Rattle.tt_changes.specs.declared.change.Changes.{Changes}
-use Rattle.tt_call_changes.specs.declared.fault.ChangesFault.{ChangesFault}
-use Rattle.tt_call_changes.specs.declared.fault.ChangesFault.TheVariants as fault
+use Rattle.tt_call_checks.specs.declared.changes_fault.ChangesFault.{ChangesFault}
+use Rattle.tt_call_checks.specs.declared.changes_fault.ChangesFault.TheVariants as fault
 
 -- The fault of a call for a fault of the reader of instances.
 abbrev pub fault_from_instance : InstanceFault → ChangesFault
