@@ -13,6 +13,10 @@ mod lists;
 mod reader;
 mod rents;
 mod rows;
+mod tests;
+mod writing;
+mod written_amounts;
+mod written_items;
 
 pub use fault::{HeaderWord, PricesTextFault};
 pub use format::{MAX_AMOUNT, MAX_SCALE};
@@ -20,3 +24,6 @@ pub use header::Header;
 pub use item::{Item, Rent};
 pub use laws::read_prices_are_spelled;
 pub use reader::PricesReader;
+pub use writing::write_prices;
+
+#[cfg(test)]

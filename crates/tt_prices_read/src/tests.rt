@@ -4,7 +4,8 @@ use crate::write_prices;
 use std::alloc::{AllocError, Global};
 use std::test::Fail;
 use tt_groups::{PriceRow, PricedGroup};
-use tt_prices_read::{Header, Rent};
+use crate::header::Header;
+use crate::item::Rent;
 
 /// A group with each way in which a row can be shortened, and one of nothing.
 const GROUPS: &str =

@@ -1,9 +1,10 @@
 //! The text of a file of groups with prices.
 
-use crate::items::{put_group, put_rent};
+use crate::written_items::{put_group, put_rent};
 use std::alloc::{AllocError, Global};
 use tt_groups::PricedGroup;
-use tt_prices_read::{Header, Rent};
+use crate::header::Header;
+use crate::item::Rent;
 use tt_text::{put_line_end, put_next_number, put_next_token, put_token};
 
 /// The version of the format.

@@ -1,9 +1,9 @@
 //! Single groups, and the rents of single rooms.
 
-use crate::amounts::Runs;
+use crate::written_amounts::Runs;
 use std::alloc::AllocError;
 use tt_groups::{PriceRow, PricedGroup};
-use tt_prices_read::Rent;
+use crate::item::Rent;
 use tt_text::{put_line_end, put_next_token, put_number, put_token};
 
 /// Writes numbers after a letter, as in q0, and the end of their list.
