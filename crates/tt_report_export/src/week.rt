@@ -6,7 +6,7 @@ ghost use Rattle.tt_report_export.specs.Weeks.{IsWeek, IsWeekOf, names_by, belon
 
 use crate::names::{name_of_teacher, teacher_of};
 use tt_instance::Instance;
-use tt_report::By;
+use tt_table::Kind as By;
 use tt_table::Entry;
 
 /// The room, teacher or curriculum whose week a calendar shows, by number.
