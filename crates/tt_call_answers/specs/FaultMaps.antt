@@ -20,8 +20,8 @@ use Rattle.tt_page_text.specs.declared.fault.LabelsFault.{LabelsFault}
 use Rattle.tt_page_text.specs.declared.fault.LabelsFault.TheVariants as labels
 use Rattle.tt_proof_sum.specs.Faults as sums
 use Rattle.tt_proof_sum.specs.declared.fault.FileFault.{FileFault}
-use Rattle.tt_report_export.specs.declared.term.TermFault.{TermFault}
-use Rattle.tt_report_export.specs.declared.term.TermFault.TheVariants as term
+use Rattle.tt_report.specs.declared.term.TermFault.{TermFault}
+use Rattle.tt_report.specs.declared.term.TermFault.TheVariants as term
 use Rattle.tt_call_answers.specs.declared.fault.AppFault.{AppFault}
 use Rattle.tt_call_answers.specs.declared.fault.AppFault.TheVariants as fault
 use Rattle.tt_proof_sum.specs.declared.fault.SumStop.{SumStop}

@@ -9,7 +9,7 @@ use tt_page_text::LabelsFault;
 use tt_proof_check::{CertifyFault, CheckFault};
 use tt_proof_sum::{FileFault, SumStop};
 use tt_proof_upgrade::UpgradeFault;
-use tt_report_export::TermFault;
+use tt_report::TermFault;
 use tt_table::SolutionFault;
 use tt_text::{Stop, WriteFailed};
 

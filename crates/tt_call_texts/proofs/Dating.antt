@@ -6,11 +6,11 @@ use Rattle.tt_instance.specs.Problem.{Problem}
 use Rattle.tt_instance.specs.Spelling.{Spells}
 use Rattle.tt_instance_read.proofs.Laws.{spelled_once}
 use Rattle.tt_table.specs.declared.kind.Kind.{Kind as By}
-use Rattle.tt_report_export.specs.Terms.{ExplainsTerm, IsFirstOf}
-use Rattle.tt_report_export.specs.Times.{AreTimesOf}
-use Rattle.tt_report_export.specs.Weeks.{names_by}
-use Rattle.tt_report_export.specs.declared.term.TermFault.{TermFault}
-use Rattle.tt_report_export.specs.declared.term.TermFault.TheVariants as term
+use Rattle.tt_report.specs.Terms.{ExplainsTerm, IsFirstOf}
+use Rattle.tt_report.specs.Times.{AreTimesOf}
+use Rattle.tt_report.specs.Weeks.{names_by}
+use Rattle.tt_report.specs.declared.term.TermFault.{TermFault}
+use Rattle.tt_report.specs.declared.term.TermFault.TheVariants as term
 use Rattle.tt_call_answers.specs.FaultMaps.{fault_from_term}
 use Rattle.tt_call_answers.specs.declared.fault.AppFault.{AppFault}
 use Rattle.tt_call_answers.specs.declared.fault.AppFault.TheVariants as fault

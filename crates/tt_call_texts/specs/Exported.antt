@@ -5,15 +5,15 @@ use Rattle.tt_instance.specs.Spelling.{Spells}
 use Rattle.tt_instance_read.specs.Reading.{instance_of}
 use Rattle.tt_instance.specs.declared.cell.Cell.{Cell}
 use Rattle.tt_table.specs.declared.kind.Kind.{Kind as By}
-use Rattle.tt_report_export.specs.Tables.{table_text}
-use Rattle.tt_report_export.specs.Calendars.{Term, calendar_text}
+use Rattle.tt_report.specs.Tables.{table_text}
+use Rattle.tt_report.specs.Calendars.{Term, calendar_text}
 use Rattle.jiff.specs.Types.{Date}
-use Rattle.tt_report_export.specs.Terms.{IsTermFrom, IsFirstOf, ExplainsTerm}
-use Rattle.tt_report_export.specs.Times.{AreTimesOf}
-use Rattle.tt_report_export.specs.Weeks.{IsWeekOf, names_by}
-use Rattle.tt_report_export.specs.declared.term.TermFault.{TermFault}
-use Rattle.tt_report_export.specs.declared.term.TermFault.TheVariants as term
-use Rattle.tt_report_export.specs.declared.week.Week.{Week}
+use Rattle.tt_report.specs.Terms.{IsTermFrom, IsFirstOf, ExplainsTerm}
+use Rattle.tt_report.specs.Times.{AreTimesOf}
+use Rattle.tt_report.specs.Weeks.{IsWeekOf, names_by}
+use Rattle.tt_report.specs.declared.term.TermFault.{TermFault}
+use Rattle.tt_report.specs.declared.term.TermFault.TheVariants as term
+use Rattle.tt_report.specs.declared.week.Week.{Week}
 use Rattle.tt_table.specs.Spelling.{SpellsBoth}
 use Rattle.tt_proof_check.specs.Verdicts.{FailsSolution}
 use Rattle.tt_call_answers.specs.declared.answer.Answer.{Answer}

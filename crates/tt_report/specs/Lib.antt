@@ -1,4 +1,11 @@
+pub mod Calendars
+pub mod ExportNames
+pub mod Folding
 pub mod Inner
 pub mod Names
 pub mod Puts
 pub mod Reports
+pub mod Tables
+pub mod Terms
+pub mod Times
+pub mod Weeks

@@ -8,8 +8,7 @@ use std::alloc::Global;
 use tt_call_answers::{Answer, AppFault};
 use tt_instance::Instance;
 use tt_instance_read::read_instance;
-use tt_report::By;
-use tt_report_export::{Lengths, Term, Week, write_calendar};
+use tt_report::{By, Lengths, Term, Week, write_calendar};
 use tt_table::read_solution;
 
 /// The dates and times of a calendar's week.

@@ -11,7 +11,7 @@ ghost use Rattle.tt_call_answers.specs.declared.fault.AppFault.TheVariants as fa
 use std::alloc::Global;
 use tt_call_answers::{Answer, AppFault};
 use tt_instance_read::read_instance;
-use tt_report_export::write_table;
+use tt_report::write_table;
 use tt_table::read_solution;
 
 /// Returns the solution of an instance as comma-separated values, with a row for each entry; the status is 0. If formulas are barred, an apostrophe

@@ -1,6 +1,6 @@
 use Rattle.std.proofs.Common.{ℕ, subst}
 use Rattle.std.proofs.lemmas.Result.{err_from_is_err_and}
-use Rattle.tt_report_export.specs.Terms.{ExplainsTerm}
+use Rattle.tt_report.specs.Terms.{ExplainsTerm}
 use Rattle.tt_call_texts.proofs.Dating.{tells_term}
 use Rattle.tt_call_texts.proofs.calls.calendar.term_of.Goals as goal
 

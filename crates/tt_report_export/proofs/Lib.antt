@@ -1,5 +1,0 @@
-pub mod Examples
-mod Clocks
-mod Days
-mod Fields
-mod Lines

@@ -1,5 +1,0 @@
-use Rattle.tt_report_export.proofs.Fields.{quoted_apart}
-use Rattle.tt_report_export.proofs.laws.fields_are_apart.Goals as goal
-
-pub returns : goal.returns
-returns c = λ n m after behind none no same. quoted_apart n m after behind none no same

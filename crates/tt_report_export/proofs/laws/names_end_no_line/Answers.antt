@@ -1,5 +1,0 @@
-use Rattle.tt_report_export.proofs.Lines.{shown_above}
-use Rattle.tt_report_export.proofs.laws.names_end_no_line.Goals as goal
-
-pub returns : goal.returns
-returns c = λ name. shown_above name
