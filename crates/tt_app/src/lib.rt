@@ -3,10 +3,9 @@
 
 pub use tt_call_answers::{Answer, AppFault, PageNames, UNNAMED};
 pub use tt_call_checks::{
-    ChangedForm, ChangedPageFault, ChangedTexts, ChangesFault, changed_page, changes,
+    ChangedForm, ChangedPageFault, ChangedTexts, ChangesFault, KeptFault, KeptFiles, bound,
+    changed_page, changes, check, check_kept, check_sum, sum, sum_kept, upgrade, validate,
 };
-pub use tt_call_checks::{bound, check, check_sum, sum, upgrade, validate};
-pub use tt_call_checks::{KeptFault, KeptFiles, check_kept, sum_kept};
 pub use tt_call_searches::{
     BestAnswer, BestSearch, Effort, ImproveSearch, PartsAnswer, TreeEffort, WatchBest, best,
     best_kept, improve, parts, solve, solve_kept,

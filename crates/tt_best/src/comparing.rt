@@ -7,8 +7,8 @@ ghost use Rattle.tt_best.specs.Kept.{IsNoWorse, breaks_in_all, IsLighter};
 
 use crate::wishing::Wishing;
 use tt_rules::score;
-use tt_table::Timetable;
 use tt_stay::{count_all_breaks, keeps_all_kept};
+use tt_table::Timetable;
 
 /// What a timetable breaks and costs.
 #[derive(Clone, Copy, Debug, PartialEq, Eq)]

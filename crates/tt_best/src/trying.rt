@@ -12,9 +12,9 @@ use crate::wishing::Wishing;
 use std::alloc::{AllocError, Global};
 use tt_leaf::Bound;
 use tt_search::{Search, construct, improve};
+use tt_stay::{Basis, Search as WishedSearch, Stay, Wished, improve_wished};
 use tt_table::Timetable;
 use tt_watch::Watch;
-use tt_stay::{Basis, Search as WishedSearch, Stay, Wished, improve_wished};
 
 /// The number of steps for each lecture in a run that repairs a timetable or makes a first one, the maximum number of its steps, and the number of runs
 /// of a repair.

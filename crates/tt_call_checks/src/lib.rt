@@ -1,4 +1,4 @@
-//! The calls that read files and check them, also under wishes.
+//! The calls that read files and check them, also under wishes, and those that say which lectures moved.
 #![tactic(auto)]
 
 mod answer;

@@ -11,10 +11,10 @@ use tt_call_answers::Answer;
 use tt_construct::complete;
 use tt_instance::Instance;
 use tt_instance_read::read_instance;
+use tt_stay::{Basis, Search, improve_wished};
 use tt_table::{Timetable, read_solution};
 use tt_watch::Watch;
 use tt_wishes::read_wishes;
-use tt_stay::{Basis, Search, improve_wished};
 
 /// The bytes of an instance, of a solution and of wishes.
 #[derive(Clone, Copy, Debug)]

@@ -8,9 +8,9 @@ ghost use Rattle.tt_call_wishes.specs.Improved.{IsWishedTable, wished_line};
 use std::alloc::{AllocError, Global};
 use tt_call_answers::Answer;
 use tt_instance::Instance;
+use tt_stay::{Wished, WishedWeight};
 use tt_table::write_solution;
 use tt_text::{put_line_end, put_next_number, put_next_token, put_token};
-use tt_stay::{Wished, WishedWeight};
 
 /// Returns the line of a weight: the hard count, the cost, the number of broken wishes, and how many lectures left their period and how many only
 /// their room.

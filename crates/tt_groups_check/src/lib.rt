@@ -1,4 +1,4 @@
-//! The check of a group's bound.
+//! Claims of groups: files of them, read group by group, and the check of a group's bound.
 #![tactic(auto)]
 
 mod availability;
@@ -25,4 +25,3 @@ pub use fault::GroupFault;
 pub use laws::read_groups_are_spelled;
 pub use reader::GroupReader;
 pub use text_fault::GroupTextFault;
-pub use width::{GROUP_COURSES, GROUP_CURRICULA, GROUP_LECTURES, GROUP_VALUE};

@@ -10,9 +10,9 @@ ghost use Rattle.tt_groups_check.specs.TextFaults.{is_failed_read};
 ghost use Rattle.tt_groups_check.specs.Readers.{IsClaimAt, IsReaderAfter, IsReadingOf, IsHeaderReadingOf, HeaderAgreesWhenCut, GroupAgreesWhenCut};
 
 use crate::claim::GroupClaim;
-use crate::text_fault::GroupTextFault;
 use crate::groups::read_group;
 use crate::header::{Opening, read_opening};
+use crate::text_fault::GroupTextFault;
 use std::alloc::Global;
 use std::marker::Model;
 use tt_instance::Instance;

@@ -1,10 +1,10 @@
 //! A line of a text, and a mark below it.
 
 use crate::place::{is_line_feed, place_of};
+use crate::shown::Shown;
 use bstr::ByteSlice;
 use std::alloc::AllocError;
 use std::fmt;
-use crate::shown::Shown;
 
 /// The maximum number of letters of a line that are shown before the mark.
 const MAX_BEFORE: usize = 60;

@@ -3,9 +3,9 @@
 use crate::excerpt::put_excerpt;
 use crate::place::{Place, place_of};
 use crate::reason::Reason;
+use crate::shown::Name;
 use std::alloc::AllocError;
 use std::fmt;
-use crate::shown::Name;
 use tt_text::Tokens;
 
 /// The word found at a fault; `None` at the end of the file.

@@ -1,4 +1,4 @@
-//! Numbers and names as people read them, and what an instance consists of.
+//! Numbers and names as people read them, what an instance consists of, and why a file is refused.
 #![tactic(auto)]
 
 mod before;
@@ -19,7 +19,6 @@ mod tally;
 pub use counts::{Counts, CourseCounts};
 pub use course_names::put_names;
 pub use instance_faults::explain_instance;
-pub use place::{Place, place_of};
-pub use shown::{Counted, Name, Noun, Shown};
+pub use shown::{Counted, Name, Noun};
 pub use solution_faults::explain_solution;
 pub use summary::{most_seats, periods_of_week, places, put_summary};

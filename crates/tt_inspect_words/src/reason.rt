@@ -1,7 +1,7 @@
 //! The likely reason why a file is refused, in words.
 
-use std::fmt;
 use crate::shown::{Counted, Noun};
+use std::fmt;
 use tt_instance_read::Word;
 
 /// A likely reason for a fault.

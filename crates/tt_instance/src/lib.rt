@@ -1,4 +1,4 @@
-//! Instances of curriculum-based course timetabling, with the curricula and the conflicts of each course.
+//! Instances of curriculum-based course timetabling: their names and numbers, and the curricula and the conflicts of each course.
 #![tactic(auto)]
 
 mod barred;
@@ -17,7 +17,11 @@ mod rows;
 pub use barred::{is_barred, mark_place};
 pub use cell::{Cell, Slot};
 pub use instance::Instance;
-pub use limit::{ISOLATED_COST, MAX_CELLS, MAX_COURSES, MAX_CURRICULA, MAX_DAYS, MAX_LECTURES, MAX_MEMBERS, MAX_MIN_DAYS, MAX_PERIODS, MAX_ROOMS, MAX_SEATS, MAX_SLOTS, MAX_UNAVAILABILITIES, MISSING_DAY_COST};
+pub use limit::{
+    ISOLATED_COST, MAX_CELLS, MAX_COURSES, MAX_CURRICULA, MAX_DAYS, MAX_LECTURES, MAX_MEMBERS,
+    MAX_MIN_DAYS, MAX_PERIODS, MAX_ROOMS, MAX_SEATS, MAX_SLOTS, MAX_UNAVAILABILITIES,
+    MISSING_DAY_COST,
+};
 pub use links::{Conflicts, Curricula};
 pub use marks::Marks;
 pub use name_hasher::NameHasher;
@@ -25,4 +29,7 @@ pub use name_list::NameList;
 pub use named::Named;
 pub use names::Names;
 pub use parts::Parts;
-pub use rows::{CourseList, CourseRow, CurriculumRow, MemberList, RoomRow, UnavailabilityList, UnavailabilityRow};
+pub use rows::{
+    CourseList, CourseRow, CurriculumRow, MemberList, RoomRow, UnavailabilityList,
+    UnavailabilityRow,
+};

@@ -4,11 +4,11 @@ ghost use Rattle.std.specs.Prelude.{◌≡◌, ◌<◌, IfOk, IfSome, length};
 ghost use Rattle.tt_text.specs.Texts.{index_of_name};
 ghost use Rattle.tt_instance.specs.Courses.{course_ids, room_ids};
 
+use crate::instance::Instance;
 use crate::name_hasher::NameHasher;
 use crate::names::Names;
 use std::alloc::{AllocError, Global};
 use std::marker::Model;
-use crate::instance::Instance;
 
 /// An instance whose courses and rooms are found by their names.
 #[derive(Drop)]

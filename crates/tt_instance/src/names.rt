@@ -4,10 +4,10 @@ ghost use Rattle.std.specs.Prelude.{◌≡◌, ◌+◌, ◌<◌, ◌≤◌, not,
 ghost use Rattle.tt_text.specs.Texts.{has_name, index_of_name, with_name};
 
 use crate::name_hasher::NameHasher;
+use crate::name_list::NameList;
 use indexmap::IndexSet;
 use std::alloc::{AllocError, Global};
 use std::marker::Model;
-use crate::name_list::NameList;
 
 /// Different names, in the order in which they first appeared, and the number of each.
 pub struct Names<'a> {

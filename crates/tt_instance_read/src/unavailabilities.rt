@@ -9,7 +9,9 @@ use crate::fault::InstanceFault;
 use crate::fields::{read_below, read_course_name};
 use crate::header::Header;
 use std::alloc::{AllocError, Global};
-use tt_instance::{MAX_PERIODS, Marks, Names, UnavailabilityList, UnavailabilityRow, is_barred, mark_place};
+use tt_instance::{
+    MAX_PERIODS, Marks, Names, UnavailabilityList, UnavailabilityRow, is_barred, mark_place,
+};
 use tt_text::Tokens;
 
 /// Creates empty marks for each course and day.

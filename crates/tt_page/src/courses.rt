@@ -5,7 +5,10 @@ ghost use Rattle.tt_list_laws.specs.Words.{range_below};
 ghost use Rattle.tt_page_text.specs.Puts.{put_text};
 ghost use Rattle.tt_page.specs.Courses.{rooms_text, room_text, course_marks, course_numbers, course_head, course_row, courses_head_text, courses_text};
 
-use tt_page_text::{PageText, Part, Plan, course_name, days_of, entries_of, is_taught_in, lectures_off, missing_days, other_rooms, put, put_counted, put_teacher_link, put_token, put_week_link};
+use tt_page_text::{
+    PageText, Part, Plan, course_name, days_of, entries_of, is_taught_in, lectures_off,
+    missing_days, other_rooms, put, put_counted, put_teacher_link, put_token, put_week_link,
+};
 use tt_table::Kind;
 
 #[tactic(auto, using(tt_page_text::proofs::Growing::puts), unfolding(crate::specs::Courses::room_text))]

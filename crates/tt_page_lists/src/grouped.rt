@@ -14,7 +14,9 @@ use crate::items::{
 };
 use crate::rule::Rule;
 use tt_instance::{ISOLATED_COST, Instance};
-use tt_page_text::{Labels, PageText, Part, Plan, is_isolated, put, put_token, put_week_link, put_when_link};
+use tt_page_text::{
+    Labels, PageText, Part, Plan, is_isolated, put, put_token, put_week_link, put_when_link,
+};
 use tt_rules::without_seat;
 use tt_table::{Entry, Group, Kind};
 

@@ -11,7 +11,11 @@ ghost use Rattle.tt_page_lists.specs.Items.{item_head, item_end, course_and_teac
 use crate::odds::Odds;
 use crate::rule::Rule;
 use tt_instance::{Instance, MISSING_DAY_COST};
-use tt_page_text::{Labels, PageText, Part, Plan, days_of, entries_of, is_unavailable, lectures_off, missing_days, other_rooms, periods_of, put, put_cell_link, put_course_link, put_teacher_link, put_token, put_week_link, put_when, teacher_of};
+use tt_page_text::{
+    Labels, PageText, Part, Plan, days_of, entries_of, is_unavailable, lectures_off, missing_days,
+    other_rooms, periods_of, put, put_cell_link, put_course_link, put_teacher_link, put_token,
+    put_week_link, put_when, teacher_of,
+};
 use tt_table::{Entry, Group, Kind};
 
 /// Appends the beginning of an item: the number that it adds, by which it is placed.

@@ -8,7 +8,9 @@ ghost use Rattle.tt_page_lists.specs.Changed.{older_place, newer_place, change_i
 
 use tt_changes::{Change, Changes};
 use tt_instance::Instance;
-use tt_page_text::{Labels, PageText, Part, put, put_course_link, put_token, put_week_link, put_when, put_when_link};
+use tt_page_text::{
+    Labels, PageText, Part, put, put_course_link, put_token, put_week_link, put_when, put_when_link,
+};
 use tt_table::{Entry, Kind};
 
 /// Appends when and where an entry of the older timetable was.

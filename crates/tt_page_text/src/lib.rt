@@ -1,4 +1,5 @@
-//! The texts of a page: names, also in quoted strings, pieces in turn, and the names of days and periods.
+//! The texts of a page: names, also in quoted strings, pieces in turn, the names of days and periods, entries by period and by course, and
+//! links.
 #![tactic(auto)]
 
 mod counts;
@@ -18,7 +19,9 @@ mod quoted;
 mod shown;
 mod week;
 
-pub use counts::{days_of, entries_of, is_taught_in, lectures_off, missing_days, other_rooms, periods_of};
+pub use counts::{
+    days_of, entries_of, is_taught_in, lectures_off, missing_days, other_rooms, periods_of,
+};
 pub use fault::{LabelsFault, TextFault};
 pub use labels::{Labels, put_day, put_period, put_when};
 pub use links::{put_cell_link, put_course_link, put_teacher_link, put_week_link, put_when_link};

@@ -8,11 +8,11 @@ ghost use Rattle.tt_page_text.specs.Kinds.{teacher_of};
 ghost use Rattle.tt_table.specs.declared.kind.Kind.TheVariants as kinds;
 ghost use Rattle.tt_page_text.specs.Links.{course_link, week_link, cell_link, cell_anchor, when_link};
 
-use crate::week::{course_name, teacher_of};
-use tt_instance::Instance;
 use crate::labels::{Labels, put_when};
 use crate::page_text::{PageText, put_token};
 use crate::part::{Part, put};
+use crate::week::{course_name, teacher_of};
+use tt_instance::Instance;
 use tt_table::{Entry, Kind};
 
 /// Appends a link to the row of a course.

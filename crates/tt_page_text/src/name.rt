@@ -4,9 +4,9 @@ ghost use Rattle.std.specs.Prelude.{◌≡◌};
 ghost use Rattle.tt_page_text.specs.Puts.{put_text};
 ghost use Rattle.tt_page_text.specs.PlanNames.{name_text, next_shown};
 
-use tt_instance::Instance;
 use crate::page_text::{PageText, put_token};
 use crate::shown::put_shown;
+use tt_instance::Instance;
 
 /// Appends a space and a token of the name.
 #[tactic(auto, using(crate::proofs::Growing::puts), unfolding(crate::specs::Names::next_shown))]

@@ -14,7 +14,10 @@ use crate::hues::put_hue;
 use crate::lectures::put_lecture;
 use crate::view::View;
 use tt_instance::{Instance, Slot};
-use tt_page_text::{Labels, PageText, Part, Plan, caption_of, course_name, is_in_week, put, put_day, put_name, put_period, put_token, put_week_link, put_when, section_of, title_of};
+use tt_page_text::{
+    Labels, PageText, Part, Plan, caption_of, course_name, is_in_week, put, put_day, put_name,
+    put_period, put_token, put_week_link, put_when, section_of, title_of,
+};
 use tt_table::{Group, Kind};
 
 /// Appends the beginning of the text for a course to which a period is unavailable.

@@ -12,7 +12,10 @@ use crate::hues::put_hue;
 use crate::marks::{is_in_conflict, is_in_other_room, is_repeated, is_room_taken};
 use crate::view::View;
 use tt_instance::Instance;
-use tt_page_text::{Labels, PageText, Part, Plan, course_name, is_isolated, is_unavailable, put, put_counted, put_token, put_week_link, put_when, teacher_of};
+use tt_page_text::{
+    Labels, PageText, Part, Plan, course_name, is_isolated, is_unavailable, put, put_counted,
+    put_token, put_week_link, put_when, teacher_of,
+};
 use tt_rules::without_seat;
 use tt_table::{Entry, Kind};
 

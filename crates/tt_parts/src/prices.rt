@@ -4,7 +4,7 @@ use crate::finding::Effort;
 use std::alloc::{AllocError, Global};
 use tt_instance::Instance;
 use tt_parts_prices::{PricesSearch, find_prices};
-use tt_prices_read::{Header, write_prices};
+use tt_prices_text::{Header, write_prices};
 use tt_proof_read::MAX_POINTS;
 use tt_watch::Watch;
 

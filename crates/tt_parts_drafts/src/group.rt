@@ -6,9 +6,9 @@ use crate::fixed::{ONE, product, rounded, whole};
 use crate::habits::{Habits, is_in};
 use rand_pcg::Pcg32;
 use std::alloc::AllocError;
+use tt_groups::MAX_PRICE;
 use tt_parts_least::lectures_of;
 use tt_parts_priced::{Program, Tables};
-use tt_groups::MAX_PRICE;
 
 /// The part of a direction that stays from step to step, in tenths.
 pub const MOMENTUM: i64 = 7;

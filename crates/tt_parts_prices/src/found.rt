@@ -5,9 +5,9 @@ ghost use Rattle.tt_groups.specs.Limits.{IsPrice};
 
 use crate::climb::Climb;
 use std::alloc::{AllocError, Global};
-use tt_parts_drafts::{Aim, Group, SCALE, points};
 use tt_groups::{MAX_PRICE, PriceRow, PricedGroup};
-use tt_prices_read::Rent;
+use tt_parts_drafts::{Aim, Group, SCALE, points};
+use tt_prices_text::Rent;
 
 /// Groups with prices and rents of rooms, the units of price in a point, and the bound in cost points that they are to prove.
 #[derive(Debug, Drop)]

@@ -10,7 +10,7 @@
 use crate::places::periods_of_week;
 use std::alloc::{AllocError, Global};
 use tt_instance::Instance;
-use tt_prices_read::MAX_AMOUNT;
+use tt_prices_text::MAX_AMOUNT;
 
 /// The lectures of a course, or a room.
 #[derive(Clone, Copy)]

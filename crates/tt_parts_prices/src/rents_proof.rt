@@ -4,7 +4,7 @@ use crate::places::{has_places, periods_of_week};
 use crate::rents::rents_of;
 use std::alloc::{AllocError, Global};
 use tt_instance::Instance;
-use tt_prices_read::{Header, Rent, write_prices};
+use tt_prices_text::{Header, Rent, write_prices};
 use tt_proof_read::MAX_POINTS;
 
 /// The number of units of rent in a cost point.

@@ -5,8 +5,8 @@ use crate::isolation::isolated_on;
 use crate::levels::Levels;
 use std::alloc::{AllocError, Global};
 use tt_instance::{ISOLATED_COST, Instance, MISSING_DAY_COST};
-use tt_plans_tables::{Counts, POINT, Words, put};
 use tt_plans_slots::Slots;
+use tt_plans_tables::{Counts, POINT, Words, put};
 
 /// The cost of a lecture whose home another lecture has in its slot, in quarters of a point.
 pub const CLASH_COST: i64 = POINT;

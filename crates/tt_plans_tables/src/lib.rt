@@ -1,5 +1,4 @@
-//! Tables of fixed size: grids, and lists of lists. Reading outside of one gives a number that is chosen when it is made, and writing
-//! outside of one does nothing.
+//! Tables of fixed size, which give a chosen number outside, and chances in whole numbers.
 #![tactic(auto)]
 
 mod dice;

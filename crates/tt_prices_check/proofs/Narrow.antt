@@ -23,8 +23,8 @@ use Rattle.tt_groups.specs.Days.{unpriced, courses_of, counted_of}
 use Rattle.tt_groups.specs.Prices.{PricedGroup, concerns}
 use Rattle.tt_groups.proofs.Recounted.{concerns_same}
 use Rattle.tt_prices_check.specs.Groups.{IsGroupOf, is_too_wide}
-use Rattle.tt_prices_day.specs.Shapes.{IsNarrow}
-use Rattle.tt_prices_day.proofs.Growing.{length-filter_le}
+use Rattle.tt_prices_tables.specs.Shapes.{IsNarrow}
+use Rattle.tt_prices_tables.proofs.Growing.{length-filter_le}
 use Rattle.tt_prices_check.specs.Week.{week_sizes}
 
 -- ---- tests

@@ -7,7 +7,7 @@ use Rattle.tt_groups.specs.Limits.{IsWithin}
 use Rattle.tt_groups.specs.Prices.{PricedGroup}
 use Rattle.tt_prices_check.specs.Groups.{IsLeast}
 use Rattle.tt_prices_check.specs.Inner.Days.{HasDays}
-use Rattle.tt_prices_day.proofs.Within.{within-more, within-plus, sum-of}
+use Rattle.tt_prices_tables.proofs.Within.{within-more, within-plus, sum-of}
 use Rattle.tt_prices_check.specs.Week.{Suits, week_sizes, base_paid, IsLeastTimetable}
 use Rattle.tt_prices_check.specs.declared.moves.PricedMove.{PricedMove}
 

@@ -15,7 +15,7 @@ use Rattle.tt_prices_check.specs.Week.{week_sizes}
 use Rattle.tt_prices_check.specs.declared.fault.PricedFault.{PricedFault}
 use Rattle.tt_prices_check.specs.declared.fault.PricedFault.TheVariants.{TooWide, TooManyStates, TooManySets, TooMuchWork}
 use Rattle.tt_prices_check.specs.declared.width.TheConstants.{MAX_GROUP_CURRICULA, MAX_GROUP_COURSES}
-use Rattle.tt_prices_day.specs.declared.rules.TheConstants.{MAX_LECTURES}
+use Rattle.tt_prices_tables.specs.declared.rules.TheConstants.{MAX_LECTURES}
 
 -- Whether the group's curricula and courses are those of the instance, and no course whose working days count is listed twice.
 pub record IsGroupOf (p : Problem) (g : PricedGroup) : Type 0 where

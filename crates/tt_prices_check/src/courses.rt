@@ -12,8 +12,8 @@ ghost use Rattle.tt_prices_check.specs.Groups.{IsGroupOf};
 ghost use Rattle.tt_prices_check.specs.Week.{week_sizes};
 
 use std::alloc::{AllocError, Global};
-use tt_instance::Instance;
 use tt_groups::PricedGroup;
+use tt_instance::Instance;
 
 /// Checks whether a course is one of the further ones.
 fn is_further(group: &PricedGroup, course: u32) -> bool

@@ -17,10 +17,10 @@ use crate::whole_week::least_week;
 use crate::width::{MAX_GROUP_COURSES, is_too_wide};
 use crate::work::PricedWork;
 use std::alloc::Global;
+use tt_groups::PricedGroup;
 use tt_groups_tables::Digits;
 use tt_instance::{Instance, MISSING_DAY_COST};
-use tt_groups::PricedGroup;
-use tt_prices_day::Shape;
+use tt_prices_tables::Shape;
 use tt_text::Stop;
 
 /// Returns what every week pays: the days that a course lacks even if it has one lecture a day.

@@ -4,17 +4,17 @@ ghost use Rattle.std.specs.Prelude.{◌≡◌, ◌⊎◌, ◌+◌, ◌++◌, ◌
 ghost use Rattle.tt_groups.specs.Rows.{group_of};
 ghost use Rattle.tt_prices_check.specs.Inner.Days.{HasDays};
 ghost use Rattle.tt_prices_check.specs.declared.fault.PricedFault.TheVariants as fault;
-ghost use Rattle.tt_prices_day.specs.Shapes.{IsShape};
+ghost use Rattle.tt_prices_tables.specs.Shapes.{IsShape};
 ghost use Rattle.tt_prices_check.specs.Moves.{AreReady};
 
 use crate::fault::{PricedFault, stop_from_days};
 use crate::moves::{PricedMove, priced_moves_of};
 use crate::work::MAX_GROUP_STEPS;
 use std::alloc::{AllocError, Global};
+use tt_groups::PricedGroup;
 use tt_groups_tables::Digits;
 use tt_instance::Instance;
-use tt_groups::PricedGroup;
-use tt_prices_day::{Shape, list_days};
+use tt_prices_tables::{Shape, list_days};
 use tt_text::Stop;
 
 /// Adds the moves of a day at the end.

@@ -7,9 +7,9 @@ ghost use Rattle.tt_groups.specs.Days.{courses_of};
 ghost use Rattle.tt_groups.specs.Rows.{group_of};
 ghost use Rattle.tt_prices_check.specs.Groups.{is_too_wide};
 
-use tt_instance::Instance;
 use tt_groups::PricedGroup;
-use tt_prices_day::MAX_LECTURES;
+use tt_instance::Instance;
+use tt_prices_tables::MAX_LECTURES;
 
 /// The maximum number of curricula of a group.
 pub const MAX_GROUP_CURRICULA: usize = 64;

@@ -16,11 +16,11 @@ use Rattle.tt_groups.specs.declared.priced_group.PriceRow.{PriceRow}
 use Rattle.tt_groups.specs.declared.priced_group.PricedGroup as program
 use Rattle.tt_groups.proofs.Signed.{signed_sum-append}
 use Rattle.tt_prices_check.specs.Groups.{IsLeast, IsWithinLimits}
-use Rattle.tt_prices_day.proofs.Within.{within-plus}
-use Rattle.tt_prices_read.specs.Parts as parts
-use Rattle.tt_prices_read.specs.Parts.{IsGroup, IsRow, row_list}
-use Rattle.tt_prices_read.specs.Reading.{Group, RoomRents, Part, GroupPart, RentPart, row_form}
-use Rattle.tt_prices_read.specs.declared.header.Header.{Header}
+use Rattle.tt_prices_tables.proofs.Within.{within-plus}
+use Rattle.tt_prices_text.specs.Parts as parts
+use Rattle.tt_prices_text.specs.Parts.{IsGroup, IsRow, row_list}
+use Rattle.tt_prices_text.specs.Reading.{Group, RoomRents, Part, GroupPart, RentPart, row_form}
+use Rattle.tt_prices_text.specs.declared.header.Header.{Header}
 use Rattle.tt_proof_check.specs.Streams.{sizes_of}
 use Rattle.tt_prices_file.specs.Faults.{Pass}
 use Rattle.tt_prices_file.specs.Files.{priced, groups_of, curricula_in, courses_in, rents_in, rented, room_scale}

@@ -20,11 +20,11 @@ use Rattle.tt_groups.proofs.Groups.{days_paid}
 use Rattle.tt_groups.proofs.Signed.{signed_sum-same_member}
 use Rattle.tt_groups.proofs.Whole.{all_pay}
 use Rattle.tt_prices_check.specs.Groups.{IsLeast}
-use Rattle.tt_prices_read.specs.Reading.{Part}
-use Rattle.tt_prices_read.specs.declared.header.Header.{Header}
-use Rattle.tt_prices_day.specs.Terms.{IsLowest, IsTerm}
-use Rattle.tt_prices_day.proofs.Bounds.{term_bounds}
-use Rattle.tt_prices_day.proofs.Sums.{lower, upper}
+use Rattle.tt_prices_text.specs.Reading.{Part}
+use Rattle.tt_prices_text.specs.declared.header.Header.{Header}
+use Rattle.tt_prices_tables.specs.Terms.{IsLowest, IsTerm}
+use Rattle.tt_prices_tables.proofs.Bounds.{term_bounds}
+use Rattle.tt_prices_tables.proofs.Sums.{lower, upper}
 use Rattle.tt_prices_file.specs.Files.{groups_of, curricula_in, courses_in, rent_of, all_rents, room_scale, HasTotal, IsRight}
 use Rattle.tt_prices_file.proofs.Parts.{curricula_of, courses_of}
 

@@ -16,12 +16,12 @@ use Rattle.tt_instance.specs.Problem.{Problem}
 use Rattle.tt_instance.specs.Limits.{IsInstance}
 use Rattle.tt_groups.specs.Prices.{PricedGroup}
 use Rattle.tt_prices_check.specs.Groups.{IsLeast}
-use Rattle.tt_prices_read.specs.Reading.{Group, RoomRents, Part, GroupPart, RentPart, item_at}
-use Rattle.tt_prices_read.specs.Reads.{ReadsParts, ReadsFile}
-use Rattle.tt_prices_read.specs.Spelling.{SpellsFile}
-use Rattle.tt_prices_read.specs.declared.fault.PricesTextFault.{PricesTextFault}
-use Rattle.tt_prices_read.specs.declared.header.Header.{Header}
-use Rattle.tt_prices_read.proofs.SpelledFiles.{spelled_reads}
+use Rattle.tt_prices_text.specs.Reading.{Group, RoomRents, Part, GroupPart, RentPart, item_at}
+use Rattle.tt_prices_text.specs.Reads.{ReadsParts, ReadsFile}
+use Rattle.tt_prices_text.specs.Spelling.{SpellsFile}
+use Rattle.tt_prices_text.specs.declared.fault.PricesTextFault.{PricesTextFault}
+use Rattle.tt_prices_text.specs.declared.header.Header.{Header}
+use Rattle.tt_prices_text.proofs.SpelledFiles.{spelled_reads}
 use Rattle.tt_proof_check.specs.Streams.{sizes_of, stream_of}
 use Rattle.tt_proof_check.proofs.Sizes.{are_sizes_of}
 use Rattle.tt_proof_read.proofs.Small.{are_small}

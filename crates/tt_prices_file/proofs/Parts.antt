@@ -11,7 +11,7 @@ use Rattle.tt_list_laws.proofs.Twos.{each_two-append}
 use Rattle.tt_instance.specs.Problem.{Problem}
 use Rattle.tt_instance.specs.declared.cell.Slot.{Slot}
 use Rattle.tt_groups.specs.Prices.{PricedGroup}
-use Rattle.tt_prices_read.specs.Reading.{Group, RoomRents, Part, GroupPart, RentPart}
+use Rattle.tt_prices_text.specs.Reading.{Group, RoomRents, Part, GroupPart, RentPart}
 use Rattle.tt_prices_file.specs.Files.{priced, groups_in, groups_of, curricula_in, courses_in, rents_in, rented, rent_at}
 
 -- ---- the groups and the rents of two lists of parts

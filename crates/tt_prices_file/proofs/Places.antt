@@ -7,8 +7,8 @@ use Rattle.tt_instance.specs.Cells.{slot, cell}
 use Rattle.tt_instance.specs.Courses.{lectures}
 use Rattle.tt_instance.specs.declared.cell.Slot.{Slot}
 use Rattle.tt_groups.specs.Prices.{PricedGroup, cell_cost}
-use Rattle.tt_prices_day.specs.Least.{IsSumOf}
-use Rattle.tt_prices_day.specs.Terms.{IsTerm, open_slots}
+use Rattle.tt_prices_tables.specs.Least.{IsSumOf}
+use Rattle.tt_prices_tables.specs.Terms.{IsTerm, open_slots}
 use Rattle.tt_prices_file.specs.Faults.{HasTooFewPlaces}
 
 -- a sum of so many numbers of a list needs as many

@@ -21,7 +21,7 @@ use Rattle.tt_groups.specs.Signed.{signed_sum}
 use Rattle.tt_groups.specs.declared.priced_group.PriceRow.{PriceRow}
 use Rattle.tt_groups.specs.declared.priced_group.PricedGroup as program
 use Rattle.tt_groups.proofs.Signed.{signed_sum-append}
-use Rattle.tt_prices_day.proofs.Within.{within-more, within-plus}
+use Rattle.tt_prices_tables.proofs.Within.{within-more, within-plus}
 use Rattle.tt_prices_file.specs.Inner.Tables.{number_at, listed, AddsRow, AreRowsOf, IsGrownBy, IsPriceTable}
 use Rattle.tt_prices_file.specs.declared.prices.PriceTable.{PriceTable}
 

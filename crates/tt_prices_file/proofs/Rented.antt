@@ -13,8 +13,8 @@ use Rattle.tt_list_laws.proofs.Grid.{within_row}
 use Rattle.tt_instance.specs.Problem.{Problem}
 use Rattle.tt_instance.specs.Cells.{slot}
 use Rattle.tt_instance.specs.declared.cell.Slot.{Slot}
-use Rattle.tt_prices_read.specs.Reading.{RoomRents}
-use Rattle.tt_prices_read.specs.declared.format.TheConstants.{MAX_AMOUNT}
+use Rattle.tt_prices_text.specs.Reading.{RoomRents}
+use Rattle.tt_prices_text.specs.declared.format.TheConstants.{MAX_AMOUNT}
 use Rattle.tt_prices_file.specs.Files.{rent_at}
 use Rattle.tt_prices_file.specs.Inner.Rents.{IsRentTable}
 use Rattle.tt_prices_file.specs.declared.rents.RentTable.{RentTable}

@@ -5,7 +5,7 @@ use Rattle.tt_list_laws.specs.Words.{range_below}
 use Rattle.tt_instance.specs.Problem.{Problem}
 use Rattle.tt_instance.specs.Cells.{all_rooms, all_slots, slot}
 use Rattle.tt_instance.proofs.Places.{slots_summed}
-use Rattle.tt_prices_read.specs.Reading.{RoomRents}
+use Rattle.tt_prices_text.specs.Reading.{RoomRents}
 use Rattle.tt_prices_file.specs.Files.{rent_at}
 use Rattle.tt_prices_file.specs.Inner.Rents.{IsRentTable}
 use Rattle.tt_prices_file.specs.declared.rents.RentTable.{RentTable}

@@ -6,7 +6,7 @@ use Rattle.std.proofs.lemmas.List.{get_or-set_same, get_or-set_other, get_or_def
 use Rattle.std.proofs.lemmas.List.Elements.{All-get_or}
 use Rattle.std.specs.List.{All}
 use Rattle.tt_groups.specs.Limits.{IsPrice, IsWithin}
-use Rattle.tt_prices_day.proofs.Within.{sum-of, sum-fits, word32-of}
+use Rattle.tt_prices_tables.proofs.Within.{sum-of, sum-fits, word32-of}
 use Rattle.tt_prices_file.specs.Inner.Tables.{number_at}
 
 -- The first numbers of the row are added to the numbers from a place on, and no other number has changed.

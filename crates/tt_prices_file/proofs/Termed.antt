@@ -15,10 +15,10 @@ use Rattle.tt_groups.specs.Limits.{IsWithin}
 use Rattle.tt_groups.specs.Prices.{PricedGroup}
 use Rattle.tt_groups.specs.Signed.{signed_sum}
 use Rattle.tt_groups.proofs.Signed.{signed_sum-append, signed_sum-same_member}
-use Rattle.tt_prices_day.proofs.Within.{within-more}
-use Rattle.tt_prices_read.specs.Reading.{RoomRents}
-use Rattle.tt_prices_day.specs.Tables.{ArePricesOf, AreRentsOf}
-use Rattle.tt_prices_day.specs.Terms.{IsTerm}
+use Rattle.tt_prices_tables.proofs.Within.{within-more}
+use Rattle.tt_prices_text.specs.Reading.{RoomRents}
+use Rattle.tt_prices_tables.specs.Tables.{ArePricesOf, AreRentsOf}
+use Rattle.tt_prices_tables.specs.Terms.{IsTerm}
 use Rattle.tt_prices_file.specs.Files.{rent_at}
 use Rattle.tt_prices_file.specs.Inner.Rents.{IsRentTable}
 use Rattle.tt_prices_file.specs.Inner.Tables.{number_at, IsPriceTable}

@@ -8,9 +8,9 @@ use Rattle.std.proofs.lemmas.List.{length-map}
 use Rattle.tt_instance.specs.Problem.{Problem}
 use Rattle.tt_groups.specs.Limits.{IsWithin}
 use Rattle.tt_groups.specs.Signed.{signed_sum}
-use Rattle.tt_prices_day.proofs.Within.{within-plus}
-use Rattle.tt_prices_read.specs.Reading.{Part, GroupPart, RentPart}
-use Rattle.tt_prices_read.specs.declared.header.Header.{Header}
+use Rattle.tt_prices_tables.proofs.Within.{within-plus}
+use Rattle.tt_prices_text.specs.Reading.{Part, GroupPart, RentPart}
+use Rattle.tt_prices_text.specs.declared.header.Header.{Header}
 use Rattle.tt_prices_file.specs.Files.{priced, groups_in, groups_of, rents_in, all_rents, HasTotal}
 use Rattle.tt_prices_file.specs.Inner.Accounts.{IsAccountOf}
 use Rattle.tt_prices_file.specs.Inner.Terms.{AreTerms}

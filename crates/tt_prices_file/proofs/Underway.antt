@@ -32,20 +32,20 @@ use Rattle.tt_groups.specs.Prices.{PricedGroup}
 use Rattle.tt_groups.specs.Rows.{row_of, price_in, group_of}
 use Rattle.tt_groups.specs.declared.priced_group.PricedGroup as program
 use Rattle.tt_prices_check.specs.Groups.{IsLeast, IsRefusal}
-use Rattle.tt_prices_read.specs.Faults.{is_environmental, is_failed_read}
-use Rattle.tt_prices_read.specs.Parts as parts
-use Rattle.tt_prices_read.specs.Parts.{part_of, IsItem}
-use Rattle.tt_prices_read.specs.Readers.{IsHeader, Reader, IsReaderAfter, IsReadingOf, IsHeaderReadingOf, HeaderAgreesWhenCut, ItemAgreesWhenCut}
-use Rattle.tt_prices_read.specs.Reading.{Part, GroupPart, RentPart, header_at, item_at}
-use Rattle.tt_prices_read.specs.Reads.{ReadsParts, ReadsFile}
-use Rattle.tt_prices_read.specs.Spelling.{IsPart}
-use Rattle.tt_prices_read.specs.declared.fault.PricesTextFault.{PricesTextFault}
-use Rattle.tt_prices_read.specs.declared.fault.PricesTextFault.TheVariants as prices_text
-use Rattle.tt_prices_read.specs.declared.header.Header.{Header}
-use Rattle.tt_prices_read.specs.declared.item.Item.{Item}
-use Rattle.tt_prices_read.specs.declared.item.Item.TheVariants as item
-use Rattle.tt_prices_read.specs.declared.item.Rent as rent
-use Rattle.tt_prices_read.proofs.FileTook.{reads_spelled}
+use Rattle.tt_prices_text.specs.Faults.{is_environmental, is_failed_read}
+use Rattle.tt_prices_text.specs.Parts as parts
+use Rattle.tt_prices_text.specs.Parts.{part_of, IsItem}
+use Rattle.tt_prices_text.specs.Readers.{IsHeader, Reader, IsReaderAfter, IsReadingOf, IsHeaderReadingOf, HeaderAgreesWhenCut, ItemAgreesWhenCut}
+use Rattle.tt_prices_text.specs.Reading.{Part, GroupPart, RentPart, header_at, item_at}
+use Rattle.tt_prices_text.specs.Reads.{ReadsParts, ReadsFile}
+use Rattle.tt_prices_text.specs.Spelling.{IsPart}
+use Rattle.tt_prices_text.specs.declared.fault.PricesTextFault.{PricesTextFault}
+use Rattle.tt_prices_text.specs.declared.fault.PricesTextFault.TheVariants as prices_text
+use Rattle.tt_prices_text.specs.declared.header.Header.{Header}
+use Rattle.tt_prices_text.specs.declared.item.Item.{Item}
+use Rattle.tt_prices_text.specs.declared.item.Item.TheVariants as item
+use Rattle.tt_prices_text.specs.declared.item.Rent as rent
+use Rattle.tt_prices_text.proofs.FileTook.{reads_spelled}
 use Rattle.tt_prices_file.specs.Claims.{Claims, IsClaimOf}
 use Rattle.tt_prices_file.specs.Faults.{AfterParts, IsClaimed, IsUnclaimed, ExplainsPrices, stop_from_text, HoldsNoStop}
 use Rattle.tt_prices_file.specs.Files.{priced, groups_of, curricula_in, courses_in, rented, IsRight}

@@ -1,10 +1,10 @@
 -- What a file that is right claims.
 use Rattle.std.specs.Prelude.{◌≡◌, ℕ, List, All, Option, Some}
 use Rattle.tt_instance.specs.Problem.{Problem}
-use Rattle.tt_prices_read.specs.Readers.{IsHeader}
-use Rattle.tt_prices_read.specs.Reading.{Part}
-use Rattle.tt_prices_read.specs.Spelling.{IsPart, SpellsFile}
-use Rattle.tt_prices_read.specs.declared.header.Header.{Header}
+use Rattle.tt_prices_text.specs.Readers.{IsHeader}
+use Rattle.tt_prices_text.specs.Reading.{Part}
+use Rattle.tt_prices_text.specs.Spelling.{IsPart, SpellsFile}
+use Rattle.tt_prices_text.specs.declared.header.Header.{Header}
 use Rattle.tt_proof_check.specs.Streams.{sizes_of}
 use Rattle.tt_prices_file.specs.Files.{curricula_in, courses_in, IsRight}
 use Rattle.tt_prices_file.specs.declared.claim.PricesClaim.{PricesClaim}

@@ -8,12 +8,12 @@ use Rattle.tt_instance.specs.Problem.{Problem}
 use Rattle.tt_instance.specs.Courses.{lectures}
 use Rattle.tt_groups.specs.Prices.{PricedGroup, AreApart}
 use Rattle.tt_prices_check.specs.Groups.{IsLeast, IsWithinLimits, IsRefusal}
-use Rattle.tt_prices_read.specs.Faults.{is_environmental, is_failed_read}
-use Rattle.tt_prices_read.specs.Reading.{Group, RoomRents, Part, GroupPart, RentPart, header_at, item_at}
-use Rattle.tt_prices_read.specs.Reads.{ReadsParts}
-use Rattle.tt_prices_read.specs.declared.fault.PricesTextFault.{PricesTextFault}
-use Rattle.tt_prices_read.specs.declared.header.Header.{Header}
-use Rattle.tt_prices_day.specs.Terms.{open_slots}
+use Rattle.tt_prices_text.specs.Faults.{is_environmental, is_failed_read}
+use Rattle.tt_prices_text.specs.Reading.{Group, RoomRents, Part, GroupPart, RentPart, header_at, item_at}
+use Rattle.tt_prices_text.specs.Reads.{ReadsParts}
+use Rattle.tt_prices_text.specs.declared.fault.PricesTextFault.{PricesTextFault}
+use Rattle.tt_prices_text.specs.declared.header.Header.{Header}
+use Rattle.tt_prices_tables.specs.Terms.{open_slots}
 use Rattle.tt_proof_check.specs.Streams.{sizes_of}
 use Rattle.tt_prices_file.specs.Files.{priced, groups_of, curricula_in, courses_in, rented, HasTotal}
 use Rattle.tt_prices_file.specs.declared.fault.PricesFault.{PricesFault}

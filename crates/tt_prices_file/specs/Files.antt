@@ -8,9 +8,9 @@ use Rattle.tt_groups.specs.Prices.{PricedGroup, AreApart}
 use Rattle.tt_groups.specs.Rows.{price_in}
 use Rattle.tt_groups.specs.Signed.{signed_sum}
 use Rattle.tt_prices_check.specs.Groups.{IsLeast}
-use Rattle.tt_prices_read.specs.Reading.{Group, RoomRents, Part, GroupPart, RentPart}
-use Rattle.tt_prices_read.specs.declared.header.Header.{Header}
-use Rattle.tt_prices_day.specs.Terms.{IsTerm}
+use Rattle.tt_prices_text.specs.Reading.{Group, RoomRents, Part, GroupPart, RentPart}
+use Rattle.tt_prices_text.specs.declared.header.Header.{Header}
+use Rattle.tt_prices_tables.specs.Terms.{IsTerm}
 
 -- ---- the groups and the rents of a file
 

@@ -6,10 +6,10 @@ use crate::prices::PriceTable;
 use crate::rents::RentTable;
 use crate::targets::Targets;
 use std::alloc::{AllocError, Global};
-use tt_instance::Instance;
 use tt_groups::PricedGroup;
+use tt_instance::Instance;
 use tt_prices_check::PricedWork;
-use tt_prices_read::Rent;
+use tt_prices_text::Rent;
 use tt_text::Stop;
 
 /// What the groups and the rents of a file so far claim and pay.
@@ -31,10 +31,10 @@ impl Account {
     ghost use Rattle.tt_text.specs.Stops.{IfFault, is_read_failed};
     ghost use Rattle.tt_groups.specs.Rows.{group_of};
     ghost use Rattle.tt_groups.specs.declared.price.TheConstants.{MAX_SCALE};
-    ghost use Rattle.tt_prices_read.specs.Parts as parts;
-    ghost use Rattle.tt_prices_read.specs.Reading.{Part, GroupPart, RentPart};
-    ghost use Rattle.tt_prices_read.specs.Parts.{IsGroup, IsRoomRents};
-    ghost use Rattle.tt_prices_read.specs.declared.header.Header.{Header};
+    ghost use Rattle.tt_prices_text.specs.Parts as parts;
+    ghost use Rattle.tt_prices_text.specs.Reading.{Part, GroupPart, RentPart};
+    ghost use Rattle.tt_prices_text.specs.Parts.{IsGroup, IsRoomRents};
+    ghost use Rattle.tt_prices_text.specs.declared.header.Header.{Header};
     ghost use Rattle.tt_proof_check.specs.Streams.{sizes_of};
     ghost use Rattle.tt_prices_file.specs.Files as files;
     ghost use Rattle.tt_prices_file.specs.Inner.Accounts.{IsAccountOf, ExplainsGroup, ExplainsRent};

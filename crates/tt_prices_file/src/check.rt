@@ -1,9 +1,9 @@
 //! Checking a file of groups with prices.
 
 ghost use Rattle.std.specs.Prelude.{◌≡◌, ◌<◌, ◌++◌, ◌∷◌, [], ℕ, List, Some, Err, true, false, if◌then◌else◌, IfOk, OnOk};
-ghost use Rattle.tt_prices_read.specs.Parts.{part_of, IsItem};
-ghost use Rattle.tt_prices_read.specs.Readers.{IsHeader};
-ghost use Rattle.tt_prices_read.specs.Reading.{Part};
+ghost use Rattle.tt_prices_text.specs.Parts.{part_of, IsItem};
+ghost use Rattle.tt_prices_text.specs.Readers.{IsHeader};
+ghost use Rattle.tt_prices_text.specs.Reading.{Part};
 ghost use Rattle.tt_proof_check.specs.FailedReads.{HoldsOfGiven};
 ghost use Rattle.tt_proof_check.specs.Streams.{sizes_of, stream_of};
 ghost use Rattle.tt_text.specs.Stops.{IfFault, is_read_failed};
@@ -20,7 +20,7 @@ use crate::fault::{PricesFault, stop_from_text};
 use crate::total::finish;
 use std::alloc::Global;
 use tt_instance::Instance;
-use tt_prices_read::{Header, Item, PricesReader};
+use tt_prices_text::{Header, Item, PricesReader};
 use tt_text::{Source, Stop};
 
 /// Returns the units that a point of the rooms' costs has: those of the scale if the file claims the rooms, and otherwise none.

@@ -1,12 +1,12 @@
 //! Why a file of groups with prices is refused.
 
 ghost use Rattle.std.specs.Prelude.{◌≡◌, false};
-ghost use Rattle.tt_prices_read.specs.Faults.{is_failed_read, is_environmental};
+ghost use Rattle.tt_prices_text.specs.Faults.{is_failed_read, is_environmental};
 ghost use Rattle.tt_prices_file.specs.Faults.{stop_from_text};
 
 use thiserror::Error;
 use tt_prices_check::PricedFault;
-use tt_prices_read::PricesTextFault;
+use tt_prices_text::PricesTextFault;
 use tt_proof_read::TextFault;
 use tt_text::{FeedFault, Stop};
 

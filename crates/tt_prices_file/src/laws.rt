@@ -3,8 +3,8 @@
 ghost use Rattle.std.specs.Prelude.{◌≡◌, ℕ, ◌+◌, ◌≤◌, List, ℤ, sum_by, if◌then◌else◌};
 ghost use Rattle.tt_instance.specs.Problem.{Problem};
 ghost use Rattle.tt_instance.specs.declared.cell.Cell.{Cell};
-ghost use Rattle.tt_prices_read.specs.Reading.{Part};
-ghost use Rattle.tt_prices_read.specs.declared.header.Header.{Header};
+ghost use Rattle.tt_prices_text.specs.Reading.{Part};
+ghost use Rattle.tt_prices_text.specs.declared.header.Header.{Header};
 ghost use Rattle.tt_prices_file.specs.Files.{HasTotal, IsRight, curricula_in, courses_in};
 ghost use Rattle.tt_rules.specs.Score.{IsFeasible};
 ghost use Rattle.tt_rules.specs.Soft.{capacity_count, compactness_cost, days_cost, stability_count};

@@ -10,8 +10,8 @@ ghost use Rattle.tt_prices_file.specs.Inner.Groups.{stop_from_group, IsGroupFaul
 
 use crate::fault::PricesFault;
 use std::alloc::Global;
-use tt_instance::Instance;
 use tt_groups::PricedGroup;
+use tt_instance::Instance;
 use tt_prices_check::{PricedFault, PricedWork, least_of_group};
 use tt_text::Stop;
 

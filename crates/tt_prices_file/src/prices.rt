@@ -1,8 +1,8 @@
 //! What each course gets in each period, from all groups.
 
 use std::alloc::{AllocError, Global};
-use tt_instance::Instance;
 use tt_groups::{PriceRow, PricedGroup};
+use tt_instance::Instance;
 use tt_prices_check::is_concerned;
 
 /// The prices of all courses in all periods, of the groups so far that concern them: the courses in turn, and the periods of each

@@ -2,8 +2,8 @@
 
 use std::alloc::{AllocError, Global};
 use tt_instance::Instance;
-use tt_prices_read::Rent;
-use tt_prices_day::RoomPrices;
+use tt_prices_tables::RoomPrices;
+use tt_prices_text::Rent;
 
 /// The rents of all rooms so far, and which rooms have some.
 #[derive(Debug, Drop)]
@@ -17,8 +17,8 @@ impl RentTable {
     ghost use Rattle.std.specs.Prelude.{◌≡◌, ◌<◌, ◌≤◌, ◌^◌, ◌++◌, ◌∷◌, [], List, false, length, All, IfOk, OnOk, sum_by};
     ghost use Rattle.tt_list_laws.specs.Words.{has_number};
     ghost use Rattle.tt_instance.specs.Cells.{all_rooms, all_slots};
-    ghost use Rattle.tt_prices_read.specs.Parts.{rents_of, IsRoomRents};
-    ghost use Rattle.tt_prices_read.specs.Reading.{RoomRents};
+    ghost use Rattle.tt_prices_text.specs.Parts.{rents_of, IsRoomRents};
+    ghost use Rattle.tt_prices_text.specs.Reading.{RoomRents};
     ghost use Rattle.tt_prices_file.specs.Files.{rent_at};
     ghost use Rattle.tt_prices_file.specs.Inner.Rents.{IsRentTable};
     ghost use Rattle.tt_proof_check.specs.Streams.{sizes_of};

@@ -5,7 +5,7 @@ ghost use Rattle.tt_groups.specs.Limits.{IsWithin};
 ghost use Rattle.tt_text.specs.Stops.{IfFault, is_read_failed};
 ghost use Rattle.tt_groups.specs.Prices.{PricedGroup};
 ghost use Rattle.tt_groups.specs.declared.price.TheConstants.{MAX_SCALE};
-ghost use Rattle.tt_prices_read.specs.Reading.{RoomRents};
+ghost use Rattle.tt_prices_text.specs.Reading.{RoomRents};
 ghost use Rattle.tt_prices_file.specs.Inner.Rents.{IsRentTable};
 ghost use Rattle.tt_prices_file.specs.Inner.Tables.{IsPriceTable};
 ghost use Rattle.tt_prices_file.specs.Inner.Terms.{AreTerms, IsTermFault};
@@ -15,7 +15,7 @@ use crate::prices::PriceTable;
 use crate::rents::RentTable;
 use std::alloc::Global;
 use tt_instance::Instance;
-use tt_prices_day::{TermBuffers, term_of};
+use tt_prices_tables::{TermBuffers, term_of};
 use tt_text::Stop;
 
 /// Returns the terms of all courses, added up.

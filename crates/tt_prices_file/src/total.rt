@@ -3,9 +3,9 @@
 ghost use Rattle.std.specs.Prelude.{◌≡◌, ◌↔◌, ◌<◌, ◌^◌, List, false, length, IfOk, IsTrue};
 ghost use Rattle.tt_text.specs.Stops.{IfFault, is_read_failed};
 ghost use Rattle.tt_groups.specs.Limits.{IsWithin};
-ghost use Rattle.tt_prices_read.specs.Readers.{IsHeader};
-ghost use Rattle.tt_prices_read.specs.Reading.{Part};
-ghost use Rattle.tt_prices_read.specs.declared.header.Header.{Header};
+ghost use Rattle.tt_prices_text.specs.Readers.{IsHeader};
+ghost use Rattle.tt_prices_text.specs.Reading.{Part};
+ghost use Rattle.tt_prices_text.specs.declared.header.Header.{Header};
 ghost use Rattle.tt_prices_file.specs.Claims.{Claims};
 ghost use Rattle.tt_prices_file.specs.Files.{HasTotal, IsRight, Reaches};
 ghost use Rattle.tt_prices_file.specs.Inner.Accounts.{IsAccountOf, ExplainsEnd};
@@ -17,7 +17,7 @@ use crate::fault::PricesFault;
 use crate::terms::sum_of_terms;
 use std::alloc::Global;
 use tt_instance::Instance;
-use tt_prices_read::Header;
+use tt_prices_text::Header;
 use tt_text::Stop;
 
 /// Returns whether a total reaches a bound: whether the bound is at most the total, divided by the scale and rounded up.

@@ -13,7 +13,7 @@ use Rattle.tt_leaf.specs.declared.leaf.Leaf.TheVariants.{Clique, Cost}
 use Rattle.tt_leaf_rules.proofs.Examples.{when}
 use Rattle.tt_proof_read.specs.Trees.{Tree, Tip, Fork}
 use Rattle.tt_groups_check.specs.declared.claim.GroupClaim.{GroupClaim}
-use Rattle.tt_prices_read.specs.Reading.{GroupPart}
+use Rattle.tt_prices_text.specs.Reading.{GroupPart}
 use Rattle.tt_proof_sum.specs.Sums.{are_apart, cost_over, every_target, group_targets, AreClaimsApart, Part, TreeProof, GroupsFile, PricesFile, claims_of, AreApart, sum_of}
 
 abbrev proof : Bound → Tree → Part

@@ -13,8 +13,8 @@ use Rattle.tt_proof_read.specs.Reading.{header_at, word_at, token_at}
 use Rattle.tt_proof_check.specs.Streams.{stream_of}
 use Rattle.tt_groups_check.specs.Reading as groups
 use Rattle.tt_groups_check.specs.declared.text_fault.GroupTextFault.TheVariants as groups_fault
-use Rattle.tt_prices_read.specs.Reading as prices
-use Rattle.tt_prices_read.specs.declared.fault.PricesTextFault.TheVariants as prices_fault
+use Rattle.tt_prices_text.specs.Reading as prices
+use Rattle.tt_prices_text.specs.declared.fault.PricesTextFault.TheVariants as prices_fault
 use Rattle.tt_text.specs.Fronts.{kind_of, BreaksOff}
 use Rattle.tt_text.specs.declared.kind.FileKind.{FileKind}
 use Rattle.tt_text.proofs.Fronts.{broken_kinds}

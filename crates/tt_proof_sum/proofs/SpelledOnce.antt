@@ -29,8 +29,8 @@ use Rattle.tt_proof_read.proofs.Small.{are_small}
 use Rattle.tt_proof_check.specs.Streams.{stream_of, sizes_of}
 use Rattle.tt_proof_check.proofs.Sizes.{are_sizes_of}
 use Rattle.tt_proof_check.proofs.Texts.{spelled_once}
-use Rattle.tt_prices_read.specs.Reading as prices
-use Rattle.tt_prices_read.specs.declared.header.Header.{Header}
+use Rattle.tt_prices_text.specs.Reading as prices
+use Rattle.tt_prices_text.specs.declared.header.Header.{Header}
 use Rattle.tt_prices_file.proofs.Once.{file_once}
 use Rattle.tt_text.specs.Fronts.{kind_of}
 use Rattle.tt_text.specs.declared.kind.FileKind.{FileKind}

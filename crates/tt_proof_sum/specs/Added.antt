@@ -8,7 +8,7 @@ use Rattle.tt_proof_check.specs.Derives.{Derives, IsShallowOn}
 use Rattle.tt_proof_read.specs.Spelling.{SpellsProof}
 use Rattle.tt_proof_sum.specs.declared.summed.Sum.{Sum}
 use Rattle.tt_groups_check.specs.Spelling.{IsClaim, SpellsGroups}
-use Rattle.tt_prices_read.specs.Spelling.{SpellsFile}
+use Rattle.tt_prices_text.specs.Spelling.{SpellsFile}
 use Rattle.tt_text.specs.Fronts.{kind_of}
 use Rattle.tt_text.specs.declared.kind.FileKind.{FileKind}
 use Rattle.tt_text.specs.declared.kind.FileKind.TheVariants as kind

@@ -21,11 +21,11 @@ use Rattle.tt_proof_check.specs.Derives.{Derives, IsShallowOn}
 use Rattle.tt_groups.specs.Group.{Group, IsGroupBound}
 use Rattle.tt_groups_check.specs.Spelling.{IsClaim, SpellsGroups}
 use Rattle.tt_groups_check.specs.declared.claim.GroupClaim.{GroupClaim}
-use Rattle.tt_prices_read.specs.Readers.{IsHeader}
-use Rattle.tt_prices_read.specs.Reading as text
-use Rattle.tt_prices_read.specs.Spelling as prices
-use Rattle.tt_prices_read.specs.Spelling.{SpellsFile}
-use Rattle.tt_prices_read.specs.declared.header.Header.{Header}
+use Rattle.tt_prices_text.specs.Readers.{IsHeader}
+use Rattle.tt_prices_text.specs.Reading as text
+use Rattle.tt_prices_text.specs.Spelling as prices
+use Rattle.tt_prices_text.specs.Spelling.{SpellsFile}
+use Rattle.tt_prices_text.specs.declared.header.Header.{Header}
 use Rattle.tt_prices_file.specs.Files.{curricula_in, courses_in, IsRight}
 use Rattle.tt_prices_file.specs.declared.claim.PricesClaim.{PricesClaim}
 use Rattle.tt_proof_check.specs.Streams.{sizes_of}

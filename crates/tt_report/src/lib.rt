@@ -1,4 +1,4 @@
-//! Weekly reports by room, teacher and curriculum, written through a buffer.
+//! Weekly reports by room, teacher and curriculum, tables of a timetable, and calendars of a week.
 #![tactic(auto)]
 
 mod blocks;

@@ -6,8 +6,7 @@ ghost use Rattle.tt_report.specs.Weeks.{IsWeek, IsWeekOf, names_by, belongs_to};
 
 use crate::names::{name_of_teacher, teacher_of};
 use tt_instance::Instance;
-use tt_table::Kind as By;
-use tt_table::Entry;
+use tt_table::{Entry, Kind as By};
 
 /// The room, teacher or curriculum whose week a calendar shows, by number.
 #[derive(Clone, Copy, Debug)]

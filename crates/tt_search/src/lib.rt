@@ -1,4 +1,5 @@
-//! A seeded search for a better timetable.
+//! A seeded search for a better timetable: one plan that is cooled slowly, in cycles, and given rooms by matchings; walks; plans of a few
+//! courses; descents.
 #![tactic(auto)]
 
 mod annealing;
@@ -18,7 +19,6 @@ mod stepping;
 
 pub use improving::improve;
 pub use runs::{Search, improve_in_runs};
-pub use slow_cooling::{Annealing, can_anneal};
 pub use tt_construct::construct;
 pub use tt_moves::{Descent, descend};
 pub use tt_watch::{Pair, Progress, Unit, Unwatched, Watch};

@@ -11,8 +11,8 @@ use tt_instance::Instance;
 use tt_moves::Step;
 use tt_occupancy::Occupied;
 use tt_plans::{DAY_COST, Facts, Plan};
-use tt_plans_tables::{CERTAIN, Dice, Heat, POINT, logarithm, put};
 use tt_plans_redraw::can_redraw;
+use tt_plans_tables::{CERTAIN, Dice, Heat, POINT, logarithm, put};
 
 /// The amount that a clash costs more in one of the plans of a round that are kept, in quarters of a point.
 const DEARER_CLASHES: i64 = 29 * POINT;

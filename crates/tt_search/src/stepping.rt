@@ -3,8 +3,8 @@
 use std::alloc::{AllocError, Global};
 use tt_plans::{Facts, Plan};
 use tt_plans_chain::{Chain, change_home};
-use tt_plans_tables::{Dice, Heat};
 use tt_plans_redraw::Redrawer;
+use tt_plans_tables::{Dice, Heat};
 
 /// Of this many steps so many are redraws, and so many are new homes, which are more in a warm part; all others are chains.
 const ALL: u32 = 100;

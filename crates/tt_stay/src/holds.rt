@@ -1,9 +1,9 @@
 //! Lectures that are to be somewhere.
 
+use crate::prices::Shift;
 use std::alloc::{AllocError, Global};
 use tt_instance::Instance;
 use tt_plans_tables::Dice;
-use crate::prices::Shift;
 use tt_table::Entry;
 use tt_wishes::Place;
 

@@ -1,4 +1,4 @@
-//! Timetables that are better if each lecture that left its place in an older one has a price.
+//! Timetables that are better if each lecture that left its place in an older one has a price, and those that keep wishes.
 #![tactic(auto)]
 
 mod breaks;
@@ -19,14 +19,9 @@ mod wished_searching;
 mod writing;
 
 pub use breaks::count_all_breaks;
-pub use drawing::Guide;
-pub use homes::Homes;
 pub use kept::keeps_all_kept;
-pub use prices::{Prices, Shift};
 pub use stay::{Search, Stay};
-pub use staying::{Near, improve_near, search_in_runs};
-pub use crate::{Search, Stay};
-pub use weight::{Weight, weigh};
+pub use staying::improve_near;
 pub use wish_weight::{Basis, WishedWeight};
 pub use wished_searching::{Wished, improve_wished};
 pub use writing::write_weight;

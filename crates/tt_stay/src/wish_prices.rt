@@ -1,12 +1,12 @@
 //! What it costs to break wishes.
 
 use crate::holds::Holds;
+use crate::homes::Homes;
 use crate::places::PlacePrices;
+use crate::prices::{Prices, Shift};
 use std::alloc::{AllocError, Global};
 use tt_instance::Instance;
 use tt_plans_tables::Dice;
-use crate::homes::Homes;
-use crate::prices::{Prices, Shift};
 use tt_table::{Entry, Timetable};
 use tt_wishes::{Wish, keeps};
 

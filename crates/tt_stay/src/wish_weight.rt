@@ -5,10 +5,10 @@ ghost use Rattle.tt_table.specs.Table.{IsTimetable};
 ghost use Rattle.tt_stay.specs.Wished.{IsLower, IsWishedWeight};
 
 use crate::breaks::count_all_breaks;
-use std::alloc::{AllocError, Global};
-use tt_instance::Instance;
 use crate::stay::Stay;
 use crate::weight::{Weight, weigh};
+use std::alloc::{AllocError, Global};
+use tt_instance::Instance;
 use tt_table::Timetable;
 use tt_wishes::{Wish, broken_wishes};
 

@@ -5,15 +5,15 @@ ghost use Rattle.tt_table.specs.Table.{IsTimetable};
 ghost use Rattle.tt_stay.specs.Rearranged.{IsRearranged};
 ghost use Rattle.tt_stay.specs.Wished.{IsWished};
 
+use crate::drawing::Guide;
+use crate::homes::Homes;
 use crate::kept::keeps_all_kept;
+use crate::stay::Search;
+use crate::staying::search_in_runs;
 use crate::wish_prices::WishPrices;
 use crate::wish_weight::{Basis, WishedWeight, weigh_wished};
 use std::alloc::{AllocError, Global};
 use tt_instance::Instance;
-use crate::drawing::Guide;
-use crate::homes::Homes;
-use crate::stay::Search;
-use crate::staying::search_in_runs;
 use tt_table::Timetable;
 use tt_watch::Watch;
 

@@ -17,10 +17,10 @@ use Rattle.tt_prices_file.specs.Faults.{Pass, AfterParts, ExplainsPrices, IsClai
 use Rattle.tt_prices_file.specs.Files.{priced, groups_in, groups_of, curricula_in, courses_in, rents_in, rented, rent_of, room_scale}
 use Rattle.tt_prices_file.specs.declared.fault.PricesFault.{PricesFault}
 use Rattle.tt_prices_file.specs.declared.fault.PricesFault.TheVariants as fault
-use Rattle.tt_prices_read.specs.Reading.{Group, RoomRents, Part, GroupPart, RentPart, header_at, item_at}
-use Rattle.tt_prices_read.specs.Reads.{ReadsParts}
-use Rattle.tt_prices_read.specs.declared.fault.PricesTextFault.{PricesTextFault}
-use Rattle.tt_prices_read.specs.declared.header.Header.{Header}
+use Rattle.tt_prices_text.specs.Reading.{Group, RoomRents, Part, GroupPart, RentPart, header_at, item_at}
+use Rattle.tt_prices_text.specs.Reads.{ReadsParts}
+use Rattle.tt_prices_text.specs.declared.fault.PricesTextFault.{PricesTextFault}
+use Rattle.tt_prices_text.specs.declared.header.Header.{Header}
 use Rattle.tt_proof_check.specs.Streams.{sizes_of}
 use Rattle.tt_proof_read.specs.declared.sizes.Sizes.{Sizes}
 

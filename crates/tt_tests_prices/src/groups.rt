@@ -7,7 +7,7 @@ use std::test::Fail;
 use tt_instance::Instance;
 use tt_instance_read::read_instance;
 use tt_prices_check::{PricedFault, PricedWork, least_of_group};
-use tt_prices_read::{Item, PricesReader, PricesTextFault};
+use tt_prices_text::{Item, PricesReader, PricesTextFault};
 use tt_text::{Pieces, Stop};
 
 /// The number of random groups.

@@ -3,13 +3,13 @@
 ghost use Rattle.std.specs.Prelude.{◌≤◌, All, IfOk};
 ghost use Rattle.tt_groups.specs.Limits.{IsWithin};
 ghost use Rattle.tt_groups.specs.declared.price.TheConstants.{MAX_SCALE};
-ghost use Rattle.tt_prices_day.specs.declared.limit.TheConstants.{MAX_PRICES, MAX_RENT};
+ghost use Rattle.tt_prices_tables.specs.declared.limit.TheConstants.{MAX_PRICES, MAX_RENT};
 
 use std::alloc::{AllocError, Global};
 use std::test::Fail;
 use tt_instance::Instance;
 use tt_instance_read::read_instance;
-use tt_prices_day::{RoomPrices, TermBuffers, term_of};
+use tt_prices_tables::{RoomPrices, TermBuffers, term_of};
 
 /// Four periods, in the last of which the first course isn't available. The lectures are 2, 1 and 5, the students 30, 10 and 10; the rooms
 /// have 20 and 40 seats.

@@ -7,7 +7,9 @@ use tt_instance_read::read_instance;
 use tt_path::{Fact, Pattern, Who};
 use tt_table::read_solution;
 use tt_testing_samples::{GAP, MINI, TOUR, repeated};
-use tt_wishes::{Clash, MAX_WISHES, WishesFault, broken_wishes, find_clash, list_root, read_wishes};
+use tt_wishes::{
+    Clash, MAX_WISHES, WishesFault, broken_wishes, find_clash, list_root, read_wishes,
+};
 
 /// The lectures of Tour: two in its first room and one in its second.
 const SOLUTION: &str = "x A 0 0\nx B 1 0\nx A 2 0\n";

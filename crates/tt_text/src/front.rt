@@ -7,9 +7,9 @@ ghost use Rattle.tt_text.specs.Texts.{is_text};
 ghost use Rattle.tt_text.specs.Fronts.{first_word, after_word, kind_of_front, kind_of, is_failed_read, IsUndecided};
 ghost use Rattle.tt_text.specs.Inner.Settled.{is_word_settled, is_settled};
 
+use crate::feed::MAX_TOKEN_BYTES;
 use crate::kind::FileKind;
 use crate::peek::{PEEKED_BYTES, PeekFault};
-use crate::feed::MAX_TOKEN_BYTES;
 use crate::source::Source;
 use crate::token::Tokens;
 

@@ -4,8 +4,8 @@ ghost use Rattle.std.specs.Prelude.{◌≡◌, ◌<◌, ℕ, List, Bool, false, 
 ghost use Rattle.std.specs.declared.option.Option.{Option};
 ghost use Rattle.tt_text.specs.Memories.{Rest};
 
-use std::marker::Model;
 use crate::source::{ReadFailed, Source};
+use std::marker::Model;
 
 /// A text in memory that is given in pieces of one size. No read of it fails, whoever reads it: `has_failed` is never true.
 #[derive(Drop)]

@@ -6,8 +6,8 @@ ghost use Rattle.tt_text.specs.Failures.{is_err_and};
 ghost use Rattle.tt_text.specs.Fronts.{kind_of, is_failed_read, BreaksOff};
 
 use crate::kind::FileKind;
-use thiserror::Error;
 use crate::source::Source;
+use thiserror::Error;
 
 /// The tokens that give the kind of a file are searched for in this many bytes.
 pub const PEEKED_BYTES: usize = 4_096;

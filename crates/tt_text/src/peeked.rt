@@ -6,8 +6,8 @@ ghost use Rattle.std.specs.Io.KnownBytes.{prepend_known};
 use crate::front::{kind_of_front, read_front, remove_front};
 use crate::kind::FileKind;
 use crate::peek::{PEEKED_BYTES, Peek, PeekFault};
-use std::alloc::Global;
 use crate::source::{ReadFailed, Source};
+use std::alloc::Global;
 
 /// Gives the bytes that were read ahead, and then those of the source.
 #[derive(Drop)]

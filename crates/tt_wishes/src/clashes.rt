@@ -7,9 +7,9 @@ ghost use Rattle.tt_instance.specs.Courses.{lectures};
 ghost use Rattle.tt_wishes.specs.Clashes.{both_give, covers, place_covers, is_other_room, holds_clash, has_no_room, clashes};
 ghost use Rattle.tt_wishes.specs.declared.wish.Wish.TheVariants.{Hold, Rooms};
 
-use tt_instance::Instance;
-use crate::wish::{Place, Wish};
 use crate::rooms::RoomList;
+use crate::wish::{Place, Wish};
+use tt_instance::Instance;
 
 /// Returns whether both numbers are given and are the same.
 pub fn both_give(first: Option<u32>, second: Option<u32>) -> bool

@@ -12,8 +12,8 @@ use crate::clash::Clash;
 use crate::pairs::find_pair;
 use crate::periods::find_excess;
 use crate::unavailable::find_barred;
-use tt_instance::Instance;
 use crate::wish::Wish;
+use tt_instance::Instance;
 
 /// Returns why no feasible timetable keeps all wishes, if there is such a reason: one wish that none keeps, or else two of which none keeps both,
 /// or else one too many of a course.

@@ -1,4 +1,5 @@
-//! Wishes about a timetable: what they mean, the facts that they are, and the files that spell them.
+//! Wishes about a timetable: what they mean, the facts that they are, the files that spell them, the instance that they narrow, and why no
+//! timetable keeps all of them.
 #![tactic(auto)]
 
 mod clash;

@@ -9,9 +9,9 @@ ghost use Rattle.tt_wishes.specs.Inner.Parts.{AreClosed, IsRuling};
 use crate::ruling::{
     Ruling, are_all_marked, closed_rooms, is_held_elsewhere, is_held_off, ruling_of,
 };
+use crate::wish::Wish;
 use std::alloc::{AllocError, Global};
 use tt_instance::{Instance, Marks, Slot, UnavailabilityRow};
-use crate::wish::Wish;
 
 /// Returns whether a period is unavailable for a course by the wishes alone.
 fn is_new(

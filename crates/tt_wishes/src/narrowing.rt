@@ -4,9 +4,9 @@ ghost use Rattle.std.specs.Prelude.{◌≡◌, IfOk};
 ghost use Rattle.tt_wishes.specs.Narrowed.{narrowed};
 
 use crate::listing::list_left_out;
+use crate::wish::Wish;
 use std::alloc::{AllocError, Global};
 use tt_instance::{Instance, MAX_UNAVAILABILITIES};
-use crate::wish::Wish;
 
 /// Narrows an instance by wishes: a period that they leave to no lecture of a course is unavailable for the course. The instance is consumed
 /// even if memory runs out.

@@ -5,8 +5,8 @@ ghost use Rattle.std.specs.List.{list_any};
 ghost use Rattle.tt_wishes.specs.Clashes.{clashes, clashes_with_any, AreClashing};
 
 use crate::clashes::clashes;
-use tt_instance::Instance;
 use crate::wish::Wish;
+use tt_instance::Instance;
 
 /// Returns the first of the wishes with which a wish clashes, by its number from 0 on.
 fn partner_of(instance: &Instance<'_>, wish: &Wish, wishes: &[Wish]) -> Option<usize>

@@ -7,8 +7,8 @@ ghost use Rattle.tt_wishes.specs.Inner.Adding.{is_new_at, is_new, adds_period};
 ghost use Rattle.tt_wishes.specs.Periods.{is_given, wants, wanted_periods, IsOneTooMany};
 
 use crate::clashes::both_give;
-use tt_instance::{Instance, Slot};
 use crate::wish::{Place, Wish};
+use tt_instance::{Instance, Slot};
 
 /// Returns whether a place has this day and this period.
 fn is_given(place: Place, slot: Slot) -> bool

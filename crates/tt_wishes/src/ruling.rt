@@ -6,10 +6,10 @@ ghost use Rattle.tt_list_laws.specs.Words.{range_below};
 ghost use Rattle.tt_wishes.specs.Narrowed.{is_exactly, stays_at, is_held_at, are_all_held};
 ghost use Rattle.tt_wishes.specs.Inner.Parts.{holds_off, excludes, closes, AreExcluded, AreAllExcluded, AreClosed, AreHeld, IsRuling};
 
+use crate::wish::Wish;
 use std::alloc::{AllocError, Global};
 use tt_instance::{Cell as Entry, Instance, Marks, Slot};
 use tt_leaf_rules::{slot_at, slot_count};
-use crate::wish::Wish;
 
 /// What wishes rule out of a course in each period.
 #[derive(Drop)]

@@ -3,8 +3,8 @@
 ghost use Rattle.std.specs.Prelude.{◌≡◌, position};
 ghost use Rattle.tt_wishes.specs.Periods.{is_barred, wants_barred};
 
-use tt_instance::Instance;
 use crate::wish::Wish;
+use tt_instance::Instance;
 
 /// Returns whether a day and a period are given, and are unavailable for a course.
 fn is_barred(instance: &Instance<'_>, course: u32, day: Option<u32>, period: Option<u32>) -> bool

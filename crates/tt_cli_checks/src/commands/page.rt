@@ -5,7 +5,9 @@ use std::alloc::Global;
 use std::cell::{Cell, RefCell};
 use std::io::{Error, ErrorKind, Write};
 use tt_call_answers::{AppFault, PageNames};
-use tt_call_checks::{ChangedForm, ChangedPageFault, ChangedTexts, ChangesFault, KeptFault, KeptFiles, changed_page};
+use tt_call_checks::{
+    ChangedForm, ChangedPageFault, ChangedTexts, ChangesFault, KeptFault, KeptFiles, changed_page,
+};
 use tt_call_texts::{PageForm, PageTexts as KeptTexts, ProvedTexts, kept_page, page, proved_page};
 use tt_cli_arguments::{GivenWeeks, PageRequest};
 use tt_cli_files::{Batch, Draft, Label, OutputFault, Place, Ready, Role, StandardStream, finish};

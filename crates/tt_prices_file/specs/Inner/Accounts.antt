@@ -7,8 +7,8 @@ use Rattle.tt_groups.specs.Limits.{IsWithin}
 use Rattle.tt_groups.specs.Prices.{PricedGroup}
 use Rattle.tt_groups.specs.Signed.{signed_sum}
 use Rattle.tt_prices_check.specs.Groups.{IsLeast}
-use Rattle.tt_prices_read.specs.Reading.{Part}
-use Rattle.tt_prices_read.specs.declared.header.Header.{Header}
+use Rattle.tt_prices_text.specs.Reading.{Part}
+use Rattle.tt_prices_text.specs.declared.header.Header.{Header}
 use Rattle.tt_prices_file.specs.Faults.{Pass, IsFirstWithTooFewPlaces, IsTooCheap}
 use Rattle.tt_prices_file.specs.Files.{groups_of, curricula_in, courses_in, rents_in, room_scale}
 use Rattle.tt_prices_file.specs.Inner.Groups.{IsGroupFault}

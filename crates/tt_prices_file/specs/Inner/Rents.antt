@@ -2,8 +2,8 @@
 use Rattle.std.specs.Prelude.{◌≡◌, ℕ, ◌+◌, ◌*◌, ◌<◌, ◌≤◌, List, map, length, slice_index, All}
 use Rattle.tt_instance.specs.Problem.{Problem}
 use Rattle.tt_instance.specs.Cells.{slot}
-use Rattle.tt_prices_read.specs.Reading.{RoomRents}
-use Rattle.tt_prices_read.specs.declared.format.TheConstants.{MAX_AMOUNT}
+use Rattle.tt_prices_text.specs.Reading.{RoomRents}
+use Rattle.tt_prices_text.specs.declared.format.TheConstants.{MAX_AMOUNT}
 use Rattle.tt_prices_file.specs.Files.{rent_at}
 use Rattle.tt_prices_file.specs.declared.rents.RentTable.{RentTable}
 

@@ -4,8 +4,8 @@ use Rattle.tt_list_laws.specs.Words.{range_below}
 use Rattle.tt_instance.specs.Problem.{Problem}
 use Rattle.tt_groups.specs.Prices.{PricedGroup}
 use Rattle.tt_groups.specs.Signed.{signed_sum}
-use Rattle.tt_prices_read.specs.Reading.{RoomRents}
-use Rattle.tt_prices_day.specs.Terms.{IsTerm}
+use Rattle.tt_prices_text.specs.Reading.{RoomRents}
+use Rattle.tt_prices_tables.specs.Terms.{IsTerm}
 use Rattle.tt_prices_file.specs.Faults.{IsFirstWithTooFewPlaces}
 use Rattle.tt_prices_file.specs.Files.{rent_at}
 use Rattle.tt_prices_file.specs.declared.fault.PricesFault.{PricesFault}

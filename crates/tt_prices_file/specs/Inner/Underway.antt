@@ -6,13 +6,13 @@ use Rattle.tt_text.specs.declared.feed.TheConstants.{MAX_BYTES}
 use Rattle.tt_instance.specs.Problem.{Problem}
 use Rattle.tt_proof_check.specs.Streams.{sizes_of}
 use Rattle.tt_proof_read.specs.Answers.{StaysKnown}
-use Rattle.tt_prices_read.specs.Readers.{IsHeader, Reader}
-use Rattle.tt_prices_read.specs.Reading.{Part, header_at}
-use Rattle.tt_prices_read.specs.Reads.{ReadsParts}
-use Rattle.tt_prices_read.specs.Spelling.{IsPart}
-use Rattle.tt_prices_read.specs.declared.header.Header.{Header}
-use Rattle.tt_prices_read.specs.declared.item.Item.{Item}
-use Rattle.tt_prices_read.specs.declared.item.Item.TheVariants as item
+use Rattle.tt_prices_text.specs.Readers.{IsHeader, Reader}
+use Rattle.tt_prices_text.specs.Reading.{Part, header_at}
+use Rattle.tt_prices_text.specs.Reads.{ReadsParts}
+use Rattle.tt_prices_text.specs.Spelling.{IsPart}
+use Rattle.tt_prices_text.specs.declared.header.Header.{Header}
+use Rattle.tt_prices_text.specs.declared.item.Item.{Item}
+use Rattle.tt_prices_text.specs.declared.item.Item.TheVariants as item
 use Rattle.tt_groups.specs.Rows.{group_of}
 use Rattle.tt_prices_file.specs.Inner.Accounts.{IsAccountOf, ExplainsGroup, ExplainsRent}
 use Rattle.tt_prices_file.specs.declared.account.Account.{Account}

@@ -1,7 +1,7 @@
 use Rattle.std.proofs.Common.{◌*◌, ◌≤◌, ◌^◌, sym, subst, arith}
 use Rattle.std.proofs.Math.Nat.{mul-le-mul_left, mul-le-mul_right}
 use Rattle.tt_groups.specs.Limits.{IsWithin}
-use Rattle.tt_prices_day.proofs.Within.{within-pos, word-of}
+use Rattle.tt_prices_tables.proofs.Within.{within-pos, word-of}
 use Rattle.tt_prices_check.proofs.group.base_paid.Goals as goal
 
 pub returns-clause-small : goal.returns-clause-small

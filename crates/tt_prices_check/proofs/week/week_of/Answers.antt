@@ -10,7 +10,7 @@ use Rattle.tt_groups.specs.Prices.{PricedGroup}
 use Rattle.tt_groups.specs.Rows.{group_of}
 use Rattle.tt_groups.specs.declared.day.PricedDay.{PricedDay}
 use Rattle.tt_prices_check.specs.Inner.Days.{HasDays}
-use Rattle.tt_prices_day.proofs.Growing.{all_pushed}
+use Rattle.tt_prices_tables.proofs.Growing.{all_pushed}
 use Rattle.tt_prices_check.specs.Moves.{AreReady, AreMovesOf}
 use Rattle.tt_prices_check.specs.declared.moves.PricedMove.{PricedMove}
 use Rattle.tt_prices_check.proofs.week.week_of.Goals as goal

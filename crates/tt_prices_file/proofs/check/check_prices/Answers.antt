@@ -3,13 +3,13 @@ use Rattle.std.specs.Prelude.{IfOk, IfSome}
 use Rattle.std.proofs.lemmas.Result.{err_from_is_err_and}
 use Rattle.tt_text.specs.Feeds.{stream_at, room_of}
 use Rattle.tt_text.proofs.Stops.{OnFault-weaker, unread, passed_reads}
-use Rattle.tt_prices_read.specs.Faults.{is_failed_read}
-use Rattle.tt_prices_read.specs.Parts.{IsItem, part_of}
-use Rattle.tt_prices_read.specs.Readers.{Reader, IsReaderAfter, IsReadingOf, ItemAgreesWhenCut}
-use Rattle.tt_prices_read.specs.declared.fault.PricesTextFault.{PricesTextFault}
+use Rattle.tt_prices_text.specs.Faults.{is_failed_read}
+use Rattle.tt_prices_text.specs.Parts.{IsItem, part_of}
+use Rattle.tt_prices_text.specs.Readers.{Reader, IsReaderAfter, IsReadingOf, ItemAgreesWhenCut}
+use Rattle.tt_prices_text.specs.declared.fault.PricesTextFault.{PricesTextFault}
 use Rattle.tt_proof_check.specs.Streams.{sizes_of}
-use Rattle.tt_prices_read.specs.declared.header.Header.{Header}
-use Rattle.tt_prices_read.specs.declared.item.Item.{Item}
+use Rattle.tt_prices_text.specs.declared.header.Header.{Header}
+use Rattle.tt_prices_text.specs.declared.item.Item.{Item}
 use Rattle.tt_prices_file.specs.Inner.Accounts.{IsAccountOf}
 use Rattle.tt_prices_file.proofs.Underway.{underway_start, underway_more, reading_item, item_is, item_part, part_is, counted_below, account_at, account_is, account_ends, finish_right, finish_fault, finish_lower, item_fault, reported_fault, reported_read, reported_reads, result_reads, header_fault, header_cut, text_fault, item_cut}
 use Rattle.tt_prices_file.proofs.check.check_prices.Goals as goal

@@ -1,6 +1,6 @@
 use Rattle.std.proofs.Common.{◌++◌, ◌∷◌, [], sym, subst, arith}
-use Rattle.tt_prices_read.specs.Parts.{part_of}
-use Rattle.tt_prices_read.specs.declared.item.Item.{Item}
+use Rattle.tt_prices_text.specs.Parts.{part_of}
+use Rattle.tt_prices_text.specs.declared.item.Item.{Item}
 use Rattle.tt_prices_file.specs.Inner.Accounts.{IsAccountOf}
 use Rattle.tt_prices_file.proofs.Underway.{on_ok}
 use Rattle.tt_prices_file.proofs.check.take_item.Goals as goal

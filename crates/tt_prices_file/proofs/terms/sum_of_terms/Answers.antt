@@ -2,7 +2,7 @@ use Rattle.std.proofs.Common.{◌≡◌, ◌+◌, ◌*◌, ◌^◌, ◌<◌, len
 use Rattle.std.specs.Int.{w128}
 use Rattle.std.proofs.lemmas.Int.{ints}
 use Rattle.tt_groups.specs.Limits.{IsWithin}
-use Rattle.tt_prices_day.proofs.Within.{word-of, within-more, within-plus}
+use Rattle.tt_prices_tables.proofs.Within.{word-of, within-more, within-plus}
 use Rattle.tt_prices_file.specs.Files.{rent_at}
 use Rattle.tt_prices_file.specs.Inner.Terms.{AreTermsBelow}
 use Rattle.tt_prices_file.proofs.Accounted.{sum_is_wide, sum_fits_wide}

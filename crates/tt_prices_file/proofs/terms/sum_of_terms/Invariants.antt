@@ -1,7 +1,7 @@
 use Rattle.std.proofs.Common.{◌*◌, ◌^◌, List}
 use Rattle.tt_groups.specs.Limits.{IsWithin}
 use Rattle.tt_groups.specs.Prices.{PricedGroup}
-use Rattle.tt_prices_read.specs.Reading.{RoomRents}
+use Rattle.tt_prices_text.specs.Reading.{RoomRents}
 use Rattle.tt_prices_file.specs.Inner.Rents.{IsRentTable}
 use Rattle.tt_prices_file.specs.Inner.Tables.{IsPriceTable}
 use Rattle.tt_prices_file.specs.Inner.Terms.{AreTermsBelow}

@@ -3,7 +3,7 @@ use Rattle.std.specs.Prelude.{All, negsuc}
 use Rattle.std.proofs.lemmas.Int.{ints, to_z-of_z}
 use Rattle.std.proofs.lemmas.List.Elements.{All-push}
 use Rattle.tt_groups.specs.Limits.{IsWithin}
-use Rattle.tt_prices_day.specs.declared.limit.TheConstants.{MAX_PRICES}
+use Rattle.tt_prices_tables.specs.declared.limit.TheConstants.{MAX_PRICES}
 use Rattle.tt_tests_prices.proofs.terms.prices_of.Goals as goal
 
 -- a number of 32 bits is small, and fits 64

@@ -2,7 +2,7 @@ use Rattle.std.proofs.Common.{◌≡◌, ◌*◌, ◌^◌, length, refl, sym, ap
 use Rattle.tt_groups.specs.Limits.{IsWithin}
 use Rattle.tt_groups.specs.Rows.{group_of}
 use Rattle.tt_prices_check.specs.Groups.{IsLeast}
-use Rattle.tt_prices_day.proofs.Within.{word-of}
+use Rattle.tt_prices_tables.proofs.Within.{word-of}
 use Rattle.tt_prices_file.specs.Files.{groups_of}
 use Rattle.tt_prices_file.proofs.Accounted.{rows_are, group_added, sum_is_128, sum_fits_128}
 use Rattle.tt_prices_file.proofs.account.Account.add_group.Goals as goal

@@ -1,5 +1,5 @@
 use Rattle.std.proofs.Common.{refl, sym, ◌∙◌}
-use Rattle.tt_prices_read.specs.Parts as parts
+use Rattle.tt_prices_text.specs.Parts as parts
 use Rattle.tt_prices_file.specs.Files.{rents_in}
 use Rattle.tt_prices_file.proofs.Accounted.{rent_added}
 use Rattle.tt_prices_file.proofs.account.Account.add_rent.Goals as goal

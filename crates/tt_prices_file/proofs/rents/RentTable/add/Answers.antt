@@ -4,7 +4,7 @@ use Rattle.std.proofs.lemmas.List.{with_items_is}
 use Rattle.std.proofs.lemmas.List.Edits.{length-paste}
 use Rattle.std.proofs.lemmas.Slice.{put_mid-paste}
 use Rattle.tt_list_laws.specs.Words.{has_number}
-use Rattle.tt_prices_read.specs.Parts.{rents_of}
+use Rattle.tt_prices_text.specs.Parts.{rents_of}
 use Rattle.tt_prices_file.proofs.Rented.{rents_fit, rented_more}
 use Rattle.tt_prices_file.proofs.rents.RentTable.add.Goals as goal
 

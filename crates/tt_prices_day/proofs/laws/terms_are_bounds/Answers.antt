@@ -1,5 +1,0 @@
-use Rattle.tt_prices_day.proofs.Bounds.{term_bounds}
-use Rattle.tt_prices_day.proofs.laws.terms_are_bounds.Goals as goal
-
-pub returns : goal.returns
-returns c = λ p scale groups rent k b lowest low term. term_bounds p scale groups rent k b lowest low term
