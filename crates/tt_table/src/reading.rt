@@ -10,7 +10,7 @@ ghost use Rattle.tt_table.specs.Table.{IsTimetable};
 use crate::fault::SolutionFault;
 use crate::table::{MAX_ENTRIES, Timetable};
 use std::alloc::Global;
-use tt_instance::{Cell, Entry, Instance, Named, as};
+use tt_instance::{Cell as Entry, Instance, Named};
 use tt_text::{NumberFault, Token, Tokens, number};
 
 /// Reads the next token of a text of `end` bytes.
