@@ -7,7 +7,7 @@ use Rattle.tt_wishes.specs.Facts.{root_of}
 use Rattle.tt_wishes.specs.declared.wish.Wish.{Wish}
 use Rattle.tt_wishes.proofs.Roots.{root_fits}
 use Rattle.tt_wishes.specs.Narrowed.{narrowed}
-use Rattle.tt_wishes.proofs.Keeping.{stays_feasible}
+use Rattle.tt_wishes.proofs.KeptWishes.{stays_feasible}
 use Rattle.tt_call_checks.specs.Kept.{HoldsOfKept}
 
 pub holds_of_kept : (p : Problem) (ws : List Wish) (b : Bound) → HoldsOn (narrowed p ws) b (root_of (narrowed p ws) ws) → HoldsOfKept p ws b

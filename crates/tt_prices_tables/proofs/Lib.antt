@@ -7,8 +7,8 @@ pub mod Kept
 pub mod Layered
 pub mod Listed
 pub mod Listing
-pub mod Places
 pub mod Priced
+pub mod RoomPlaces
 pub mod Rooms
 pub mod RoomsWithin
 pub mod Rows

@@ -4,7 +4,7 @@ pub mod Examples
 pub mod ExportExamples
 mod Fields
 mod Lines
-pub mod Names
+pub mod NameTexts
 pub mod Putting
 pub mod Shown
 pub mod Written

@@ -2,10 +2,10 @@ pub mod Apart
 pub mod Counted
 mod Elsewhere
 pub mod Examples
-pub mod Keeping
 pub mod KeptLaws
+pub mod KeptWishes
 pub mod LineLaws
-pub mod Listing
+pub mod ListedReasons
 pub mod Loops
 mod Numbers
 pub mod Offsets

@@ -49,7 +49,7 @@ fn no_entry(pattern: Pattern) -> Fact
 }
 
 /// Adds that no entry of a course is in a room, unless the room is listed.
-#[tactic(auto, using(crate::proofs::Listing::listed_adds))]
+#[tactic(auto, using(crate::proofs::ListedReasons::listed_adds))]
 fn add_room(
     facts: &mut Vec<Fact>,
     course: u32,

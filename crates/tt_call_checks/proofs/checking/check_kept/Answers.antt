@@ -8,7 +8,7 @@ use Rattle.tt_path.specs.declared.facts.Fact.{Fact}
 use Rattle.tt_wishes.specs.Facts.{root_of}
 use Rattle.tt_wishes.specs.Wishes.{broken_wishes}
 use Rattle.tt_wishes.specs.Narrowed.{narrowed}
-use Rattle.tt_wishes.proofs.Keeping.{stays_feasible}
+use Rattle.tt_wishes.proofs.KeptWishes.{stays_feasible}
 use Rattle.tt_proof_check.proofs.Certifying.{points, no_points}
 use Rattle.tt_proof_sum.specs.Added.{Give}
 use Rattle.tt_wishes.proofs.Roots.{root_fits}

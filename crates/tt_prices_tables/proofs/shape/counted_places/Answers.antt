@@ -3,7 +3,7 @@ use Rattle.std.specs.Prelude.{filter, Vec}
 use Rattle.std.specs.Global.{Global}
 use Rattle.tt_list_laws.specs.Words.{has_number}
 use Rattle.tt_prices_tables.specs.Shapes.{ArePlaces}
-use Rattle.tt_prices_tables.proofs.Places.{places-push, places-skip}
+use Rattle.tt_prices_tables.proofs.RoomPlaces.{places-push, places-skip}
 use Rattle.tt_prices_tables.proofs.shape.counted_places.Goals as goal
 use Rattle.tt_prices_tables.proofs.shape.counted_places.Goals.{then-not-is_uncounted+in_ok-push, else-not-is_uncounted}
 

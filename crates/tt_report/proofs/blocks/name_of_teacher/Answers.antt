@@ -1,6 +1,6 @@
 use Rattle.std.proofs.Common.{get_or, sym, ◌∙◌}
 use Rattle.tt_instance.specs.Courses.{no_course, teachers}
-use Rattle.tt_report.proofs.Names.{named}
+use Rattle.tt_report.proofs.NameTexts.{named}
 use Rattle.tt_report.proofs.blocks.name_of_teacher.Goals as goal
 
 pub returns : goal.returns

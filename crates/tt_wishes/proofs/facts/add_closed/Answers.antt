@@ -2,7 +2,7 @@ use Rattle.std.proofs.Common.{◌∙◌, ◌∷◌, [], ◌++◌, sym, ap, appen
 use Rattle.tt_path.specs.declared.facts.Fact.{Fact}
 use Rattle.tt_path.specs.declared.facts.Pattern.{Pattern}
 use Rattle.tt_wishes.specs.Facts.{no_entry}
-use Rattle.tt_wishes.proofs.Listing.{closed_courses_more}
+use Rattle.tt_wishes.proofs.ListedReasons.{closed_courses_more}
 use Rattle.tt_wishes.proofs.facts.add_closed.Goals as goal
 
 pub loop-course-init : goal.loop-course-init

@@ -1,5 +1,5 @@
 use Rattle.std.proofs.Common.{◌≡◌, ◌++◌}
-use Rattle.tt_wishes.proofs.Listing.{closed_courses}
+use Rattle.tt_wishes.proofs.ListedReasons.{closed_courses}
 use Rattle.tt_wishes.proofs.facts.add_closed.Given as goal
 
 abbrev pub invariant-loop-course : goal.invariant-loop-course

@@ -1,5 +1,5 @@
 use Rattle.std.proofs.Common.{sym, append-nil}
-use Rattle.tt_wishes.proofs.Listing.{other_rooms_more}
+use Rattle.tt_wishes.proofs.ListedReasons.{other_rooms_more}
 use Rattle.tt_wishes.proofs.facts.add_only_in.Goals as goal
 
 pub loop-room-init : goal.loop-room-init

@@ -1,5 +1,5 @@
 use Rattle.std.proofs.Common.{◌≡◌, ◌++◌}
-use Rattle.tt_wishes.proofs.Listing.{other_rooms}
+use Rattle.tt_wishes.proofs.ListedReasons.{other_rooms}
 use Rattle.tt_wishes.proofs.facts.add_only_in.Given as goal
 
 abbrev pub invariant-loop-room : goal.invariant-loop-room

@@ -1,5 +1,5 @@
 use Rattle.std.proofs.Common.{refl}
-use Rattle.tt_wishes.proofs.Keeping.{stays_feasible, was_feasible}
+use Rattle.tt_wishes.proofs.KeptWishes.{stays_feasible, was_feasible}
 use Rattle.tt_wishes.proofs.narrowing_laws.narrowing_keeps.Goals as goal
 
 pub returns-clause-kept : goal.returns-clause-kept
