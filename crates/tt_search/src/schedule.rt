@@ -10,9 +10,6 @@ const CYCLE: u64 = 160;
 
 const LEAST_CYCLE: u64 = 3_000_000;
 
-/// The number of times that a cycle of a heavy week is longer: one that cools slowly finds more there than several ones.
-const SLOWER: u64 = 3;
-
 /// The part of a cycle, at its end, that is warm: it goes on from the most promising plan so far. In hundredths. A single cycle has none.
 const WARM: u64 = 15;
 
@@ -63,13 +60,9 @@ pub struct Schedule {
 }
 
 /// Returns the number of steps of each cycle. All are about as long.
-fn cycle_of(steps: u64, lectures: u64, is_heavy: bool) -> u64 {
+fn cycle_of(steps: u64, lectures: u64) -> u64 {
     let pairs = lectures.saturating_mul(lectures.min(PARTNERS));
-    let slower = if is_heavy { SLOWER } else { 1 };
-    let wanted = pairs
-        .saturating_mul(CYCLE)
-        .max(LEAST_CYCLE)
-        .saturating_mul(slower);
+    let wanted = pairs.saturating_mul(CYCLE).max(LEAST_CYCLE);
     let cycles = steps.saturating_add(wanted / 2).checked_div(wanted);
     let cycle = steps.checked_div(cycles.unwrap_or(1).max(1));
     cycle.unwrap_or(steps).max(1)
@@ -77,12 +70,12 @@ fn cycle_of(steps: u64, lectures: u64, is_heavy: bool) -> u64 {
 
 impl Schedule {
     /// Returns the schedule of this many steps for an instance of these sizes.
-    pub fn new(steps: u64, sizes: Sizes, is_heavy: bool) -> Schedule {
+    pub fn new(steps: u64, sizes: Sizes) -> Schedule {
         let (lectures, rooms) = (sizes.lectures as u64, sizes.rooms as u64);
         Schedule {
             steps,
             made: 0,
-            cycle: cycle_of(steps, lectures, is_heavy),
+            cycle: cycle_of(steps, lectures),
             lectures,
             seating: lectures.saturating_mul(rooms) / PLACES_WEIGHED,
             since: 0,

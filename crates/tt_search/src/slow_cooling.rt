@@ -147,7 +147,7 @@ impl<'a, 'i> Annealing<'a, 'i> {
             stepper: Stepper::new(alloc, &facts)?,
             load,
             cooling: Cooling::new(load),
-            schedule: Schedule::new(steps, facts.sizes, load.is_heavy()),
+            schedule: Schedule::new(steps, facts.sizes),
             plan,
             heat: Heat::new(load.melting()),
             incumbent: Incumbent::new(alloc, &facts, instance, start)?,
