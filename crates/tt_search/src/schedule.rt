@@ -1,12 +1,16 @@
 //! The steps of a search, and what each is spent on.
 
+use crate::scale::Load;
 use tt_plans::Sizes;
 
 /// The number of steps between two looks at what else is due.
 pub const ROUND: u64 = 300;
 
-/// The number of steps of a cycle for each pair of lectures, and the minimum number, if there are several cycles.
+/// The number of steps of a cycle for each pair of lectures, that number in a heavy week, and the minimum number of steps, if there are
+/// several cycles.
 const CYCLE: u64 = 160;
+
+const HEAVY_CYCLE: u64 = 240;
 
 const LEAST_CYCLE: u64 = 3_000_000;
 
@@ -59,23 +63,24 @@ pub struct Schedule {
     since: u64,
 }
 
-/// Returns the number of steps of each cycle. All are about as long.
-fn cycle_of(steps: u64, lectures: u64) -> u64 {
+/// Returns the number of steps of each cycle, from the number for each pair of lectures. All are about as long.
+fn cycle_of(steps: u64, lectures: u64, of_pair: u64) -> u64 {
     let pairs = lectures.saturating_mul(lectures.min(PARTNERS));
-    let wanted = pairs.saturating_mul(CYCLE).max(LEAST_CYCLE);
+    let wanted = pairs.saturating_mul(of_pair).max(LEAST_CYCLE);
     let cycles = steps.saturating_add(wanted / 2).checked_div(wanted);
     let cycle = steps.checked_div(cycles.unwrap_or(1).max(1));
     cycle.unwrap_or(steps).max(1)
 }
 
 impl Schedule {
-    /// Returns the schedule of this many steps for an instance of these sizes.
-    pub fn new(steps: u64, sizes: Sizes) -> Schedule {
+    /// Returns the schedule of this many steps for an instance of these sizes and this load.
+    pub fn new(steps: u64, sizes: Sizes, load: Load) -> Schedule {
         let (lectures, rooms) = (sizes.lectures as u64, sizes.rooms as u64);
+        let of_pair = if load.is_heavy() { HEAVY_CYCLE } else { CYCLE };
         Schedule {
             steps,
             made: 0,
-            cycle: cycle_of(steps, lectures),
+            cycle: cycle_of(steps, lectures, of_pair),
             lectures,
             seating: lectures.saturating_mul(rooms) / PLACES_WEIGHED,
             since: 0,
@@ -85,6 +90,11 @@ impl Schedule {
     /// Returns the number of steps that were made in the present cycle.
     fn made_in_cycle(self) -> u64 {
         self.made.checked_rem(self.cycle).unwrap_or(0)
+    }
+
+    /// Checks whether the last round began a further cycle. None begins when all steps are made.
+    pub fn is_at_cycle(self) -> bool {
+        !self.is_over() && self.made_in_cycle() < ROUND
     }
 
     /// Returns the number of steps of the hot part of a cycle.

@@ -147,7 +147,7 @@ impl<'a, 'i> Annealing<'a, 'i> {
             stepper: Stepper::new(alloc, &facts)?,
             load,
             cooling: Cooling::new(load),
-            schedule: Schedule::new(steps, facts.sizes),
+            schedule: Schedule::new(steps, facts.sizes, load),
             plan,
             heat: Heat::new(load.melting()),
             incumbent: Incumbent::new(alloc, &facts, instance, start)?,
@@ -194,6 +194,7 @@ impl<'a, 'i> Annealing<'a, 'i> {
             return self.settle_homes();
         }
         self.make_round();
+        self.is_melted = !(self.load.is_heavy() && self.schedule.is_at_cycle());
         let is_last = self.schedule.is_over();
         let is_homed = self.schedule.is_home_search_due() && self.challenge_by_barest();
         let is_seated = self.schedule.is_seating_due(ROUND, is_last) && self.challenge();
@@ -239,7 +240,7 @@ impl<'a, 'i> Annealing<'a, 'i> {
         is_cheaper || is_clearer
     }
 
-    /// Lets the plan forget its start.
+    /// Lets the plan forget its start, or where a cycle of a heavy week ended.
     fn melt(&mut self) {
         let heat = Heat::new(self.load.melting());
         for _ in 0..self.schedule.melting() {
