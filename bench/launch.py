@@ -47,9 +47,12 @@ FILES = {
     "crates/tt_bits/src/lib.rt": "",
     "crates/tt/src/main.rt": "",
     "crates/tt_tests_commands/src/lib.rt": "",
+    "bench/docs.py": "import os, sys\nsys.exit(int(os.environ.get('WRONG', 0)))\n",
+    "bench/statement.py": "",
+    "hostile/edits.py": "",
 }
 PACKED = ["LICENSE-MIT", "LICENSE-APACHE", "README.md", "CHANGELOG.md", "docs/RULES.md", "docs/PROOF_FORMAT.md", "docs/GROUPS_FORMAT.md", "examples/mini.ctt"]
-SCRIPTS = ["tt", "gate", "bench/jobs.sh", "bench/sources.sh", "bench/package.sh", "bench/look.sh"]
+SCRIPTS = ["tt", "gate", "bench/jobs.sh", "bench/sources.sh", "bench/texts.sh", "bench/package.sh", "bench/look.sh"]
 
 
 class Copy:
@@ -161,6 +164,11 @@ def is_built_by_the_gate(copy):
     copy.uses("first", 0)
     copy.write(SOURCE, "second\n")
     copy.uses("second", 1)
+
+
+def is_not_proved_with_wrong_documents(copy):
+    assert (copy.run("./gate", WRONG="1").returncode, copy.count()) == (1, 0)
+    assert (copy.run("./gate tt_text", WRONG="1").returncode, copy.count()) == (0, 1)
 
 
 def is_edited_during_the_gate(copy):
@@ -284,6 +292,7 @@ ROWS = [
     is_edited_during_the_build,
     has_other_files,
     is_built_by_the_gate,
+    is_not_proved_with_wrong_documents,
     is_edited_during_the_gate,
     is_replaced,
     has_no_toolchain,
